@@ -1,0 +1,21 @@
+//! Code blocks, and the streams that the turbo coder makes of one.
+ghost use Rattle.std.specs.Prelude.{◌<◌, length};
+
+use crate::bit::{Bit, Cell};
+use crate::list::List;
+
+/// A code block of K bits (36.212 5.1.2). The first `fill` of them are `Zero` and stand for
+/// fillers; `fill` is below K.
+#[derive(Debug, Drop)]
+pub struct Block {
+    pub fill: usize,
+    pub bits: List<Bit>,
+}
+
+/// The three coded streams of a code block (36.212 5.1.3.2), each of K + 4 cells.
+#[derive(Debug, Drop)]
+pub struct Streams {
+    pub d0: List<Cell>,
+    pub d1: List<Cell>,
+    pub d2: List<Cell>,
+}

@@ -1,0 +1,12 @@
+//! Bits, lists and code blocks: the plain types of the coding chain.
+#![tactic(auto)]
+
+pub mod bit;
+pub mod block;
+pub mod list;
+pub mod packing;
+
+pub use bit::{Bit, Cell};
+pub use block::{Block, Streams};
+pub use list::{List, NoMemory};
+pub use packing::{pack, unpack};
