@@ -1,0 +1,10 @@
+pub mod Bits
+pub mod CheckBits
+pub mod Interleaver
+pub mod Segmentation
+pub mod CodeBlocks
+pub mod ConstituentCoder
+pub mod CodedStreams
+pub mod CircularBuffer
+pub mod Selection
+pub mod Codeword

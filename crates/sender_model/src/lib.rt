@@ -1,0 +1,6 @@
+//! What the standard says of the sender, as definitions.
+#![tactic(auto)]
+
+pub mod rows;
+
+pub use rows::{ROWS, Row};
