@@ -1,0 +1,3 @@
+pub mod BitNumbers
+pub mod Division
+pub mod CheckBitLaws
