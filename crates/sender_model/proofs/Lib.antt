@@ -1,3 +1,5 @@
 pub mod BitNumbers
 pub mod Division
 pub mod CheckBitLaws
+pub mod Coder
+pub mod TailSteps

@@ -4,6 +4,7 @@ pub mod Interleaver
 pub mod Segmentation
 pub mod CodeBlocks
 pub mod ConstituentCoder
+pub mod Tail
 pub mod CodedStreams
 pub mod CircularBuffer
 pub mod Selection

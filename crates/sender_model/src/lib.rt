@@ -2,6 +2,7 @@
 #![tactic(auto)]
 
 pub mod check_bits;
+pub mod constituent_coder;
 pub mod rows;
 
 pub use rows::{ROWS, Row};
