@@ -1,1 +1,4 @@
+pub mod BitNumbers
+pub mod Division
+pub mod CheckBitLaws
 pub mod RowLaws

@@ -1,6 +1,7 @@
 //! What the standard says of the sender, as definitions.
 #![tactic(auto)]
 
+pub mod check_bits;
 pub mod interleaver;
 pub mod rows;
 
