@@ -3,3 +3,4 @@ pub mod Division
 pub mod CheckBitLaws
 pub mod Coder
 pub mod TailSteps
+pub mod RowLaws

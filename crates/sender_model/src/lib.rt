@@ -3,6 +3,7 @@
 
 pub mod check_bits;
 pub mod constituent_coder;
+pub mod interleaver;
 pub mod rows;
 
 pub use rows::{ROWS, Row};
