@@ -1,0 +1,4 @@
+mod Refused
+mod Columns
+mod Walked
+mod Selected
