@@ -2,6 +2,8 @@
 #![tactic(auto)]
 
 pub mod check_bits;
+pub mod constituent_coder;
+pub mod interleaver;
 pub mod rows;
 
 pub use rows::{ROWS, Row};
