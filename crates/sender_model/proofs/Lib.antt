@@ -1,2 +1,6 @@
+pub mod BitNumbers
+pub mod Division
+pub mod CheckBitLaws
 pub mod Coder
 pub mod TailSteps
+pub mod RowLaws

@@ -1,6 +1,8 @@
 pub mod Bits
 pub mod CheckBits
 pub mod Interleaver
+pub mod InterleaverLaws
+pub mod Rows
 pub mod Segmentation
 pub mod CodeBlocks
 pub mod ConstituentCoder
