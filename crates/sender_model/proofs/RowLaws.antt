@@ -78,6 +78,9 @@ row-of_size k h = All-contains IsRow ROWS (row_of k) all_rows (row_found k h).in
 pub lawful-of_size : (k : ℕ) → Contains sizes k → Lawful k (row_of k).1 (row_of k).2
 lawful-of_size k h = subst (λ (n : ℕ). Lawful n (row_of k).1 (row_of k).2) (row_found k h).size (row-of_size k h).lawful
 
+pub range-of_size : (k : ℕ) → Contains sizes k → (40 ≤ k) × (k ≤ 6144)
+range-of_size k h = subst (λ (n : ℕ). (40 ≤ n) × (n ≤ 6144)) (row_found k h).size ((row-of_size k h).least, (row-of_size k h).greatest)
+
 pub row-of_40 : row_of 40 ≡ record { 0 = 40; 1 = 3; 2 = 10 }
 unfolding row_of
 row-of_40 = refl
