@@ -27,12 +27,12 @@ impl Model for MemSink {
     ghost Value = { Store };
 
     ghost view = { λ s. record {
-        bytes = s.bytes.items;
-        piece = s.piece;
-        failing = s.failing;
-        room = s.room;
-        calls = s.calls;
-        faults = s.faults;
+      bytes = s.bytes.items;
+      piece = s.piece;
+      failing = s.failing;
+      room = s.room;
+      calls = s.calls;
+      faults = s.faults;
     } };
 
     ghost invariant = { λ s. (1 ≤ s.piece) × (vec_len s.bytes + s.room ≤ vec_capacity s.bytes) };

@@ -22,11 +22,11 @@ impl Model for MemSource {
     ghost Value = { Feed };
 
     ghost view = { λ s. record {
-        left = s.rest;
-        piece = s.piece;
-        failing = s.failing;
-        calls = s.calls;
-        faults = s.faults;
+      left = s.rest;
+      piece = s.piece;
+      failing = s.failing;
+      calls = s.calls;
+      faults = s.faults;
     } };
 
     ghost invariant = { λ s. 1 ≤ s.piece };
@@ -66,7 +66,6 @@ impl Source for MemSource {
     fn read(&mut self, buf: &mut [u8]) -> Result<usize, SourceFault>
         ensures bytes { ReadTakes (Some self.old.left) (Some self.new.left) result buf.new }
         ensures cause { HasCause self.old.faults self.new.faults result }
-        ensures turn { self.new.calls ≤ self.old.calls + 1 }
 
         ensures fails { IsErr result ↔ Contains self.old.failing self.old.calls }
         ensures count { IfOk result (λ n. n ≡ min (min self.old.piece (length buf.old)) (length self.old.left)) }

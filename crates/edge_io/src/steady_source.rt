@@ -38,7 +38,6 @@ impl Source for SteadySource {
     fn read(&mut self, buf: &mut [u8]) -> Result<usize, SourceFault>
         ensures bytes { ReadTakes (Some self.old) (Some self.new) result buf.new }
         ensures cause { HasCause 0 0 result }
-        ensures turn { 0 ≤ 0 + 1 }
 
         ensures count { result ≡ Ok (min (length buf.old) (length self.old)) }
     {
