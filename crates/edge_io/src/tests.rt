@@ -1,5 +1,5 @@
 //! Reads and writes in small pieces, with failures in mid-stream.
-ghost use Rattle.std.specs.Prelude.{◌≡◌, IfOk};
+ghost use Rattle.std.specs.Prelude.{◌≡◌, ◌≤◌, IfOk};
 
 use crate::{
     MemSink, MemSource, ReadStop, Sink, SinkFault, Source, SourceFault, StdSink, StdSource,
@@ -9,6 +9,7 @@ use lte_bits::List;
 use std::alloc::{AllocError, Global};
 use std::io;
 use std::io::{Read, Write};
+use std::process::Abort;
 use std::test::Fail;
 
 fn list_of<T: Copy>(alloc: Global, items: &[T]) -> Result<List<T>, AllocError>
@@ -17,32 +18,46 @@ fn list_of<T: Copy>(alloc: Global, items: &[T]) -> Result<List<T>, AllocError>
     Ok(List::from_vec(Vec::from_slice(alloc, items)?))
 }
 
+/// Reads ten bytes, four at a time, of which the call of number 2 fails. A step is what a read
+/// answers, and how many bytes are left after it.
+fn assert_reads(
+    rt: &(impl Abort + AllocGlobal),
+    piece: usize,
+    steps: &[(Result<(), ReadStop>, usize)],
+) -> Result<(), Fail>
+    requires { 1 ≤ piece }
+{
+    let bytes = list_of(rt.alloc(), &[1, 2, 3, 4, 5, 6, 7, 8, 9, 10])?;
+    let mut source = MemSource::new(bytes, piece, list_of(rt.alloc(), &[2])?);
+    for (want, left) in steps {
+        assert_eq!(rt; read_exactly(&mut source, &mut [0; 4]), *want);
+        assert_eq!(rt; source.left().len(), *left);
+    }
+    Ok(())
+}
+
 #[test]
-fn reads_of_four_bytes_go_on_after_the_failed_call(rt: HostRuntime) -> Result<(), Fail> {
-    let small = [
-        (Err(ReadStop::Fault), 8),
-        (Ok(()), 4),
-        (Ok(()), 0),
-        (Err(ReadStop::Ended { got: 0 }), 0),
-    ];
-    let large = [
-        (Ok(()), 6),
-        (Ok(()), 2),
-        (Err(ReadStop::Fault), 2),
-        (Err(ReadStop::Ended { got: 2 }), 0),
-    ];
-    for (piece, steps) in [(1, small), (7, large)] {
-        assert!(rt; piece >= 1);
-        let bytes = list_of(rt.alloc(), &[1, 2, 3, 4, 5, 6, 7, 8, 9, 10])?;
-        let mut source = MemSource::new(bytes, piece, list_of(rt.alloc(), &[2])?);
-        for (want, left) in steps {
-            assert_eq!(rt;
-                read_exactly(&mut source, &mut [0; 4]),
-                want,
-                "in pieces of {piece}"
-            );
-            assert_eq!(rt; source.left().len(), left, "in pieces of {piece}");
-        }
+fn reads_go_on_after_the_failed_call(rt: HostRuntime) -> Result<(), Fail> {
+    let fault = Err(ReadStop::Fault);
+    let end = |got| Err(ReadStop::Ended { got });
+    assert_reads(&rt, 1, &[(fault, 8), (Ok(()), 4), (Ok(()), 0), (end(0), 0)])?;
+    assert_reads(&rt, 7, &[(Ok(()), 6), (Ok(()), 2), (fault, 2), (end(2), 0)])
+}
+
+/// Writes texts where there is room for nine bytes and the call of number 1 fails. A step is a
+/// text, what its write answers, and what is held after it.
+fn assert_writes(
+    rt: &(impl Abort + AllocGlobal),
+    piece: usize,
+    steps: &[(&str, Result<(), SinkFault>, &str)],
+) -> Result<(), Fail>
+    requires { 1 ≤ piece }
+{
+    let mut sink = MemSink::new(rt.alloc(), piece, list_of(rt.alloc(), &[1])?);
+    sink.reserve(9)?;
+    for (text, want, held) in steps {
+        assert_eq!(rt; write_all(&mut sink, text.as_bytes()), *want);
+        assert_eq!(rt; sink.bytes(), held.as_bytes());
     }
     Ok(())
 }
@@ -50,31 +65,28 @@ fn reads_of_four_bytes_go_on_after_the_failed_call(rt: HostRuntime) -> Result<()
 #[test]
 fn writes_go_on_after_the_failed_call_until_no_room_is_left(rt: HostRuntime) -> Result<(), Fail> {
     let fault = Err(SinkFault);
-    let texts = [b"abcde".as_slice(), b"fghij", b"kl", b"mnopq", b""];
-    let small = [
-        (fault, "a"),
-        (Ok(()), "afghij"),
-        (Ok(()), "afghijkl"),
-        (fault, "afghijklm"),
-        (Ok(()), "afghijklm"),
-    ];
-    let large = [
-        (Ok(()), "abcde"),
-        (fault, "abcde"),
-        (Ok(()), "abcdekl"),
-        (fault, "abcdeklmn"),
-        (Ok(()), "abcdeklmn"),
-    ];
-    for (piece, steps) in [(1, small), (7, large)] {
-        assert!(rt; piece >= 1);
-        let mut sink = MemSink::new(rt.alloc(), piece, list_of(rt.alloc(), &[1])?);
-        sink.reserve(9)?;
-        for (text, (want, held)) in texts.iter().zip(steps) {
-            assert_eq!(rt; write_all(&mut sink, text), want, "in pieces of {piece}");
-            assert_eq!(rt; sink.bytes(), held.as_bytes(), "in pieces of {piece}");
-        }
-    }
-    Ok(())
+    assert_writes(
+        &rt,
+        1,
+        &[
+            ("abcde", fault, "a"),
+            ("fghij", Ok(()), "afghij"),
+            ("kl", Ok(()), "afghijkl"),
+            ("mnopq", fault, "afghijklm"),
+            ("", Ok(()), "afghijklm"),
+        ],
+    )?;
+    assert_writes(
+        &rt,
+        7,
+        &[
+            ("abcde", Ok(()), "abcde"),
+            ("fghij", fault, "abcde"),
+            ("kl", Ok(()), "abcdekl"),
+            ("mnopq", fault, "abcdeklmn"),
+            ("", Ok(()), "abcdeklmn"),
+        ],
+    )
 }
 
 #[test]
