@@ -2,3 +2,5 @@ mod Refused
 mod Columns
 mod Walked
 mod Selected
+mod SmallPlan
+mod SmallBlock

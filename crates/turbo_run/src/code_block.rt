@@ -16,12 +16,13 @@ pub fn code_block(alloc: Global, payload: &[u8]) -> Result<Block, NoMemory>
     requires few { length payload.now ≤ 2 }
     ensures { IfOk result (λ b. b ≡ block (plan_of (length payload.now)) payload.now 0) }
 {
-    let payload_bits = unpack(alloc, payload)?;
-    let fill = SIZE - 24 - payload_bits.as_slice().len();
+    let unpacked = unpack(alloc, payload)?;
+    let payload_bits = unpacked.as_slice();
+    let fill = SIZE - 24 - 8 * payload.len();
     let mut bits = Vec::with_capacity(alloc, SIZE)?;
     bits.resize(fill, Bit::Zero)?;
-    bits.extend_from_slice(payload_bits.as_slice())?;
-    bits.extend_from_slice(&crc24a(payload_bits.as_slice()))?;
+    bits.extend_from_slice(payload_bits)?;
+    bits.extend_from_slice(&crc24a(payload_bits))?;
     Ok(Block {
         fill,
         bits: List::from_vec(bits),

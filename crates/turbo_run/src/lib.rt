@@ -2,6 +2,7 @@
 #![tactic(auto)]
 
 mod circular_buffer;
+mod code_block;
 mod number;
 mod payload;
 mod selection;
