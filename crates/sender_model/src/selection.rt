@@ -11,5 +11,4 @@ ghost use Rattle.sender_model.specs.Selection.{is_bit, bits_from};
 pub fn some_bit_is_kept()
     ensures { (b : Block) (n start : ℕ) → b.fill ≤ length b.bits → 32 * rows_of (length b.bits) ≤ n →
         0 < length (bits_from (w (length b.bits) (streams b)) start n) }
-{
-}
+{}
