@@ -38,9 +38,8 @@ last_cell r stream some fits =
 
 pub rows-bounds : (k : ℕ) → (0 < rows_of k) × (k + 4 ≤ 32 * rows_of k)
 rows-bounds k =
-    let divided : 32 * ((k + 4 + 31) / 32) + (k + 4 + 31) % 32 ≡ k + 4 + 31 = div-add-mod (k + 4 + 31) 32 in
-    let small : (k + 4 + 31) % 32 < 32 = mod_below (k + 4 + 31) 32 (omega arith) in
-    (omega (arith, divided, small), omega (arith, divided, small))
+    let divided : 32 * ((k + 4) / 32) + (k + 4) % 32 ≡ k + 4 = div-add-mod (k + 4) 32 in
+    (omega (arith, divided), omega (arith, divided))
 
 -- w(32R - 1) is the last cell of d0
 pub last_of_first : (k : ℕ) (s : Streams) → length s.d0 ≡ k + 4 → w k s (32 * rows_of k - 1) ≡ slice_index_or s.d0 (k + 3) Null
