@@ -4,3 +4,6 @@ mod Walked
 mod Selected
 mod SmallPlan
 mod SmallBlock
+mod SameBuffer
+mod SmallCodeword
+mod OkAs

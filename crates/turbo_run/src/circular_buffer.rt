@@ -1,7 +1,7 @@
 //! The sub-block interleaver and the circular buffer (36.212 5.1.4.1.1, 5.1.4.1.2).
 ghost use Rattle.std.specs.Prelude.{◌≡◌, ◌≤◌, ◌<◌, ◌*◌, IfOk, map, slice_index, slice_index_or};
 ghost use Rattle.std.specs.List.{range_with_len};
-ghost use Rattle.sender_model.specs.CircularBuffer.{column_order, rows_of, padded, read_place, sub_block, sub_block_2, interlaced, w, buffer_size};
+ghost use Rattle.sender_model.specs.CircularBuffer.{column_order, rows_of, padded, read_place, sub_block, sub_block_2, interlaced, w, buffer_size, start};
 
 use lte_bits::{Cell, NoMemory, Streams};
 use std::alloc::Global;
@@ -20,6 +20,17 @@ pub fn rows_of(k: usize) -> usize
     ensures few { result ≤ 193 }
 {
     (k + 4).div_ceil(32)
+}
+
+/// k0, where redundancy version `rv` starts in a buffer of `size` places.
+pub fn start(k: usize, size: usize, rv: usize) -> usize
+    requires small { k ≤ 6144 }
+    requires size { size ≤ 18528 }
+    requires version { rv ≤ 3 }
+    ensures { result ≡ start k size rv }
+{
+    let rows = rows_of(k);
+    rows * (2 * size.div_ceil(8 * rows) * rv + 2)
 }
 
 /// The cell at a place of a stream behind the NULLs that fill its rows.

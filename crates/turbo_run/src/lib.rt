@@ -3,6 +3,7 @@
 
 mod circular_buffer;
 mod code_block;
+mod codeword;
 mod number;
 mod payload;
 mod selection;

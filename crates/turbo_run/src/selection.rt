@@ -1,9 +1,10 @@
 //! Bit selection (36.212 5.1.4.1.2).
 ghost use Rattle.std.specs.Prelude.{◌≡◌, ℕ, ◌≤◌, ◌<◌, ◌+◌, ◌%◌, true, false, IfOk, MatchOption, map, length, slice_index_or};
-ghost use Rattle.sender_model.specs.CircularBuffer.{start};
+ghost use Rattle.sender_model.specs.CircularBuffer.{rows_of, w, buffer_size, start};
 ghost use Rattle.sender_model.specs.Selection.{is_bit, bit_of_cell, bits_from, repeated};
 
-use lte_bits::{Bit, Cell, List, NoMemory};
+use crate::circular_buffer::{circular_buffer, rows_of, start};
+use lte_bits::{Bit, Cell, List, NoMemory, Streams};
 use std::alloc::Global;
 
 /// The bit of a cell, if it isn't NULL.
@@ -50,4 +51,25 @@ pub fn select(
         place = after(place, buffer.len());
     }
     Ok(List::from_vec(bits))
+}
+
+/// The `count` bits that redundancy version `rv` sends of the streams of a block of `k` bits, over a
+/// full buffer.
+pub fn sent(
+    alloc: Global,
+    streams: &Streams,
+    k: usize,
+    count: usize,
+    rv: usize,
+) -> Result<List<Bit>, NoMemory>
+    requires size { k ≤ 6144 }
+    requires few { count ≤ 1000000 }
+    requires version { rv ≤ 3 }
+    requires some { 0 < length (bits_from (w k streams.now) (start k (buffer_size k) rv) (buffer_size k)) }
+    ensures { IfOk result (λ bits. bits ≡ map (λ p. bit_of_cell (w k streams.now p))
+        (repeated (bits_from (w k streams.now) (start k (buffer_size k) rv) (buffer_size k)) count)) }
+{
+    let buffer = circular_buffer(alloc, streams, k)?;
+    let start = start(k, 96 * rows_of(k), rv);
+    select(alloc, buffer.as_slice(), start, count)
 }
