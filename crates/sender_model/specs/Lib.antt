@@ -1,9 +1,12 @@
 pub mod Bits
 pub mod CheckBits
 pub mod Interleaver
+pub mod InterleaverLaws
+pub mod Rows
 pub mod Segmentation
 pub mod CodeBlocks
 pub mod ConstituentCoder
+pub mod Tail
 pub mod CodedStreams
 pub mod CircularBuffer
 pub mod Selection

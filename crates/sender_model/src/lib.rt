@@ -1,6 +1,10 @@
 //! What the standard says of the sender, as definitions.
 #![tactic(auto)]
 
+pub mod check_bits;
+pub mod constituent_coder;
+pub mod interleaver;
 pub mod rows;
+pub mod selection;
 
 pub use rows::{ROWS, Row};

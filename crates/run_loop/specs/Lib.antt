@@ -1,0 +1,4 @@
+pub mod Answer
+pub mod Step
+pub mod Ended
+pub mod Exit

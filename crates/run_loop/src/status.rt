@@ -1,0 +1,43 @@
+//! How a run ends.
+ghost use Rattle.std.specs.Prelude.{◌≡◌};
+ghost use Rattle.run_loop.specs.Exit.{exit_of};
+
+/// One of the two sinks of a run.
+#[derive(Clone, Copy, Debug, PartialEq, Eq, Hash)]
+pub enum SinkName {
+    Out,
+    Report,
+}
+
+/// How a run ended.
+#[derive(Clone, Copy, Debug, PartialEq, Eq, Hash)]
+pub enum Status {
+    /// The command was done, and its input read to its end.
+    Done,
+    /// A word was refused, before anything was read or written.
+    BadWords { number: u8, place: usize },
+    /// The input was refused at a byte, counted from 0.
+    BadStream { number: u8, place: u64 },
+    /// The source failed.
+    ReadFault,
+    /// A sink failed.
+    WriteFault { sink: SinkName },
+    /// Memory was wanting.
+    NoMemory,
+}
+
+impl Status {
+    /// The exit status of the program.
+    pub fn exit(&self) -> u8
+        ensures { result ≡ exit_of self.now }
+    {
+        match self {
+            Status::Done => 0,
+            Status::BadWords { .. } => 2,
+            Status::BadStream { .. } => 3,
+            Status::ReadFault => 4,
+            Status::WriteFault { .. } => 5,
+            Status::NoMemory => 6,
+        }
+    }
+}

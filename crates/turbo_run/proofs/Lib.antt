@@ -1,0 +1,6 @@
+mod Refused
+mod Columns
+mod Walked
+mod Selected
+mod SmallPlan
+mod SmallBlock
