@@ -4,3 +4,4 @@ pub mod CheckBitLaws
 pub mod Coder
 pub mod TailSteps
 pub mod RowLaws
+pub mod SelectionLaws

@@ -1,5 +1,5 @@
 -- The table's rows, and the row of a size.
-use Rattle.std.proofs.Common.{◌≡◌, ℕ, ◌*◌, ◌%◌, ◌^◌, ◌<◌, ◌≤◌, Bool, true, false, ◌&&◌, cond, eqb, leb, ltb, ◌==◌, All, Contains, List, [], ◌∷◌, map, length, Some, unwrap_or, find, suc, subst, refl, arith}
+use Rattle.std.proofs.Common.{◌≡◌, ℕ, ◌*◌, ◌%◌, ◌^◌, ◌<◌, ◌≤◌, Bool, true, false, ◌&&◌, cond, eqb, leb, ltb, ◌==◌, All, Contains, List, [], ◌∷◌, map, length, Some, unwrap_or, find, suc, subst, refl, arith, Option, None, ap}
 use Rattle.std.specs.List.{AllByRecursion}
 use Rattle.std.proofs.lemmas.Bool.{eqb-true, eqb-false, leb-true, ltb-true, and_parts}
 use Rattle.std.proofs.lemmas.List.Elements.{All-from_recursion, All-contains}
@@ -72,11 +72,47 @@ pub row_found : (k : ℕ) → Contains sizes k → IsFound ROWS k (row_of k)
 unfolding sizes row_of
 row_found k h = found ROWS k _ h
 
+-- what the table's look-up says of a size
+find_inside : (rows : List Row) (k : ℕ) (row : Row) → find (λ r. r.0 == k) rows ≡ Some row → Contains (map (λ r. r.0) rows) k
+find_inside [] k row e = absurd (cc)
+find_inside (r ∷ rs) k row e = by_test (find_inside rs k row) (r.0 == k) refl e
+  where
+    by_test : (find (λ r. r.0 == k) rs ≡ Some row → Contains (map (λ r. r.0) rs) k) → (b : Bool) → (r.0 == k) ≡ b
+        → cond b (Some r) (find (λ r. r.0 == k) rs) ≡ Some row → Contains (map (λ r. r.0) (r ∷ rs)) k
+    by_test later true t e = (0, omega arith, eqb-true r.0 k t)
+    by_test later false t e =
+        let place = later e in
+        (suc place.0, (let lt : place.0 < length (map (λ (r : Row). r.0) rs) = place.1 in omega (arith, lt)), place.2)
+
+find_none : (rows : List Row) (k : ℕ) → find (λ r. r.0 == k) rows ≡ None → Contains (map (λ r. r.0) rows) k → ⊥
+find_none [] k e h = let lt : h.0 < 0 = h.1 in omega (arith, lt)
+find_none (r ∷ rs) k e h = by_test (find_none rs k) (r.0 == k) refl e
+  where
+    by_test : (find (λ r. r.0 == k) rs ≡ None → Contains (map (λ r. r.0) rs) k → ⊥) → (b : Bool) → (r.0 == k) ≡ b
+        → cond b (Some r) (find (λ r. r.0 == k) rs) ≡ None → ⊥
+    by_test later true t e = (cc)
+    by_test later false t e = later e (Contains-tail r.0 (map (λ r. r.0) rs) k (eqb-false r.0 k t) h)
+
+pub size-of_find : (k : ℕ) (row : Row) → find (λ r. r.0 == k) ROWS ≡ Some row → Contains sizes k
+unfolding sizes
+size-of_find k row e = find_inside ROWS k row e
+
+pub row-of_find : (k : ℕ) (row : Row) → find (λ r. r.0 == k) ROWS ≡ Some row → row_of k ≡ row
+unfolding row_of
+row-of_find k row e = ap (λ (o : Option Row). unwrap_or o (record { 0 = k; 1 = 0; 2 = 0 })) e
+
+pub no_size-of_find : (k : ℕ) → find (λ r. r.0 == k) ROWS ≡ None → Contains sizes k → ⊥
+unfolding sizes
+no_size-of_find k e h = find_none ROWS k e h
+
 pub row-of_size : (k : ℕ) → Contains sizes k → IsRow (row_of k)
 row-of_size k h = All-contains IsRow ROWS (row_of k) all_rows (row_found k h).inside
 
 pub lawful-of_size : (k : ℕ) → Contains sizes k → Lawful k (row_of k).1 (row_of k).2
 lawful-of_size k h = subst (λ (n : ℕ). Lawful n (row_of k).1 (row_of k).2) (row_found k h).size (row-of_size k h).lawful
+
+pub range-of_size : (k : ℕ) → Contains sizes k → (40 ≤ k) × (k ≤ 6144)
+range-of_size k h = subst (λ (n : ℕ). (40 ≤ n) × (n ≤ 6144)) (row_found k h).size ((row-of_size k h).least, (row-of_size k h).greatest)
 
 pub row-of_40 : row_of 40 ≡ record { 0 = 40; 1 = 3; 2 = 10 }
 unfolding row_of

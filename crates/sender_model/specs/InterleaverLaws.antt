@@ -107,23 +107,42 @@ window_place_below k m j t d lj lt = within (k / m) (windows-whole k m d) lj lt
         let c : w * m ≡ m * w = omega arith in
         omega (arith, le, a, c, e)
 
--- the values f of one place j in all windows of width w have one row, where f keeps remainders by w
-pub row-window : (f : ℕ → ℕ) (w j t : ℕ) → ((i : ℕ) → f (i + w) % w ≡ f i % w) → row w (f (j + t * w)) ≡ row w (f j)
-row-window f w j zero h = ap (λ n. f n % w) (let s : j + 0 * w ≡ j = omega arith in s)
-row-window f w j (suc t) h =
-    ap (λ n. f n % w) (let s : j + suc t * w ≡ j + t * w + w = omega arith in s) ∙ (h (j + t * w) ∙ row-window f w j t h)
+-- f permutes the places below k, and keeps remainders by each divisor of k
+pub record IsInterleaver (k : ℕ) (f : ℕ → ℕ) : Type 0 where
+  pub below : (i : ℕ) → i < k → f i < k
+  pub apart : (i j : ℕ) → i < k → j < k → f i ≡ f j → i ≡ j
+  pub kept : (i w : ℕ) → w ∣ k → i + w < k → f (i + w) % w ≡ f i % w
 
--- and two windows have their values in different banks, where f is one to one
-pub bank-window : (f : ℕ → ℕ) (k m j t u : ℕ) → m ∣ k
-    → ((i n : ℕ) → i < k → n < k → f i ≡ f n → i ≡ n) → ((i : ℕ) → f (i + k / m) % (k / m) ≡ f i % (k / m))
-    → j < k / m → t < m → u < m → bank (k / m) (f (j + t * (k / m))) ≡ bank (k / m) (f (j + u * (k / m))) → t ≡ u
-bank-window f k m j t u d one_to_one keeps lj lt lu e =
+-- a lawful row is one
+pub lawful-interleaves : (k f1 f2 : ℕ) → Lawful k f1 f2 → IsInterleaver k (pi k f1 f2)
+lawful-interleaves k f1 f2 law = record {
+  below = λ i h. pi_below k f1 f2 i law.positive;
+  apart = λ i j. pi_differs k f1 f2 i j law;
+  kept = λ i w d h. pi_remainder k f1 f2 w i d;
+}
+
+-- the values of place j of all windows have one row
+pub row-window : (k : ℕ) (f : ℕ → ℕ) (m j t : ℕ) → IsInterleaver k f → m ∣ k → j < k / m → t < m
+    → row (k / m) (f (j + t * (k / m))) ≡ row (k / m) (f j)
+row-window k f m j t law d lj lt = rows t lt
+  where
+    rows : (t : ℕ) → t < m → row (k / m) (f (j + t * (k / m))) ≡ row (k / m) (f j)
+    rows zero lt = ap (λ n. f n % (k / m)) (let s : j + 0 * (k / m) ≡ j = omega arith in s)
+    rows (suc t) lt =
+        let s : j + suc t * (k / m) ≡ j + t * (k / m) + k / m = omega arith in
+        let inside : j + t * (k / m) + k / m < k = subst (λ (n : ℕ). n < k) s (window_place_below k m j (suc t) d lj lt) in
+        ap (λ n. f n % (k / m)) s ∙ (law.kept (j + t * (k / m)) (k / m) (width_divides k m d) inside ∙ rows t (omega (arith, lt)))
+
+-- and the values of two windows stand in different banks
+pub bank-window : (k : ℕ) (f : ℕ → ℕ) (m j t u : ℕ) → IsInterleaver k f → m ∣ k → j < k / m → t < m → u < m
+    → bank (k / m) (f (j + t * (k / m))) ≡ bank (k / m) (f (j + u * (k / m))) → t ≡ u
+bank-window k f m j t u law d lj lt lu e =
     let w : ℕ = k / m in
-    let rows : f (j + t * w) % w ≡ f (j + u * w) % w = row-window f w j t keeps ∙ sym (row-window f w j u keeps) in
+    let rows : f (j + t * w) % w ≡ f (j + u * w) % w = row-window k f m j t law d lj lt ∙ sym (row-window k f m j u law d lj lu) in
     let same : f (j + t * w) ≡ f (j + u * w) =
     sym (div-add-mod (f (j + t * w)) w) ∙ (ap (λ q. w * q + f (j + t * w) % w) e ∙ (ap (λ r. w * (f (j + u * w) / w) + r) rows ∙ div-add-mod (f (j + u * w)) w)) in
     let places : j + t * w ≡ j + u * w =
-    one_to_one (j + t * w) (j + u * w) (window_place_below k m j t d lj lt) (window_place_below k m j u d lj lu) same in
+    law.apart (j + t * w) (j + u * w) (window_place_below k m j t d lj lt) (window_place_below k m j u d lj lu) same in
     cancels w t u (omega (arith, lj)) (omega (arith, places))
   where
     cancels : (w t u : ℕ) → 1 ≤ w → t * w ≡ u * w → t ≡ u

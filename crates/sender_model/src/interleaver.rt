@@ -1,5 +1,5 @@
 //! The laws of the internal interleaver (36.212 5.1.3.2.3) and of the banks of its windows.
-ghost use Rattle.std.specs.Prelude.{◌≡◌, ℕ, ◌+◌, ◌*◌, ◌/◌, ◌%◌, ◌<◌, All, Contains, List, [], ◌∷◌, map};
+ghost use Rattle.std.specs.Prelude.{◌≡◌, ℕ, ◌+◌, ◌*◌, ◌/◌, ◌%◌, ◌<◌, ◌≤◌, All, Contains, List, [], ◌∷◌, map};
 ghost use Prim.Native.Nat.{◌∣◌};
 ghost use Rattle.sender_model.specs.Interleaver.{Lawful, pi, bank, row, sizes, row_of, place};
 ghost use Rattle.sender_model.specs.Rows.{IsRow};
@@ -52,6 +52,7 @@ pub fn sizes_have_lawful_rows()
     ensures size { (k : ℕ) → Contains sizes k → (row_of k).0 ≡ k }
     ensures lawful { (k : ℕ) → Contains sizes k → Lawful k (row_of k).1 (row_of k).2 }
     ensures small { (k : ℕ) → Contains sizes k → IsRow (row_of k) }
+    ensures range { (k : ℕ) → Contains sizes k → (40 ≤ k) × (k ≤ 6144) }
 {}
 
 /// The interleaver of a size permutes the places below it.

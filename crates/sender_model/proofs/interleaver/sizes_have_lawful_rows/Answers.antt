@@ -1,4 +1,4 @@
-use Rattle.sender_model.proofs.RowLaws.{row_found, row-of_size, lawful-of_size}
+use Rattle.sender_model.proofs.RowLaws.{row_found, row-of_size, lawful-of_size, range-of_size}
 use Rattle.sender_model.proofs.interleaver.sizes_have_lawful_rows.Goals as goal
 
 pub returns-clause-size : goal.returns-clause-size
@@ -9,3 +9,6 @@ returns-clause-lawful c = lawful-of_size
 
 pub returns-clause-small : goal.returns-clause-small
 returns-clause-small c = row-of_size
+
+pub returns-clause-range : goal.returns-clause-range
+returns-clause-range c = range-of_size

@@ -1,0 +1,2 @@
+pub mod Qpp
+pub mod QppLaws

@@ -1,0 +1,20 @@
+-- What callers see of an interleaver of the table's form (36.212 5.1.3.2.3).
+use Rattle.std.specs.Prelude.{ℕ, ◌/◌}
+use Rattle.sender_model.specs.Interleaver.{pi}
+use Rattle.sender_model.specs.declared.rows.Row.{Row}
+use Rattle.qpp_table.specs.declared.interleaver.Qpp.{Qpp}
+
+-- its size, f1 and f2
+abbrev pub row_in : Qpp → Row
+row_in q = record { 0 = q.k; 1 = q.f1; 2 = q.f2 }
+
+abbrev pub size_in : Qpp → ℕ
+size_in q = q.k
+
+-- Pi(i) = (f1 i + f2 i^2) mod K
+abbrev pub value_at : Qpp → ℕ → ℕ
+value_at q i = pi q.k q.f1 q.f2 i
+
+-- W = K/M, the width of one of m windows
+abbrev pub width : Qpp → ℕ → ℕ
+width q m = size_in q / m

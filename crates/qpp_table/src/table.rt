@@ -1,0 +1,47 @@
+//! The interleavers of the table (36.212, table 5.1.3-3).
+ghost use Rattle.std.specs.Prelude.{◌≡◌, ℕ, ◌==◌, ◌↔◌, find, map, length, IsSome, IfSome, Contains};
+ghost use Rattle.std.specs.List.{range_with_len};
+ghost use Rattle.sender_model.specs.Interleaver.{sizes, row_of, place};
+ghost use Rattle.qpp_table.specs.Qpp.{row_in, size_in, value_at};
+
+use crate::interleaver::{Interleaver, Qpp};
+use sender_model::{ROWS, Row};
+
+/// The rows of the table.
+fn rows() -> &'static [Row]
+    ensures { result.now ≡ ROWS }
+{
+    &ROWS
+}
+
+/// The first of some rows that has the size `k`.
+fn find_row(rows: &[Row], k: usize) -> Option<Row>
+    ensures { result ≡ find (λ row. row.0 == k) rows.now }
+{
+    rows.iter().copied().find(|row| row.0 == k)
+}
+
+/// The interleaver of size `k`, where `k` is one of the 188 sizes.
+pub fn qpp(k: usize) -> Option<Qpp>
+    ensures some { IsSome result ↔ Contains sizes k }
+    ensures row { IfSome result (λ q. row_in q ≡ row_of k) }
+    ensures size { IfSome result (λ q. size_in q ≡ k) }
+    ensures place { IfSome result (λ q. (i : ℕ) → value_at q i ≡ place k i) }
+{
+    match find_row(rows(), k) {
+        Some(row) => Some(Qpp::of_row(row)),
+        None => None,
+    }
+}
+
+/// The place from which each place of a block of `k` bits takes its bit; `out` has `k` places.
+pub fn addresses(k: usize, out: &mut [u16])
+    requires size { Contains sizes k }
+    requires room { length out.old ≡ k }
+    ensures { out.new ≡ map (place k) (range_with_len 0 k) }
+{
+    let q = qpp(k).unwrap();
+    for (i, address) in out.iter_mut().enumerate() {
+        *address = q.at(i) as u16;
+    }
+}
