@@ -6,7 +6,10 @@ pub mod interleaver;
 pub mod table;
 pub mod windows;
 
-pub use banks::bank_row;
+pub use banks::{bank_row, windows_stay_apart};
 pub use interleaver::Interleaver;
 pub use table::{addresses, qpp};
 pub use windows::win;
+
+#[cfg(test)]
+mod tests;
