@@ -1,4 +1,7 @@
 //! Worked values, and the whole table run through.
+ghost use Rattle.std.specs.Prelude.{◌≡◌, ◌<◌};
+ghost use Rattle.qpp_table.specs.Qpp.{size_in};
+
 use super::*;
 use crate::interleaver::Qpp;
 use std::alloc::{AllocError, Global};
@@ -42,16 +45,24 @@ fn each_of_the_188_sizes_is_permuted(rt: HostRuntime) -> Result<(), Fail> {
     Ok(())
 }
 
+/// The bank and the row of place 1 of window `t` of four.
+fn place_one(q: &Qpp, t: usize) -> (usize, usize)
+    requires size { size_in q.now ≡ 40 }
+    requires window { t < 4 }
+{
+    bank_row(q, 4, t, 1)
+}
+
 #[test]
 fn place_one_of_four_windows_of_forty(rt: HostRuntime) -> Result<(), Fail> {
     let q = qpp(40).ok_or("40 is a size")?;
     assert_eq!(rt; (q.size(), q.f1(), q.f2()), (40, 3, 10));
     assert_eq!(rt; [q.at(1), q.at(11), q.at(21), q.at(31)], [13, 3, 33, 23]);
     let stands = [
-        bank_row(&q, 4, 0, 1),
-        bank_row(&q, 4, 1, 1),
-        bank_row(&q, 4, 2, 1),
-        bank_row(&q, 4, 3, 1),
+        place_one(&q, 0),
+        place_one(&q, 1),
+        place_one(&q, 2),
+        place_one(&q, 3),
     ];
     assert_eq!(rt; stands, [(1, 3), (0, 3), (3, 3), (2, 3)]);
     windows_stay_apart::<Qpp>();
