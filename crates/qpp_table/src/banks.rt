@@ -6,8 +6,8 @@ ghost use Rattle.qpp_table.specs.Qpp.{size_in, width, bank_at, row_at};
 
 use crate::interleaver::{Interleaver, Qpp};
 
-/// The bank and the row of place `j` of window `t`, where `m` windows of one width W divide the size: the quotient and
-/// the remainder by W of the place from which it takes its value.
+/// The bank and the row of place `j` of window `t`, where `m` windows of one width W divide the
+/// size: the quotient and the remainder by W of the place from which it takes its value.
 ///
 /// Place `j` has one row in all windows, and a bank of its own in each.
 pub fn bank_row(q: &Qpp, m: usize, t: usize, j: usize) -> (usize, usize)
@@ -25,7 +25,8 @@ pub fn bank_row(q: &Qpp, m: usize, t: usize, j: usize) -> (usize, usize)
     (place / width, place % width)
 }
 
-/// Every interleaver keeps windows apart: place j has one row in all m windows, and a bank of its own in each.
+/// Every interleaver keeps windows apart: place j has one row in all m windows, and a bank of its
+/// own in each.
 pub fn windows_stay_apart<I: Interleaver>()
     ensures one_row { (q : I) (m j t : ℕ) → m ∣ I.size_of q → j < I.size_of q / m → t < m
         → let w = I.size_of q / m in row w (I.place_of q (j + t * w)) ≡ row w (I.place_of q j) }

@@ -1,4 +1,5 @@
-//! The internal interleaver of the turbo code (36.212 5.1.3.2.3): its 188 sizes, their permutations and banks.
+//! The internal interleaver of the turbo code (36.212 5.1.3.2.3): its 188 sizes, their permutations
+//! and banks.
 #![tactic(auto)]
 
 pub mod banks;
