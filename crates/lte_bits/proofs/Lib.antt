@@ -1,1 +1,3 @@
 mod Eight
+pub mod Pushes
+pub mod Unpacking

@@ -91,17 +91,7 @@ impl<T: Copy> List<T> {
         ensures ok { OnOk result (self.new ≡ resized self.old n v) }
         ensures err { OnErr result (self.new ≡ self.old) }
     {
-        let len = self.values.len();
-        if n <= len {
-            self.values.truncate(n);
-            return Ok(());
-        }
-        for _ in len..n {
-            if self.values.push(v).is_err() {
-                self.values.truncate(len);
-                return Err(NoMemory);
-            }
-        }
+        self.values.resize(n, v)?;
         Ok(())
     }
 }

@@ -114,3 +114,11 @@ crc-is g bs monic =
     let l : Leaves g (number bs * 2 ^ 24) r = subst (λ (m : ℕ). Leaves g m r) e left.leaves in
     let d : r ≡ number (digits 24 r) = sym (number-digits 24 r left.small) in
     crc_from g bs (digits 24 r) monic (length-digits 24 r) (subst (λ (m : ℕ). Leaves g (number bs * 2 ^ 24) m) d l)
+
+-- 24 bits whose number is the remainder of the bits and 24 zeros are the check bits
+pub crc_by_number : (g : ℕ) (bs p : List Bit) → IsMonic g → length p ≡ 24 → number p ≡ remainder g (remainder g 0 bs) (replicate 24 Zero) → p ≡ crc g bs
+unfolding crc
+crc_by_number g bs p monic l e =
+    let r : ℕ = remainder g (remainder g 0 bs) (replicate 24 Zero) in
+    let small : r < 2 ^ 24 = omega (arith, number-lt p, ap (λ n. 2 ^ n) l, e) in
+    same_number p (digits 24 r) (l ∙ sym (length-digits 24 r)) (e ∙ sym (number-digits 24 r small))

@@ -1,5 +1,5 @@
 -- Words on bits and whole numbers that the definitions share.
-use Rattle.std.specs.Prelude.{ℕ, ◌+◌, ◌-◌, ◌/◌, List, [], ◌∷◌, fold, min, max, slice_index_or}
+use Rattle.std.specs.Prelude.{ℕ, List, [], ◌∷◌, fold, min, max, slice_index_or}
 use Rattle.lte_bits.specs.declared.bit.Bit.{Bit}
 use Rattle.lte_bits.specs.declared.bit.Bit.TheVariants.{Zero, One}
 
@@ -12,10 +12,6 @@ plus One One = Zero
 -- the bit at a place, and Zero past the end
 abbrev pub at : List Bit → ℕ → Bit
 at bits k = slice_index_or bits k Zero
-
--- a/b, rounded up
-abbrev pub ceil_div : ℕ → ℕ → ℕ
-ceil_div a b = (a + (b - 1)) / b
 
 abbrev pub least : List ℕ → ℕ
 least [] = 0

@@ -3,7 +3,7 @@ use Rattle.std.specs.Prelude.{ℕ, ◌+◌, ◌-◌, ◌*◌, ◌/◌, ◌%◌, 
 use Rattle.lte_bits.specs.declared.bit.Cell.{Cell}
 use Rattle.lte_bits.specs.declared.bit.Cell.TheVariants.{Null}
 use Rattle.lte_bits.specs.declared.block.Streams.{Streams}
-use Rattle.sender_model.specs.Bits.{ceil_div}
+use Rattle.std.specs.Int.{div_ceil}
 use Rattle.sender_model.specs.Segmentation.{Plan}
 
 -- P, the order in which the 32 columns are read
@@ -14,7 +14,7 @@ column_order =
 
 -- R, the rows that a stream of k + 4 cells takes
 abbrev pub rows_of : ℕ → ℕ
-rows_of k = ceil_div (k + 4) 32
+rows_of k = div_ceil (k + 4) 32
 
 -- y, the cells of a stream behind the NULLs that fill R rows
 abbrev pub padded : ℕ → List Cell → List Cell
@@ -68,8 +68,8 @@ abbrev pub piece_length : Match → ℕ → ℕ → ℕ
 piece_length m c r =
     let unit = m.nl * m.qm in
     let units = m.g / unit in
-    if nat_lt (r + units % c) c then unit * (units / c) else unit * ceil_div units c
+    if nat_lt (r + units % c) c then unit * (units / c) else unit * div_ceil units c
 
 -- k0, where redundancy version rv starts in a buffer of ncb places
 abbrev pub start : ℕ → ℕ → ℕ → ℕ
-start k ncb rv = let r = rows_of k in r * (2 * ceil_div ncb (8 * r) * rv + 2)
+start k ncb rv = let r = rows_of k in r * (2 * div_ceil ncb (8 * r) * rv + 2)

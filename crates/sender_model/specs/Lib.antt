@@ -6,6 +6,7 @@ pub mod Rows
 pub mod Segmentation
 pub mod CodeBlocks
 pub mod ConstituentCoder
+pub mod Tail
 pub mod CodedStreams
 pub mod CircularBuffer
 pub mod Selection

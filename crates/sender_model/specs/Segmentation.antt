@@ -1,6 +1,7 @@
 -- The segmentation plan of a transport block (36.212 5.1.2).
 use Rattle.std.specs.Prelude.{ℕ, ◌+◌, ◌-◌, ◌*◌, ◌/◌, nat_le, nat_lt, ◌==◌, if◌then◌else◌, filter}
-use Rattle.sender_model.specs.Bits.{ceil_div, least, greatest}
+use Rattle.std.specs.Int.{div_ceil}
+use Rattle.sender_model.specs.Bits.{least, greatest}
 use Rattle.sender_model.specs.Interleaver.{sizes}
 
 -- B, the payload's bits and its 24 check bits
@@ -9,7 +10,7 @@ bits_of bytes = 8 * bytes + 24
 
 -- C, the number of code blocks, where Z = 6144
 abbrev pub count_of : ℕ → ℕ
-count_of b = if nat_le b 6144 then 1 else ceil_div b (6144 - 24)
+count_of b = if nat_le b 6144 then 1 else div_ceil b (6144 - 24)
 
 -- L, the check bits that each of C blocks carries
 abbrev pub check_length : ℕ → ℕ

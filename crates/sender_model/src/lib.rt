@@ -2,7 +2,9 @@
 #![tactic(auto)]
 
 pub mod check_bits;
+pub mod constituent_coder;
 pub mod interleaver;
 pub mod rows;
+pub mod selection;
 
 pub use rows::{ROWS, Row};

@@ -1,0 +1,10 @@
+use Rattle.std.proofs.Common.{arith}
+use Rattle.sender_model.proofs.CheckBitLaws.{multiple-remainder}
+use Rattle.block_crc.proofs.generator.Generator.divides.Goals as goal
+
+pub returns : goal.returns
+returns c =
+    let law = multiple-remainder c.args.self.coefficients c.args.bits.now c.args.self.monic in (
+      λ none. law.1 (grind (arith, none)),
+      λ multiple. grind (arith, law.0 multiple),
+    )

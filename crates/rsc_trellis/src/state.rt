@@ -1,0 +1,78 @@
+//! States of the constituent coder.
+ghost use Rattle.std.specs.Prelude.{◌≡◌, ◌<◌, ◌↔◌, if◌then◌else◌, IfSome, IsNone};
+ghost use Rattle.lte_bits.specs.Bits.{digit};
+
+use lte_bits::Bit;
+use std::marker::Model;
+
+/// A state of the constituent coder, a number 0 to 7: the last three values of the register,
+/// 4 a(k-1) + 2 a(k-2) + a(k-3) (36.212 5.1.3.2.1).
+#[derive(Clone, Copy, Debug, PartialEq, Eq, Hash)]
+pub struct State {
+    pub(crate) a1: Bit,
+    pub(crate) a2: Bit,
+    pub(crate) a3: Bit,
+}
+
+impl Model for State {
+    ghost use Rattle.sender_model.specs.ConstituentCoder.{State as Register};
+
+    ghost Value = { Register };
+
+    ghost view = { λ s. record { a1 = s.a1; a2 = s.a2; a3 = s.a3 } };
+
+    ghost inverse = { λ s. record { a1 = s.a1; a2 = s.a2; a3 = s.a3 } };
+}
+
+/// A bit that is `One` where the test holds.
+fn bit(is_one: bool) -> Bit
+    ensures { result ≡ (if is_one then Bit.One else Bit.Zero) }
+{
+    if is_one { Bit::One } else { Bit::Zero }
+}
+
+/// A bit as a number.
+fn digit(bit: Bit) -> u8
+    ensures value { result ≡ digit bit }
+    ensures small { result < 2 }
+{
+    match bit {
+        Bit::Zero => 0,
+        Bit::One => 1,
+    }
+}
+
+impl State {
+    ghost use Rattle.sender_model.specs.ConstituentCoder.{zero_state};
+    ghost use Rattle.rsc_trellis.specs.Number.{number_of};
+
+    /// The state in which the coder starts and ends.
+    pub const ZERO: State = State {
+        a1: Bit::Zero,
+        a2: Bit::Zero,
+        a3: Bit::Zero,
+    };
+
+    /// The state with a number, and `None` exactly above 7.
+    pub fn new(s: u8) -> Option<State>
+        ensures none { IsNone result ↔ (7 < s) }
+        ensures number { IfSome result (λ state. number_of state ≡ s) }
+    {
+        if s > 7 {
+            return None;
+        }
+        Some(State {
+            a1: bit(s >= 4),
+            a2: bit(s % 4 >= 2),
+            a3: bit(s % 2 == 1),
+        })
+    }
+
+    /// The state's number, 0 to 7.
+    pub fn number(self) -> u8
+        ensures value { result ≡ number_of self }
+        ensures small { result < 8 }
+    {
+        4 * digit(self.a1) + 2 * digit(self.a2) + digit(self.a3)
+    }
+}

@@ -1,0 +1,36 @@
+//! One step of the constituent coder (36.212 5.1.3.2.1).
+ghost use Rattle.std.specs.Prelude.{◌≡◌};
+ghost use Rattle.sender_model.specs.Bits.{plus};
+ghost use Rattle.sender_model.specs.ConstituentCoder.{next, parity};
+
+use crate::state::State;
+use lte_bits::Bit;
+
+/// The sum of two bits.
+pub(crate) fn plus(a: Bit, b: Bit) -> Bit
+    ensures { result ≡ plus a b }
+{
+    match (a, b) {
+        (Bit::Zero, b) => b,
+        (Bit::One, Bit::Zero) => Bit::One,
+        (Bit::One, Bit::One) => Bit::Zero,
+    }
+}
+
+/// The state after the input `u`.
+pub fn next(s: State, u: Bit) -> State
+    ensures { result ≡ next s u }
+{
+    State {
+        a1: plus(plus(u, s.a2), s.a3),
+        a2: s.a1,
+        a3: s.a2,
+    }
+}
+
+/// The parity bit of the input `u`.
+pub fn parity(s: State, u: Bit) -> Bit
+    ensures { result ≡ parity s u }
+{
+    plus(plus(u, s.a1), s.a2)
+}

@@ -1,0 +1,3 @@
+mod CellSteps
+mod TailBits
+mod StreamsMade

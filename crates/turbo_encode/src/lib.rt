@@ -1,0 +1,13 @@
+//! The turbo encoder: the three coded streams of a code block (36.212 5.1.3.2).
+#![tactic(auto)]
+
+mod cells;
+mod constituent;
+pub mod encoder;
+mod interleaver;
+mod tails;
+
+pub use encoder::encode;
+
+#[cfg(test)]
+mod tests;

@@ -1,0 +1,9 @@
+mod Refused
+mod Columns
+mod Walked
+mod Selected
+mod SmallPlan
+mod SmallBlock
+mod SameBuffer
+mod SmallCodeword
+mod OkAs
