@@ -28,14 +28,7 @@ fn codeword<S: Source, D: Sink, R: Sink>(
     ensures causes { Causes (S.faults source.old) (S.faults source.new)
         (D.faults out.old) (D.faults out.new) (R.faults report.old) (R.faults report.new) result }
 {
-    drive(
-        alloc,
-        &mut Coding::new(g),
-        b"",
-        source,
-        out,
-        report,
-    )
+    drive(alloc, &mut Coding::new(g), b"", source, out, report)
 }
 
 /// Does a command.

@@ -36,5 +36,5 @@ returns c =
     let is : c.in_ok-streams.streams ≡ streams (block (plan_of (length payload)) payload 0) = c.in_ok-streams.ensures ∙ ap streams c.in_ok-block.ensures in
     ok_as c.sent.result _ _
     (ap (λ (s : Streams). map (λ p. bit_of_cell (w 40 s p)) (repeated (bits_from (w 40 s) (start 40 192 rv) 192) g)) is
-        ∙ sym (small_codeword payload g rv c.requires.some c.requires.few c.requires.even))
+    ∙ sym (small_codeword payload g rv c.requires.some c.requires.few c.requires.even))
     c.sent.ensures
