@@ -1,5 +1,5 @@
 -- The least and the greatest of the numbers of a list that pass a test.
-use Rattle.std.proofs.Common.{◌≡◌, ℕ, zero, suc, ◌+◌, ◌<◌, ◌≤◌, ◌⊎◌, Bool, true, false, cond, List, [], ◌∷◌, length, get_or, filter, fold, min, max, Contains, refl, sym, ap, ◌∙◌, subst, inl, inr, arith}
+use Rattle.std.proofs.Common.{◌≡◌, ℕ, zero, suc, ◌<◌, ◌≤◌, ◌⊎◌, Bool, true, false, cond, List, [], ◌∷◌, length, get_or, filter, fold, min, max, Contains, refl, sym, ap, ◌∙◌, subst, inl, inr, arith}
 use Rattle.std.proofs.lemmas.Bool.{cases_lt}
 use Rattle.sender_model.specs.Bits.{least, greatest}
 
@@ -52,9 +52,9 @@ least-inside (x ∷ xs) y h = inside x xs
         let r : ℕ = fold min (min a x) xs in
         elim (Contains-cases (min a x) xs r (inside (min a x) xs)) [
           | inl e ↦ elim (cases_lt a x) [
-              | inl h ↦ (0, omega arith, (let m : a ≡ min a x = omega (arith, h) in m) ∙ e)
-              | inr h ↦ (1, omega arith, (let m : x ≡ min a x = omega (arith, h) in m) ∙ e)
-            ]
+            | inl h ↦ (0, omega arith, (let m : a ≡ min a x = omega (arith, h) in m) ∙ e)
+            | inr h ↦ (1, omega arith, (let m : x ≡ min a x = omega (arith, h) in m) ∙ e)
+          ]
           | inr later ↦ Contains-more a (x ∷ xs) r (Contains-more x xs r later)
         ]
 
@@ -80,9 +80,9 @@ greatest-inside (x ∷ xs) y h = inside x xs
         let r : ℕ = fold max (max a x) xs in
         elim (Contains-cases (max a x) xs r (inside (max a x) xs)) [
           | inl e ↦ elim (cases_lt a x) [
-              | inl h ↦ (1, omega arith, (let m : x ≡ max a x = omega (arith, h) in m) ∙ e)
-              | inr h ↦ (0, omega arith, (let m : a ≡ max a x = omega (arith, h) in m) ∙ e)
-            ]
+            | inl h ↦ (1, omega arith, (let m : x ≡ max a x = omega (arith, h) in m) ∙ e)
+            | inr h ↦ (0, omega arith, (let m : a ≡ max a x = omega (arith, h) in m) ∙ e)
+          ]
           | inr later ↦ Contains-more a (x ∷ xs) r (Contains-more x xs r later)
         ]
 

@@ -10,3 +10,4 @@ pub mod SizeTable
 pub mod RangeSums
 pub mod PlanLaws
 pub mod PlanShares
+pub mod Pieces

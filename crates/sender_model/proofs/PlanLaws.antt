@@ -1,5 +1,5 @@
 -- The plan of 1 to 18,722 bytes.
-use Rattle.std.proofs.Common.{◌≡◌, ℕ, zero, suc, ◌+◌, ◌-◌, ◌*◌, ◌/◌, ◌%◌, ◌<◌, ◌≤◌, ◌==◌, nat_le, nat_lt, Bool, true, false, cond, if◌then◌else◌, filter, min, Contains, refl, sym, ap, ◌∙◌, subst, inl, inr, arith}
+use Rattle.std.proofs.Common.{◌≡◌, ℕ, ◌+◌, ◌-◌, ◌*◌, ◌/◌, ◌%◌, ◌<◌, ◌≤◌, ◌==◌, nat_le, nat_lt, Bool, true, false, cond, filter, min, refl, sym, ap, ◌∙◌, subst, inl, inr, arith}
 use Rattle.std.specs.Int.{div_ceil}
 use Rattle.std.proofs.lemmas.Bool.{cases_lt, eqb-true, eqb-false, leb-true, leb-false, le-leb, lt-ltb, ltb-true}
 use Rattle.std.proofs.lemmas.Nat.{mod_below}
@@ -8,8 +8,7 @@ use Rattle.sender_model.specs.Bits.{greatest}
 use Rattle.sender_model.specs.Interleaver.{sizes}
 use Rattle.sender_model.specs.Segmentation.{Plan, bits_of, count_of, check_length, carried, larger_size, smaller_size, smaller_count, planned, plan_of}
 use Rattle.sender_model.proofs.Extremes.{IsLeastPassing, IsGreatestPassing, least-passes, greatest-passes}
-use Rattle.sender_model.proofs.SizeTable.{size_40, size_6144, size-lower}
-use Rattle.sender_model.proofs.RowLaws.{range-of_size}
+use Rattle.sender_model.proofs.SizeTable.{size_6144, size-lower}
 
 -- ---- the number of blocks
 

@@ -1,12 +1,12 @@
 -- What the blocks of a plan take of S.
-use Rattle.std.proofs.Common.{◌≡◌, ℕ, suc, ◌+◌, ◌-◌, ◌*◌, ◌<◌, ◌≤◌, nat_lt, Bool, true, false, cond, List, ◌++◌, length, replicate, refl, sym, ap, ◌∙◌, subst, inl, inr, arith}
+use Rattle.std.proofs.Common.{◌≡◌, ℕ, ◌+◌, ◌-◌, ◌*◌, ◌<◌, ◌≤◌, nat_lt, Bool, true, false, cond, List, length, refl, sym, ap, ◌∙◌, subst, inl, inr, arith}
 use Rattle.std.specs.List.{range_with_len, sum_by}
 use Rattle.std.proofs.lemmas.Bool.{cases_lt, lt-ltb, le-ltb, ltb-true}
 use Rattle.std.proofs.lemmas.Grind.{common_steps}
 use Rattle.lte_bits.specs.Packing.{unpacked}
 use Rattle.lte_bits.proofs.Unpacking.{length-unpacked}
-use Rattle.sender_model.specs.CheckBits.{crc, crc24a}
-use Rattle.sender_model.specs.Segmentation.{Plan, bits_of, count_of, check_length, carried, plan_of, size}
+use Rattle.sender_model.specs.CheckBits.{crc24a}
+use Rattle.sender_model.specs.Segmentation.{Plan, bits_of, check_length, carried, plan_of, size}
 use Rattle.sender_model.specs.CodeBlocks.{before, share, sequence}
 use Rattle.sender_model.proofs.CheckBitLaws.{length-crc}
 use Rattle.sender_model.proofs.RangeSums.{sum_by-range_more, sum_by-two_values, same_sums}

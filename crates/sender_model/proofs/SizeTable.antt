@@ -1,6 +1,6 @@
 -- The sizes stand in order, from 40 to 6144 and at most 64 apart.
-use Rattle.std.proofs.Common.{◌≡◌, ℕ, ◌+◌, ◌<◌, ◌≤◌, Bool, true, false, ◌&&◌, leb, ltb, eqb, List, [], ◌∷◌, drop, Contains, refl, sym, ap, ◌∙◌, subst, inl, inr, arith}
-use Rattle.std.proofs.lemmas.Bool.{cases_lt, and_parts, leb-true, ltb-true}
+use Rattle.std.proofs.Common.{◌≡◌, ℕ, ◌+◌, ◌<◌, ◌≤◌, Bool, true, ◌&&◌, leb, ltb, List, [], ◌∷◌, drop, Contains, refl, inl, inr, arith}
+use Rattle.std.proofs.lemmas.Bool.{cases_lt, and_parts, leb-true}
 use Rattle.sender_model.specs.Interleaver.{sizes}
 use Rattle.sender_model.proofs.Extremes.{Contains-cases, Contains-more}
 
@@ -19,9 +19,9 @@ lower x (y ∷ ys) h k inside above =
     elim (Contains-cases x (y ∷ ys) k inside) [
       | inl e ↦ absurd (omega (arith, e, above))
       | inr later ↦ elim (cases_lt y k) [
-          | inl far ↦ let rest = lower y ys p.1 k later far in (rest.0, Contains-more x (y ∷ ys) rest.0 rest.1, rest.2, rest.3)
-          | inr near ↦ (x, (0, omega arith, refl), above, omega (arith, near, step))
-        ]
+        | inl far ↦ let rest = lower y ys p.1 k later far in (rest.0, Contains-more x (y ∷ ys) rest.0 rest.1, rest.2, rest.3)
+        | inr near ↦ (x, (0, omega arith, refl), above, omega (arith, near, step))
+      ]
     ]
 
 pub size_40 : Contains sizes 40

@@ -45,3 +45,10 @@ pub fn shares_are_the_sequence()
     ensures { (payload : List ℕ) → 1 ≤ length payload → length payload ≤ 18722 →
         before (plan_of (length payload)) (plan_of (length payload)).c ≡ length (sequence (plan_of (length payload)) payload) }
 {}
+
+/// The plans of 765, of 766 and of 18,722 bytes.
+pub fn worked_plans()
+    ensures one { plan_of 765 ≡ record { bytes = 765; c = 1; k_plus = 6144; k_minus = 0; c_plus = 1; c_minus = 0; f = 0 } }
+    ensures two { plan_of 766 ≡ record { bytes = 766; c = 2; k_plus = 3136; k_minus = 3072; c_plus = 1; c_minus = 1; f = 8 } }
+    ensures most { plan_of 18722 ≡ record { bytes = 18722; c = 25; k_plus = 6016; k_minus = 5952; c_plus = 25; c_minus = 0; f = 0 } }
+{}

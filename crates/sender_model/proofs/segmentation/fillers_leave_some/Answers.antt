@@ -1,5 +1,4 @@
 use Rattle.std.proofs.Common.{arith}
-use Rattle.sender_model.specs.Segmentation.{plan_of}
 use Rattle.sender_model.proofs.PlanLaws.{plan-sound}
 use Rattle.sender_model.proofs.PlanShares.{fillers-below}
 use Rattle.sender_model.proofs.segmentation.fillers_leave_some.Goals as goal

@@ -1,4 +1,3 @@
-use Rattle.std.proofs.Common.{length}
 use Rattle.sender_model.proofs.PlanShares.{before-all}
 use Rattle.sender_model.proofs.segmentation.shares_are_the_sequence.Goals as goal
 
