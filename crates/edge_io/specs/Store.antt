@@ -23,7 +23,11 @@ Refuses s piece = Contains s.failing s.calls ⊎ ((0 < length piece) × (s.room 
 
 -- a call took these bytes
 abbrev pub after_write : Store → List ℕ → Store
-after_write s taken = record s { bytes = s.bytes ++ taken; room = s.room - length taken; calls = next_count s.calls }
+after_write s taken = record s {
+  bytes = s.bytes ++ taken;
+  room = s.room - length taken;
+  calls = next_count s.calls;
+}
 
 -- a call failed
 abbrev pub after_fault : Store → Store

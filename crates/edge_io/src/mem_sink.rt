@@ -44,7 +44,14 @@ impl MemSink {
     /// number is in `failing` fail, and those that are given something with no room left.
     pub fn new(alloc: Global, piece: usize, failing: List<u64>) -> Self
         requires { 1 ≤ piece }
-        ensures { result ≡ record { bytes = []; piece = piece; failing = failing; room = 0; calls = 0; faults = 0 } }
+        ensures { result ≡ record {
+          bytes = [];
+          piece = piece;
+          failing = failing;
+          room = 0;
+          calls = 0;
+          faults = 0;
+        } }
     {
         MemSink {
             bytes: Vec::new(alloc),
@@ -94,7 +101,8 @@ impl Sink for MemSink {
         ensures cause { HasCause self.old.faults self.new.faults result }
 
         ensures fails { IsErr result ↔ Refuses self.old piece.now }
-        ensures count { IfOk result (λ n. n ≡ min (min self.old.piece (length piece.now)) self.old.room) }
+        ensures count { IfOk result (λ n.
+            n ≡ min (min self.old.piece (length piece.now)) self.old.room) }
         ensures ok { IfOk result (λ n. self.new ≡ after_write self.old (take n piece.now)) }
         ensures err { OnErr result (self.new ≡ after_fault self.old) }
     {

@@ -37,7 +37,13 @@ impl MemSource {
     /// is left. Calls are numbered from 0, and those whose number is in `failing` fail.
     pub fn new(bytes: List<u8>, piece: usize, failing: List<u64>) -> Self
         requires { 1 ≤ piece }
-        ensures { result ≡ record { left = bytes; piece = piece; failing = failing; calls = 0; faults = 0 } }
+        ensures { result ≡ record {
+          left = bytes;
+          piece = piece;
+          failing = failing;
+          calls = 0;
+          faults = 0;
+        } }
     {
         MemSource {
             rest: Remaining::new(bytes),
@@ -68,7 +74,8 @@ impl Source for MemSource {
         ensures cause { HasCause self.old.faults self.new.faults result }
 
         ensures fails { IsErr result ↔ Contains self.old.failing self.old.calls }
-        ensures count { IfOk result (λ n. n ≡ min (min self.old.piece (length buf.old)) (length self.old.left)) }
+        ensures count { IfOk result (λ n.
+            n ≡ min (min self.old.piece (length buf.old)) (length self.old.left)) }
         ensures ok { IfOk result (λ n. self.new ≡ after_read self.old n) }
         ensures err { OnErr result (self.new ≡ after_fault self.old) }
     {

@@ -171,3 +171,14 @@ fn a_failed_read_or_flush_of_std_is_a_fault_of_that_call(rt: HostRuntime) {
         assert_eq!(rt; sink.write(b"ab"), want);
     }
 }
+
+#[test]
+fn stops_are_named_in_words(rt: HostRuntime) -> Result<(), Fail> {
+    let ended = ReadStop::Ended { got: 3 };
+    let text = format!(in rt.alloc(); "{ended}; {}; {SinkFault}", ReadStop::Fault)?;
+    assert_eq!(rt;
+        text.as_str(),
+        "the source ended after 3 bytes; the source failed; the sink failed"
+    );
+    Ok(())
+}

@@ -25,13 +25,16 @@ pub trait Interleaver {
     ghost below: { (q : Self) (i : ℕ) → i < size_of q → place_of q i < size_of q };
 
     // Different places have different values.
-    ghost apart: { (q : Self) (i j : ℕ) → i < size_of q → j < size_of q → place_of q i ≡ place_of q j → i ≡ j };
+    ghost apart: { (q : Self) (i j : ℕ) → i < size_of q → j < size_of q
+        → place_of q i ≡ place_of q j → i ≡ j };
 
     // Places that lie a divisor of the size apart have values with one remainder by it.
-    ghost kept: { (q : Self) (i w : ℕ) → w ∣ size_of q → i + w < size_of q → place_of q (i + w) % w ≡ place_of q i % w };
+    ghost kept: { (q : Self) (i w : ℕ) → w ∣ size_of q → i + w < size_of q
+        → place_of q (i + w) % w ≡ place_of q i % w };
 }
 
-/// The interleaver Pi(i) = (f1 i + f2 i^2) mod K of a lawful row: f1 is a unit modulo K, and f2^7 is 0 modulo K.
+/// The interleaver Pi(i) = (f1 i + f2 i^2) mod K of a lawful row: f1 is a unit modulo K, and f2^7
+/// is 0 modulo K.
 #[derive(Clone, Copy, Debug, PartialEq, Eq)]
 pub struct Qpp {
     k: usize,

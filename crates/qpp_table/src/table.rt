@@ -21,7 +21,7 @@ fn find_row(rows: &[Row], k: usize) -> Option<Row>
     rows.iter().copied().find(|row| row.0 == k)
 }
 
-/// The interleaver of size `k`, where `k` is one of the 188 sizes.
+/// The interleaver of size `k`, and `None` exactly where `k` isn't one of the 188 sizes.
 pub fn qpp(k: usize) -> Option<Qpp>
     ensures some { IsSome result ↔ Contains sizes k }
     ensures row { IfSome result (λ q. row_in q ≡ row_of k) }
@@ -34,7 +34,8 @@ pub fn qpp(k: usize) -> Option<Qpp>
     }
 }
 
-/// The place from which each place of a block of `k` bits takes its bit; `out` has `k` places.
+/// Leaves in `out` the place from which each place of a block takes its bit. `k` is one of the 188
+/// sizes, and `out` has length `k`.
 pub fn addresses(k: usize, out: &mut [u16])
     requires size { Contains sizes k }
     requires room { length out.old ≡ k }

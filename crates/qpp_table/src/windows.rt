@@ -3,8 +3,8 @@ ghost use Rattle.std.specs.Prelude.{ℕ, ◌*◌, ◌≤◌, Contains};
 ghost use Prim.Native.Nat.{◌∣◌};
 ghost use Rattle.sender_model.specs.Interleaver.{sizes};
 
-/// The greatest number of windows, at most `m`, that divide a block of `k` places into windows of at least 8.
-/// `k` is one of the 188 sizes, and `m` is 1 to 64.
+/// The greatest number of windows, at most `m`, that divide a block of `k` places and are at least 8
+/// wide. `k` is one of the 188 sizes, and `m` is 1 to 64.
 pub fn win(k: usize, m: usize) -> usize
     requires size { Contains sizes k }
     requires least { 1 ≤ m }

@@ -1,3 +1,4 @@
 pub mod Reached
 pub mod Endings
 pub mod Complete
+pub mod Told

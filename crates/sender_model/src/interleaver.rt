@@ -19,12 +19,14 @@ pub fn values_are_below()
 
 /// A lawful row is a permutation: different places have different values.
 pub fn values_differ()
-    ensures { (k f1 f2 i j : ℕ) → Lawful k f1 f2 → i < k → j < k → pi k f1 f2 i ≡ pi k f1 f2 j → i ≡ j }
+    ensures { (k f1 f2 i j : ℕ) → Lawful k f1 f2 → i < k → j < k
+        → pi k f1 f2 i ≡ pi k f1 f2 j → i ≡ j }
 {}
 
 /// Places that lie a divisor of the size apart have values with one remainder by it.
 pub fn remainders_are_kept()
-    ensures { (k f1 f2 w i : ℕ) → Lawful k f1 f2 → w ∣ k → pi k f1 f2 (i + w) % w ≡ pi k f1 f2 i % w }
+    ensures { (k f1 f2 w i : ℕ) → Lawful k f1 f2 → w ∣ k
+        → pi k f1 f2 (i + w) % w ≡ pi k f1 f2 i % w }
 {}
 
 /// The values of place j of all m windows have one row.

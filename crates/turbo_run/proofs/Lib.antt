@@ -7,3 +7,5 @@ mod SmallBlock
 mod SameBuffer
 mod SmallCodeword
 mod OkAs
+mod CodewordSteps
+mod Leaves

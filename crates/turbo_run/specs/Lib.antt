@@ -2,3 +2,5 @@ pub mod Number
 pub mod Words
 pub mod Payload
 pub mod Matching
+pub mod Codeword
+pub mod Run

@@ -4,10 +4,13 @@
 mod circular_buffer;
 mod code_block;
 mod codeword;
+mod coding;
 mod number;
 mod payload;
+mod running;
 mod selection;
 mod words;
 
 pub use run_loop::{SinkName, Status};
+pub use running::{run, run_alone};
 pub use words::{Command, WordRefusal, read_words};

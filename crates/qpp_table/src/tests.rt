@@ -1,0 +1,84 @@
+//! Worked values, and the whole table run through.
+ghost use Rattle.std.specs.Prelude.{◌≡◌, ◌<◌};
+ghost use Rattle.qpp_table.specs.Qpp.{size_in};
+
+use super::*;
+use crate::interleaver::Qpp;
+use std::alloc::{AllocError, Global};
+use std::test::Fail;
+
+/// The sizes: 40 to 512 by 8, to 1024 by 16, to 2048 by 32 and to 6144 by 64.
+fn is_size(k: usize) -> bool {
+    match k {
+        40..=512 => k % 8 == 0,
+        513..=1024 => k % 16 == 0,
+        1025..=2048 => k % 32 == 0,
+        2049..=6144 => k % 64 == 0,
+        _ => false,
+    }
+}
+
+/// Whether each number below `n` is among the addresses.
+fn are_all_below(alloc: Global, addresses: &[u16], n: usize) -> Result<bool, AllocError> {
+    let mut seen = vec![in alloc; false; n]?;
+    for address in addresses {
+        if let Some(place) = seen.get_mut(usize::from(*address)) {
+            *place = true;
+        }
+    }
+    Ok(seen.iter().all(|place| *place))
+}
+
+#[test]
+fn each_of_the_188_sizes_is_permuted(rt: HostRuntime) -> Result<(), Fail> {
+    let mut count = 0u32;
+    for k in 0..6300usize {
+        assert_eq!(rt; qpp(k).is_some(), is_size(k), "size {k}");
+        if qpp(k).is_some() {
+            let mut out = vec![in rt.alloc(); 0u16; k]?;
+            addresses(k, out.as_mut_slice());
+            assert!(rt; are_all_below(rt.alloc(), out.as_slice(), k)?, "size {k}");
+            count = count.saturating_add(1);
+        }
+    }
+    assert_eq!(rt; count, 188);
+    Ok(())
+}
+
+/// The bank and the row of place 1 of window `t` of four.
+fn place_one(q: &Qpp, t: usize) -> (usize, usize)
+    requires size { size_in q.now ≡ 40 }
+    requires window { t < 4 }
+{
+    bank_row(q, 4, t, 1)
+}
+
+#[test]
+fn place_one_of_four_windows_of_forty(rt: HostRuntime) -> Result<(), Fail> {
+    let q = qpp(40).ok_or("40 is a size")?;
+    assert_eq!(rt; (q.size(), q.f1(), q.f2()), (40, 3, 10));
+    assert_eq!(rt; [q.at(1), q.at(11), q.at(21), q.at(31)], [13, 3, 33, 23]);
+    let stands = [
+        place_one(&q, 0),
+        place_one(&q, 1),
+        place_one(&q, 2),
+        place_one(&q, 3),
+    ];
+    assert_eq!(rt; stands, [(1, 3), (0, 3), (3, 3), (2, 3)]);
+    windows_stay_apart::<Qpp>();
+    Ok(())
+}
+
+#[test]
+fn windows_are_as_many_as_fit(rt: HostRuntime) {
+    for (k, m, want) in [
+        (40, 64, 5),
+        (48, 64, 6),
+        (5824, 10, 8),
+        (3072, 64, 64),
+        (40, 1, 1),
+    ] {
+        assert!(rt; qpp(k).is_some() && 1 <= m && m <= 64);
+        assert_eq!(rt; win(k, m), want, "{k} places, at most {m} windows");
+    }
+}
