@@ -5,3 +5,9 @@ pub mod Coder
 pub mod TailSteps
 pub mod RowLaws
 pub mod SelectionLaws
+pub mod Extremes
+pub mod SizeTable
+pub mod RangeSums
+pub mod PlanLaws
+pub mod PlanShares
+pub mod Pieces

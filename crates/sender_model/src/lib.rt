@@ -5,6 +5,7 @@ pub mod check_bits;
 pub mod constituent_coder;
 pub mod interleaver;
 pub mod rows;
+pub mod segmentation;
 pub mod selection;
 
 pub use rows::{ROWS, Row};

@@ -1,14 +1,42 @@
 //! The laws of bit selection.
-ghost use Rattle.std.specs.Prelude.{◌≡◌, ℕ, ◌+◌, ◌*◌, ◌<◌, ◌≤◌, true, length, slice_index_or};
+ghost use Rattle.std.specs.Prelude.{◌≡◌, ℕ, ◌+◌, ◌*◌, ◌<◌, ◌≤◌, true, List, [], ◌∷◌, length, map, slice_index_or, sum_by};
+ghost use Rattle.std.specs.List.{range_with_len};
+ghost use Prim.Native.Nat.{◌∣◌};
 ghost use Rattle.lte_bits.specs.declared.bit.Cell.{Cell};
 ghost use Rattle.lte_bits.specs.declared.block.Block.{Block};
 ghost use Rattle.lte_bits.specs.declared.block.Streams.{Streams};
-ghost use Rattle.sender_model.specs.CodedStreams.{streams};
-ghost use Rattle.sender_model.specs.CircularBuffer.{rows_of, w};
-ghost use Rattle.sender_model.specs.Selection.{is_bit, bits_from};
+ghost use Rattle.sender_model.specs.CheckBits.{digits};
+ghost use Rattle.sender_model.specs.Segmentation.{plan_of};
+ghost use Rattle.sender_model.specs.CodedStreams.{cells_of, streams};
+ghost use Rattle.sender_model.specs.CircularBuffer.{Match, piece_length, rows_of, start, w};
+ghost use Rattle.sender_model.specs.Selection.{is_bit, bits_from, sent};
 
 /// A buffer that keeps all of v0, of a code block's streams, has a bit to send: V isn't empty.
 pub fn some_bit_is_kept()
     ensures { (b : Block) (n start : ℕ) → b.fill ≤ length b.bits → 32 * rows_of (length b.bits) ≤ n →
         0 < length (bits_from (w (length b.bits) (streams b)) start n) }
+{}
+
+/// The blocks of a transport block send G bits together.
+pub fn pieces_add_up()
+    ensures { (m : Match) (c : ℕ) → 1 ≤ c → 1 ≤ m.nl * m.qm → m.nl * m.qm ∣ m.g →
+        sum_by (piece_length m c) (range_with_len 0 c) ≡ m.g }
+{}
+
+/// Where the four redundancy versions start in the full buffer of a block of 40 bits.
+pub fn starts_of_forty()
+    ensures { map (start 40 192) (0 ∷ 1 ∷ 2 ∷ 3 ∷ []) ≡ 4 ∷ 52 ∷ 100 ∷ 148 ∷ [] }
+{}
+
+/// The first eight bits that each redundancy version sends of the code block 00 01 86 4C FB, whose
+/// streams are 000186 4CFBC, 000113 038AC and 07999A 056E4.
+pub fn worked_selections()
+    ensures { map
+        (λ rv. sent (plan_of 2) (record { qm = 2; nl = 1; g = 8; limit = None }) (record {
+          d0 = cells_of (digits 44 0x0001864CFBC);
+          d1 = cells_of (digits 44 0x000113038AC);
+          d2 = cells_of (digits 44 0x07999A056E4);
+        }) 0 rv)
+        (0 ∷ 1 ∷ 2 ∷ 3 ∷ [])
+        ≡ map (digits 8) (0x34 ∷ 0x24 ∷ 0xE6 ∷ 0x10 ∷ []) }
 {}
