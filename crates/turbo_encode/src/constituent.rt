@@ -6,9 +6,9 @@ ghost use Rattle.sender_model.specs.Tail.{reached};
 ghost use Rattle.turbo_encode.specs.Order.{in_order};
 
 use crate::cells::cell_at;
-use crate::interleaver::Interleaver;
 use crate::tails::TAIL;
 use lte_bits::{Bit, Cell, NoMemory};
+use qpp_table::Interleaver;
 use rsc_trellis::{State, next, parity};
 use std::alloc::Global;
 
@@ -27,7 +27,7 @@ pub fn code<I: Interleaver>(
     order: &I,
     fill: usize,
 ) -> Result<Coded, NoMemory>
-    requires size { I.count order.now ≡ length bits.now }
+    requires size { I.size_of order.now ≡ length bits.now }
     requires fill { fill ≤ length bits.now }
     ensures cells { let inputs = in_order (I.place_of order.now) (length bits.now) bits.now in
         IfOk result (λ coded. coded.cells.items ≡ null_filled fill (parities inputs)) }

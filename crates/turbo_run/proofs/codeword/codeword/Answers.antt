@@ -1,13 +1,15 @@
-use Rattle.std.proofs.Common.{◌≡◌, ℕ, ◌≤◌, ◌<◌, ◌*◌, length, List, map, subst, sym, ap, ◌∙◌, arith}
+use Rattle.std.proofs.Common.{◌≡◌, ℕ, ◌≤◌, ◌<◌, ◌*◌, length, List, Contains, map, subst, sym, ap, ◌∙◌, arith}
 use Rattle.lte_bits.specs.declared.bit.Bit.{Bit}
 use Rattle.lte_bits.specs.declared.block.Block.{Block}
 use Rattle.lte_bits.specs.declared.block.Streams.{Streams}
+use Rattle.sender_model.specs.Interleaver.{sizes}
 use Rattle.sender_model.specs.Segmentation.{plan_of}
 use Rattle.sender_model.specs.CodeBlocks.{block}
 use Rattle.sender_model.specs.CodedStreams.{streams}
 use Rattle.sender_model.specs.CircularBuffer.{w, start}
 use Rattle.sender_model.specs.Selection.{bit_of_cell, bits_from, repeated}
 use Rattle.sender_model.proofs.SelectionLaws.{some_bit, first_stream}
+use Rattle.sender_model.proofs.SizeTable.{size_40}
 use Rattle.turbo_run.proofs.OkAs.{ok_as}
 use Rattle.turbo_run.proofs.SmallBlock.{small_size, small_fill}
 use Rattle.turbo_run.proofs.SmallCodeword.{small_codeword, small_some}
@@ -15,7 +17,8 @@ use Rattle.turbo_run.proofs.codeword.codeword.Goals as goal
 
 pub encode-requires-clause-size : goal.encode-requires-clause-size
 encode-requires-clause-size c =
-    ap (λ (b : Block). length b.bits) c.in_ok-block.ensures ∙ small_size c.args.payload.now c.requires.some c.requires.few
+    let size : length c.in_ok-block.block.bits ≡ 40 = ap (λ (b : Block). length b.bits) c.in_ok-block.ensures ∙ small_size c.args.payload.now c.requires.some c.requires.few in
+    subst (λ (k : ℕ). Contains sizes k) (sym size) size_40
 
 pub encode-requires-clause-fill : goal.encode-requires-clause-fill
 encode-requires-clause-fill c =
