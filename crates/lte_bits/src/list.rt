@@ -5,10 +5,9 @@ ghost use Rattle.std.specs.Borrow.{sem};
 use std::alloc::{AllocError, AllocFailed};
 use std::convert::AsSlice;
 use std::error::Error;
-use std::fmt;
 use std::hash::{Hash, Hasher};
 use std::marker::Model;
-use std::slice;
+use std::{fmt, slice};
 
 /// Want of memory.
 #[derive(Clone, Copy, Debug, PartialEq, Eq, Hash)]

@@ -1,6 +1,4 @@
 -- Where no count rose, a run ends as its answer says.
-use Rattle.std.proofs.Common.{ℕ}
-use Rattle.edge_io.specs.Edge.{Rose}
 use Rattle.run_loop.specs.Answer.{Answer}
 use Rattle.run_loop.specs.Ended.{Held, Counts, Ended, Causes, IsQuiet, IsEndingOf}
 use Rattle.run_loop.specs.declared.status.SinkName.TheVariants.{Out, Report}
