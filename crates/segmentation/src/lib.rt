@@ -1,0 +1,8 @@
+//! The segmentation of a transport block into code blocks (36.212 5.1.2), and the way back.
+#![tactic(auto)]
+
+pub mod planning;
+pub mod plans;
+mod sizes;
+
+pub use planning::{BadLength, fill, size};
