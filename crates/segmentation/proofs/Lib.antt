@@ -1,2 +1,5 @@
 pub mod Walk
 mod Computed
+pub mod BlockSizes
+pub mod CutBlocks
+pub mod WholeBits

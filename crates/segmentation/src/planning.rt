@@ -14,7 +14,7 @@ pub const MOST_BYTES: usize = 18722;
 const LARGEST: usize = 6144;
 
 /// The check bits of a transport block, and of each of several code blocks.
-const CHECK_BITS: usize = 24;
+pub(crate) const CHECK_BITS: usize = 24;
 
 /// A transport block has no bytes, or more than 18,722.
 #[derive(Clone, Copy, Debug, PartialEq, Eq, Hash)]

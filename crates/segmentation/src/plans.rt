@@ -16,7 +16,7 @@ pub struct Plan {
     pub f: usize,
     pub ghost some: { 1 ≤ bytes },
     pub ghost few: { bytes ≤ 18722 },
-    pub ghost blocks: { c ≡ (plan_of bytes).c },
+    pub ghost block_count: { c ≡ (plan_of bytes).c },
     pub ghost larger_size: { k_plus ≡ (plan_of bytes).k_plus },
     pub ghost smaller_size: { k_minus ≡ (plan_of bytes).k_minus },
     pub ghost larger: { c_plus ≡ (plan_of bytes).c_plus },

@@ -69,7 +69,7 @@ invariant_of-result c =
     record {
       some = c.requires.some;
       few = c.requires.few;
-      blocks = plan.blocks;
+      block_count = plan.blocks;
       larger_size = plan.larger_size;
       smaller_size = plan.smaller_size;
       larger = plan.larger;
