@@ -3,3 +3,5 @@ mod Computed
 pub mod BlockSizes
 pub mod CutBlocks
 pub mod WholeBits
+mod CarriedWhole
+mod PackedAgain

@@ -6,6 +6,7 @@ pub mod joined;
 pub mod joining;
 pub mod planning;
 pub mod plans;
+pub mod round_trip;
 mod sizes;
 
 pub use cutting::cut;
