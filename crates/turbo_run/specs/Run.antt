@@ -3,9 +3,8 @@ use Rattle.std.specs.Prelude.{◌≡◌, ℕ, List, [], Some, IfOk}
 use Rattle.edge_io.specs.Edge.{Adds}
 use Rattle.run_loop.specs.Answer.{Answer, opened}
 use Rattle.run_loop.specs.Ended.{Held, Counts, Ended, Causes, IsQuiet, IsEndingOf}
-use Rattle.run_loop.specs.declared.status.SinkName.TheVariants.{Out, Report}
 use Rattle.run_loop.specs.declared.status.Status.{Status}
-use Rattle.run_loop.specs.declared.status.Status.TheVariants.{Done, BadWords, BadStream, ReadFault, WriteFault, NoMemory}
+use Rattle.run_loop.specs.declared.status.Status.TheVariants.{BadStream, ReadFault, NoMemory}
 use Rattle.turbo_run.specs.Codeword.{codeword_answer}
 use Rattle.turbo_run.specs.Words.{command_of}
 use Rattle.turbo_run.specs.declared.words.Command.{Command}

@@ -1,5 +1,4 @@
-use Rattle.std.proofs.Common.{◌≡◌, ℕ, ◌≤◌, ◌<◌, ◌*◌, length, List, Contains, map, subst, sym, ap, ◌∙◌, arith}
-use Rattle.lte_bits.specs.declared.bit.Bit.{Bit}
+use Rattle.std.proofs.Common.{◌≡◌, ℕ, ◌<◌, length, Contains, map, subst, sym, ap, ◌∙◌, arith}
 use Rattle.lte_bits.specs.declared.block.Block.{Block}
 use Rattle.lte_bits.specs.declared.block.Streams.{Streams}
 use Rattle.sender_model.specs.Interleaver.{sizes}
@@ -8,7 +7,6 @@ use Rattle.sender_model.specs.CodeBlocks.{block}
 use Rattle.sender_model.specs.CodedStreams.{streams}
 use Rattle.sender_model.specs.CircularBuffer.{w, start}
 use Rattle.sender_model.specs.Selection.{bit_of_cell, bits_from, repeated}
-use Rattle.sender_model.proofs.SelectionLaws.{some_bit, first_stream}
 use Rattle.sender_model.proofs.SizeTable.{size_40}
 use Rattle.turbo_run.proofs.OkAs.{ok_as}
 use Rattle.turbo_run.proofs.SmallBlock.{small_size, small_fill}

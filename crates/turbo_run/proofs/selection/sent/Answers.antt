@@ -1,6 +1,5 @@
 use Rattle.std.proofs.Common.{◌≡◌, ℕ, ◌<◌, ◌*◌, length, List, slice_index_or, map, subst, sym, ap, ◌∙◌, arith}
 use Rattle.std.specs.List.{range_with_len}
-use Rattle.lte_bits.specs.declared.bit.Bit.{Bit}
 use Rattle.lte_bits.specs.declared.bit.Cell.{Cell}
 use Rattle.lte_bits.specs.declared.bit.Cell.TheVariants.{Null}
 use Rattle.sender_model.specs.CircularBuffer.{w, buffer_size, start}
