@@ -5,16 +5,19 @@ ghost use Rattle.std.specs.Borrow.{sem};
 use std::alloc::{AllocError, AllocFailed};
 use std::convert::AsSlice;
 use std::error::Error;
-use std::fmt;
 use std::hash::{Hash, Hasher};
 use std::marker::Model;
-use std::slice;
+use std::{fmt, slice};
 
 /// Want of memory.
 #[derive(Clone, Copy, Debug, PartialEq, Eq, Hash)]
 pub struct NoMemory;
 
 impl fmt::Display for NoMemory {
+    ghost use Rattle.std.specs.Prelude.{Some, codes};
+
+    ghost output = { λ _. Some (codes "no memory") };
+
     fn fmt<W: fmt::Write>(&self, f: &mut fmt::Formatter<W>) -> fmt::Result {
         f.write_str("no memory")
     }

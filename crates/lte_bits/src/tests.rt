@@ -40,7 +40,11 @@ fn bits_stand_highest_first(rt: HostRuntime) -> Result<(), Fail> {
     ];
     for (count, want) in rows {
         let front = &bits.as_slice()[..count.min(bits.as_slice().len())];
-        assert_eq!(rt; pack(rt.alloc(), front)?.as_slice(), want, "of {count} bits");
+        assert_eq!(rt;
+            pack(rt.alloc(), front)?.as_slice(),
+            want,
+            "of {count} bits"
+        );
     }
     Ok(())
 }

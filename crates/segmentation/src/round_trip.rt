@@ -1,0 +1,26 @@
+//! What is cut is joined again. Each function computes nothing: its contract is the law.
+ghost use Rattle.std.specs.Prelude.{◌≡◌, ℕ, ◌*◌, ◌<◌, ◌≤◌, ◌++◌, All, List, length, take};
+ghost use Rattle.lte_bits.specs.Packing.{packed, unpacked};
+ghost use Rattle.sender_model.specs.CheckBits.{IsMultiple, crc, crc24a};
+ghost use Rattle.sender_model.specs.Segmentation.{plan_of};
+ghost use Rattle.sender_model.specs.CodeBlocks.{blocks, whole};
+ghost use Rattle.segmentation.specs.Shape.{AreBlocksOf};
+
+/// The blocks of a payload have the sizes and the fillers of its plan, and carry its bits and their
+/// check bits.
+pub fn blocks_carry_the_payload()
+    ensures shape { (payload : List ℕ) → 1 ≤ length payload → length payload ≤ 18722 →
+        AreBlocksOf (plan_of (length payload)) (blocks (plan_of (length payload)) payload) }
+    ensures whole { (payload : List ℕ) → 1 ≤ length payload → length payload ≤ 18722 →
+        whole (plan_of (length payload)) (blocks (plan_of (length payload)) payload)
+        ≡ unpacked payload ++ crc crc24a (unpacked payload) }
+{}
+
+/// So the blocks that `cut` gives are joined to the payload, and its check bits hold.
+pub fn joining_undoes_cutting()
+    ensures payload { (payload : List ℕ) → 1 ≤ length payload → length payload ≤ 18722 → All (λ byte. byte < 256) payload →
+        packed (take (8 * length payload) (whole (plan_of (length payload)) (blocks (plan_of (length payload)) payload)))
+        ≡ payload }
+    ensures holds { (payload : List ℕ) → 1 ≤ length payload → length payload ≤ 18722 →
+        IsMultiple crc24a (whole (plan_of (length payload)) (blocks (plan_of (length payload)) payload)) }
+{}
