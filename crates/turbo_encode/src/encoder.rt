@@ -5,10 +5,9 @@ ghost use Rattle.sender_model.specs.Interleaver.{sizes};
 
 use crate::cells::{ended, systematic};
 use crate::constituent::code;
-use crate::natural::Natural;
+use crate::order::Order;
 use crate::tails::Tails;
 use lte_bits::{Block, NoMemory, Streams};
-use qpp_table::qpp;
 use std::alloc::Global;
 
 /// The three coded streams of a code block of K bits, each of K + 4 cells. K is one of the 188 sizes
@@ -19,11 +18,9 @@ pub fn encode(alloc: Global, block: &Block) -> Result<Streams, NoMemory>
     ensures { IfOk result (λ s. s ≡ streams block.now) }
 {
     let bits = block.bits.as_slice();
-    let natural = Natural { size: bits.len() };
-    let interleaver = qpp(bits.len()).unwrap();
     let own = systematic(alloc, bits, block.fill)?;
-    let first = code(alloc, bits, &natural, block.fill)?;
-    let second = code(alloc, bits, &interleaver, 0)?;
+    let first = code(alloc, bits, Order::NATURAL, block.fill)?;
+    let second = code(alloc, bits, Order::of_size(bits.len()), 0)?;
     let tails = Tails::new(first.end, second.end);
     Ok(Streams {
         d0: ended(own, tails.d0)?,

@@ -4,7 +4,7 @@
 mod cells;
 mod constituent;
 pub mod encoder;
-mod natural;
+mod order;
 mod tails;
 
 pub use encoder::encode;

@@ -1,31 +1,24 @@
-use Rattle.std.proofs.Common.{◌≡◌, ◌++◌, ℕ, List, Option, Some, length, ap, subst, ◌∙◌}
-use Rattle.std.specs.Prelude.{IfSome}
+use Rattle.std.proofs.Common.{◌≡◌, ◌++◌, List, length, ap, ◌∙◌}
 use Rattle.lte_bits.specs.declared.bit.Bit.{Bit}
 use Rattle.lte_bits.specs.declared.bit.Cell.{Cell}
 use Rattle.sender_model.specs.ConstituentCoder.{zero_state, parities}
 use Rattle.sender_model.specs.CodedStreams.{cells_of, null_filled, coded, interleaved}
 use Rattle.sender_model.specs.Tail.{reached}
-use Rattle.qpp_table.specs.Qpp.{value_at}
-use Rattle.qpp_table.specs.declared.interleaver.Qpp.{Qpp}
 use Rattle.turbo_encode.specs.Order.{in_order}
 use Rattle.turbo_encode.proofs.StreamsMade.{natural_order, interleaved_order, length-interleaved, streams-made}
 use Rattle.turbo_encode.proofs.encoder.encode.Goals as goal
-
--- the places of the interleaver that was found
-places_of_some : (found : Option Qpp) (q : Qpp) (order : ℕ → ℕ) → found ≡ Some q → IfSome found (λ q. (i : ℕ) → value_at q i ≡ order i) → (i : ℕ) → value_at q i ≡ order i
-places_of_some found q order is places = subst (λ (o : Option Qpp). IfSome o (λ q. (i : ℕ) → value_at q i ≡ order i)) is places
 
 pub returns : goal.returns
 returns c =
     let bits = c.as_slice-bits.result.now in let fill = c.args.block.now.fill in
     let own = c.in_ok-own.own in let first = c.in_ok-first.first in let second = c.in_ok-second.second in
     let tails = c.new-tails.result in
-    let order = interleaved_order bits (value_at c.unwrap-interleaver.result) (places_of_some c.qpp.result c.unwrap-interleaver.result _ c.unwrap-interleaver.ensures c.qpp.ensures.place) in
+    let order = interleaved_order bits c.of_size.result.f1 c.of_size.result.f2 c.of_size.ensures.f1 c.of_size.ensures.f2 in
     let own_cells : own.items ≡ null_filled fill bits = c.in_ok-own.ensures in
-    let first_cells : first.cells.items ≡ null_filled fill (parities (in_order (λ i. i) (length bits) bits)) = c.in_ok-first.ensures.cells in
-    let first_end : first.end ≡ reached zero_state (in_order (λ i. i) (length bits) bits) = c.in_ok-first.ensures.end in
-    let second_cells : second.cells.items ≡ null_filled 0 (parities (in_order (value_at c.unwrap-interleaver.result) (length bits) bits)) = c.in_ok-second.ensures.cells in
-    let second_end : second.end ≡ reached zero_state (in_order (value_at c.unwrap-interleaver.result) (length bits) bits) = c.in_ok-second.ensures.end in
+    let first_cells : first.cells.items ≡ null_filled fill (parities (in_order (length bits) 1 0 bits)) = c.in_ok-first.ensures.cells in
+    let first_end : first.end ≡ reached zero_state (in_order (length bits) 1 0 bits) = c.in_ok-first.ensures.end in
+    let second_cells : second.cells.items ≡ null_filled 0 (parities (in_order (length bits) c.of_size.result.f1 c.of_size.result.f2 bits)) = c.in_ok-second.ensures.cells in
+    let second_end : second.end ≡ reached zero_state (in_order (length bits) c.of_size.result.f1 c.of_size.result.f2 bits) = c.in_ok-second.ensures.end in
     let d0 : c.in_ok-ended.field-0 ≡ own.items ++ cells_of tails.d0 = c.in_ok-ended.ensures in
     let d1 : c.in_ok-ended-2.field-0 ≡ first.cells.items ++ cells_of tails.d1 = c.in_ok-ended-2.ensures in
     let d2 : c.in_ok-ended-3.field-0 ≡ second.cells.items ++ cells_of tails.d2 = c.in_ok-ended-3.ensures in
