@@ -8,6 +8,9 @@ pub mod planning;
 pub mod plans;
 pub mod round_trip;
 mod sizes;
+#[cfg(test)]
+mod tests;
 
 pub use cutting::cut;
-pub use planning::{BadLength, MOST_BYTES, fill, size};
+pub use joining::uncut;
+pub use planning::{BadLength, MOST_BYTES, fill, plan, size};
