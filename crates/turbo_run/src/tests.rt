@@ -52,7 +52,6 @@ const BYTE_01: [u8; 15] = [
     0x72, 0x68, 0x66, 0xCA, 0x04, 0xE3, 0x0D, 0xEC, 0x81, 0x01, 0xA1, 0x0B, 0x54, 0xC8, 0x90,
 ];
 
-/// Shows too that a run with ample memory isn't out of memory.
 #[test]
 fn codewords_are_written_whole_in_pieces_of_1_and_7(rt: HostRuntime) -> Result<(), Fail> {
     let g132 = ["codeword", "g=132", "qm=2", "rv=0"];
@@ -103,7 +102,7 @@ fn words_that_are_not_built_are_refused(rt: HostRuntime) -> Result<(), Fail> {
 }
 
 #[test]
-fn the_run_with_a_runtime_answers_as_the_run_alone(rt: HostRuntime) -> Result<(), Fail> {
+fn a_run_with_ample_memory_is_not_out_of_memory(rt: HostRuntime) -> Result<(), Fail> {
     let words = ["codeword", "g=132", "qm=2", "rv=0"];
     let mut source = SteadySource::new(list_of(rt.alloc(), &[0x00, 0x01])?);
     let mut out = MemSink::new(rt.alloc(), 100, list_of(rt.alloc(), &[])?);
