@@ -10,3 +10,6 @@ pub use bit::{Bit, Cell};
 pub use block::{Block, Streams};
 pub use list::{List, NoMemory};
 pub use packing::{pack, unpack};
+
+#[cfg(test)]
+mod tests;

@@ -59,13 +59,26 @@ Ended a old new (WriteFault Report) = (front after : List Part) × (n : ℕ) × 
 Ended a old new NoMemory = (front after : List Part) × Stands a old new front after
     × ((more : List ℕ) × IsWithin a.due after (length more) × TookPast old new front more)
 
--- which count rose, where the ending is a fault
-abbrev pub Causes : (reads0 reads1 outs0 outs1 lines0 lines1 : ℕ) → Status → Type 0
-Causes reads0 reads1 outs0 outs1 lines0 lines1 ReadFault = Rose reads0 reads1
-Causes reads0 reads1 outs0 outs1 lines0 lines1 (WriteFault Out) = Rose outs0 outs1
-Causes reads0 reads1 outs0 outs1 lines0 lines1 (WriteFault Report) = Rose lines0 lines1
-Causes reads0 reads1 outs0 outs1 lines0 lines1 (BadWords number place) = ⊥
-Causes reads0 reads1 outs0 outs1 lines0 lines1 _ = Unit {0}
+-- the counts of faults of the source and of the two sinks
+pub record Counts : Type 0 where
+  pub reads : ℕ
+  pub outs : ℕ
+  pub lines : ℕ
+
+abbrev pub counts : ℕ → ℕ → ℕ → Counts
+counts reads outs lines = record { reads = reads; outs = outs; lines = lines }
+
+-- which count rose, where the ending is a fault; never a refusal of the words
+abbrev pub Causes : Counts → Counts → Status → Type 0
+Causes old new ReadFault = Rose old.reads new.reads
+Causes old new (WriteFault Out) = Rose old.outs new.outs
+Causes old new (WriteFault Report) = Rose old.lines new.lines
+Causes old new (BadWords number place) = ⊥
+Causes old new _ = Unit {0}
+
+-- no count rose
+abbrev pub IsQuiet : Counts → Counts → Type 0
+IsQuiet old new = (Rose old.reads new.reads → ⊥) × (Rose old.outs new.outs → ⊥) × (Rose old.lines new.lines → ⊥)
 
 -- a text added to `out` and then a line to the report, or as much of them as was written before a write failed
 abbrev pub Puts : {T : Type 0} → (out0 out1 report0 report1 : Option (List ℕ)) → (text line : List ℕ) → Result T SinkName → Type 0

@@ -1,7 +1,7 @@
 //! The loop over a command's work.
 ghost use Rattle.std.specs.Prelude.{◌≡◌, ◌≤◌, ℕ, List, Some};
 ghost use Rattle.edge_io.specs.Edge.{Rose};
-ghost use Rattle.run_loop.specs.Ended.{Ended, held, Puts, Causes};
+ghost use Rattle.run_loop.specs.Ended.{Ended, held, counts, Puts, Causes};
 ghost use Rattle.run_loop.specs.Answer.{opened};
 
 use crate::{Next, SinkName, Status, Work};
@@ -45,8 +45,9 @@ pub fn drive<W: Work, S: Source, D: Sink, R: Sink>(
         Ended (opened opening.now (W.answer work.old input))
         (held (S.left source.old) (D.held out.old) (R.held report.old))
         (held (S.left source.new) (D.held out.new) (R.held report.new)) result }
-    ensures causes { Causes (S.faults source.old) (S.faults source.new)
-        (D.faults out.old) (D.faults out.new) (R.faults report.old) (R.faults report.new) result }
+    ensures causes { Causes
+        (counts (S.faults source.old) (D.faults out.old) (R.faults report.old))
+        (counts (S.faults source.new) (D.faults out.new) (R.faults report.new)) result }
     ensures source_later { S.faults source.old ≤ S.faults source.new }
     ensures out_later { D.faults out.old ≤ D.faults out.new }
     ensures report_later { R.faults report.old ≤ R.faults report.new }

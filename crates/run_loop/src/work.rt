@@ -17,9 +17,15 @@ pub enum Next {
         wants: usize,
     },
     /// No block any more: what closes `out`, and the report's last line.
-    End { closing: Vec<u8>, last: Vec<u8> },
+    End {
+        closing: Vec<u8>,
+        last: Vec<u8>,
+    },
     /// The input is refused at a byte.
-    Bad { number: u8, place: u64 },
+    Bad {
+        number: u8,
+        place: u64,
+    },
     /// The source failed.
     Fault,
     /// Memory was wanting.

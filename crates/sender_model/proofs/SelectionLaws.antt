@@ -1,5 +1,5 @@
 -- Some bit of a buffer that keeps v0 is sent, and the pieces add up.
-use Rattle.std.proofs.Common.{◌≡◌, ℕ, zero, suc, ◌+◌, ◌-◌, ◌*◌, ◌/◌, ◌%◌, ◌<◌, ◌≤◌, Bool, true, false, List, [], ◌∷◌, ◌++◌, length, filter, get_or, replicate, slice_index_or, cond, refl, ap, ◌∙◌, arith}
+use Rattle.std.proofs.Common.{None, Some, Option, subst, ◌≡◌, ℕ, zero, suc, ◌+◌, ◌-◌, ◌*◌, ◌/◌, ◌%◌, ◌<◌, ◌≤◌, Bool, true, false, List, [], ◌∷◌, ◌++◌, length, filter, get_or, replicate, slice_index_or, cond, refl, ap, ◌∙◌, arith}
 use Rattle.std.proofs.lemmas.Grind.{common_steps}
 use Rattle.std.proofs.lemmas.Bool.{lt-ltb}
 use Rattle.std.proofs.lemmas.List.{get_or-append_right}
@@ -13,7 +13,8 @@ use Rattle.lte_bits.specs.declared.bit.Bit.TheVariants.{Zero, One}
 use Rattle.lte_bits.specs.declared.block.Block.{Block}
 use Rattle.lte_bits.specs.declared.block.Streams.{Streams}
 use Rattle.sender_model.specs.CodedStreams.{streams, cell_of, cells_of, null_filled}
-use Rattle.sender_model.specs.CircularBuffer.{column_order, rows_of, padded, read_place, w}
+use Rattle.sender_model.specs.CircularBuffer.{column_order, rows_of, padded, read_place, w, Match, Fits, FitsIn, buffer_length}
+use Rattle.sender_model.specs.Segmentation.{Plan, size}
 use Rattle.sender_model.specs.Selection.{is_bit, rotation, bits_from}
 
 -- ---- the last place of v0
@@ -117,3 +118,23 @@ first_stream b fits =
     let front : List Cell = null_filled b.fill b.bits in
     let long : length front ≡ length b.bits = length-null_filled b.fill b.bits fits in
     (grind (arith, common_steps, long), ends_with_bit front (length b.bits) _ _ _ _ long)
+
+-- ---- under `Fits`
+
+rows-grow : (k m : ℕ) → k ≤ m → rows_of k ≤ rows_of m
+rows-grow k m below =
+    let a : 32 * ((k + 4) / 32) + (k + 4) % 32 ≡ k + 4 = div-add-mod (k + 4) 32 in
+    let b : 32 * ((m + 4) / 32) + (m + 4) % 32 ≡ m + 4 = div-add-mod (m + 4) 32 in
+    omega (arith, a, b, below, mod_below (k + 4) 32 (omega arith), mod_below (m + 4) 32 (omega arith))
+
+-- a buffer that fits the largest block keeps all of v0 of each
+fit_keeps : (limit : Option ℕ) (c k m : ℕ) → k ≤ m → FitsIn limit c m → 32 * rows_of k ≤ buffer_length limit c k
+fit_keeps None c k m below fits = omega arith
+fit_keeps (Some limit) c k m below fits = omega (arith, rows-grow k m below, fits)
+
+pub fitting_bit : (plan : Plan) (m : Match) (r start : ℕ) (b : Block) → b.fill ≤ length b.bits → length b.bits ≡ size plan r → size plan r ≤ plan.k_plus → Fits m plan →
+    0 < length (bits_from (w (size plan r) (streams b)) start (buffer_length m.limit plan.c (size plan r)))
+fitting_bit plan m r start b fills long below fits =
+    let first = first_stream b fills in
+    some_bit (size plan r) (buffer_length m.limit plan.c (size plan r)) start (streams b) (first.0 ∙ ap (λ (n : ℕ). n + 4) long)
+    (subst (λ (n : ℕ). is_bit (slice_index_or (streams b).d0 (n + 3) Null) ≡ true) long first.1) (fit_keeps m.limit plan.c (size plan r) plan.k_plus below fits)

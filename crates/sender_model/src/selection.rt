@@ -6,15 +6,22 @@ ghost use Rattle.lte_bits.specs.declared.bit.Cell.{Cell};
 ghost use Rattle.lte_bits.specs.declared.block.Block.{Block};
 ghost use Rattle.lte_bits.specs.declared.block.Streams.{Streams};
 ghost use Rattle.sender_model.specs.CheckBits.{digits};
-ghost use Rattle.sender_model.specs.Segmentation.{plan_of};
+ghost use Rattle.sender_model.specs.Segmentation.{Plan, plan_of, size};
 ghost use Rattle.sender_model.specs.CodedStreams.{cells_of, streams};
-ghost use Rattle.sender_model.specs.CircularBuffer.{Match, piece_length, rows_of, start, w};
+ghost use Rattle.sender_model.specs.CircularBuffer.{Fits, Match, buffer_length, piece_length, rows_of, start, w};
 ghost use Rattle.sender_model.specs.Selection.{is_bit, bits_from, sent};
 
 /// A buffer that keeps all of v0, of a code block's streams, has a bit to send: V isn't empty.
 pub fn some_bit_is_kept()
     ensures { (b : Block) (n start : ℕ) → b.fill ≤ length b.bits → 32 * rows_of (length b.bits) ≤ n →
         0 < length (bits_from (w (length b.bits) (streams b)) start n) }
+{}
+
+/// The same under `Fits`, for each block of a plan, from any place on.
+pub fn some_bit_is_kept_where_it_fits()
+    ensures { (plan : Plan) (m : Match) (r start : ℕ) (b : Block) →
+        b.fill ≤ length b.bits → length b.bits ≡ size plan r → size plan r ≤ plan.k_plus → Fits m plan →
+        0 < length (bits_from (w (size plan r) (streams b)) start (buffer_length m.limit plan.c (size plan r))) }
 {}
 
 /// The blocks of a transport block send G bits together.

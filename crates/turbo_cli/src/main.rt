@@ -4,9 +4,8 @@
 
 use edge_io::{StdSink, StdSource};
 use std::alloc::{AllocError, Global};
-use std::env;
-use std::io;
 use std::process::ExitCode;
+use std::{env, io};
 use turbo_run::{Status, run};
 
 /// The words after the program's name.
@@ -49,13 +48,6 @@ fn main(rt: HostRuntime) -> ExitCode {
     let mut source = StdSource::new(rt.stdin());
     let mut out = StdSink::new(rt.stdout());
     let mut report = StdSink::new(rt.stderr());
-    let status = run(
-        &rt,
-        rt.alloc(),
-        &words,
-        &mut source,
-        &mut out,
-        &mut report,
-    );
+    let status = run(&rt, rt.alloc(), &words, &mut source, &mut out, &mut report);
     ExitCode::from(status.exit())
 }

@@ -1,3 +1,4 @@
 mod CellSteps
 mod TailBits
 mod StreamsMade
+mod WalkSteps

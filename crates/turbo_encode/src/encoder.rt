@@ -1,27 +1,26 @@
 //! The coded streams of a code block.
-ghost use Rattle.std.specs.Prelude.{◌≡◌, ◌≤◌, IfOk, length};
+ghost use Rattle.std.specs.Prelude.{◌≡◌, ◌≤◌, Contains, IfOk, length};
 ghost use Rattle.sender_model.specs.CodedStreams.{streams};
-ghost use Rattle.turbo_encode.specs.Sizes.{IsEncodable};
+ghost use Rattle.sender_model.specs.Interleaver.{sizes};
 
 use crate::cells::{ended, systematic};
 use crate::constituent::code;
-use crate::interleaver::{Natural, Qpp};
+use crate::order::Order;
 use crate::tails::Tails;
 use lte_bits::{Block, NoMemory, Streams};
 use std::alloc::Global;
 
-/// The three coded streams of a code block of K = 40 bits, each of K + 4 cells. `d0` and `d1` are
-/// `Null` at the fillers, and `d2` nowhere (36.212 5.1.3.2).
+/// The three coded streams of a code block of K bits, each of K + 4 cells. K is one of the 188 sizes
+/// (36.212, table 5.1.3-3). `d0` and `d1` are `Null` at the fillers, and `d2` nowhere (5.1.3.2).
 pub fn encode(alloc: Global, block: &Block) -> Result<Streams, NoMemory>
-    requires size { IsEncodable (length block.now.bits) }
+    requires size { Contains sizes (length block.now.bits) }
     requires fill { block.now.fill ≤ length block.now.bits }
     ensures { IfOk result (λ s. s ≡ streams block.now) }
 {
     let bits = block.bits.as_slice();
-    let natural = Natural { size: bits.len() };
     let own = systematic(alloc, bits, block.fill)?;
-    let first = code(alloc, bits, &natural, block.fill)?;
-    let second = code(alloc, bits, &Qpp::of_size(bits.len()), 0)?;
+    let first = code(alloc, bits, Order::NATURAL, block.fill)?;
+    let second = code(alloc, bits, Order::of_size(bits.len()), 0)?;
     let tails = Tails::new(first.end, second.end);
     Ok(Streams {
         d0: ended(own, tails.d0)?,

@@ -4,10 +4,12 @@
 mod cells;
 mod constituent;
 pub mod encoder;
-mod interleaver;
+mod order;
 mod tails;
 
 pub use encoder::encode;
 
 #[cfg(test)]
 mod tests;
+#[cfg(test)]
+mod vectors;

@@ -19,9 +19,12 @@ pub struct Tails {
 impl Tails {
     /// The tails of the coders that ended in two states.
     pub fn new(first: State, second: State) -> Tails
-        ensures d0 { result.d0 ≡ tail_input first 0 ∷ tail_parity first 1 ∷ tail_input second 0 ∷ tail_parity second 1 ∷ [] }
-        ensures d1 { result.d1 ≡ tail_parity first 0 ∷ tail_input first 2 ∷ tail_parity second 0 ∷ tail_input second 2 ∷ [] }
-        ensures d2 { result.d2 ≡ tail_input first 1 ∷ tail_parity first 2 ∷ tail_input second 1 ∷ tail_parity second 2 ∷ [] }
+        ensures d0 { result.d0 ≡ tail_input first 0 ∷ tail_parity first 1
+            ∷ tail_input second 0 ∷ tail_parity second 1 ∷ [] }
+        ensures d1 { result.d1 ≡ tail_parity first 0 ∷ tail_input first 2
+            ∷ tail_parity second 0 ∷ tail_input second 2 ∷ [] }
+        ensures d2 { result.d2 ≡ tail_input first 1 ∷ tail_parity first 2
+            ∷ tail_input second 1 ∷ tail_parity second 2 ∷ [] }
     {
         let [(x0, z0), (x1, z1), (x2, z2)] = tail_path(first);
         let [(y0, w0), (y1, w1), (y2, w2)] = tail_path(second);

@@ -1,7 +1,8 @@
 -- The one block of one or two bytes.
-use Rattle.std.proofs.Common.{◌≡◌, ℕ, ◌+◌, ◌-◌, ◌*◌, ◌≤◌, List, [], ◌++◌, length, take, drop, replicate, refl, ap, sym, subst, ◌∙◌, append_assoc, arith}
+use Rattle.std.proofs.Common.{◌≡◌, ℕ, ◌-◌, ◌*◌, ◌≤◌, List, [], ◌∷◌, ◌++◌, map, length, take, replicate, ap, sym, ◌∙◌, arith}
 use Rattle.std.proofs.lemmas.Grind.{common_steps}
 use Rattle.std.proofs.Math.Seq.{take-length}
+use Rattle.std.specs.List.{range_with_len}
 use Rattle.lte_bits.specs.declared.bit.Bit.{Bit}
 use Rattle.lte_bits.specs.declared.bit.Bit.TheVariants.{Zero}
 use Rattle.lte_bits.specs.declared.block.Block.{Block}
@@ -10,8 +11,8 @@ use Rattle.lte_bits.proofs.Unpacking.{length-unpacked}
 use Rattle.sender_model.specs.CheckBits.{crc, crc24a}
 use Rattle.sender_model.proofs.CheckBitLaws.{length-crc}
 use Rattle.sender_model.specs.Segmentation.{Plan, plan_of}
-use Rattle.sender_model.specs.CodeBlocks.{block, sequence}
-use Rattle.turbo_run.proofs.SmallPlan.{small_plan, plan_is_small}
+use Rattle.sender_model.specs.CodeBlocks.{block, blocks}
+use Rattle.turbo_run.proofs.SmallPlan.{plan_is_small}
 
 -- S has 40 bits
 sequence_long : (payload : List ℕ) → 1 ≤ length payload → length payload ≤ 2 → length (replicate (16 - 8 * length payload) Zero ++ unpacked payload ++ crc crc24a (unpacked payload)) ≡ 40
@@ -27,14 +28,11 @@ small_block payload some few =
     ap (λ (p : Plan). block p payload 0) (plan_is_small (length payload) some few)
     ∙ ap (λ (bits : List Bit). let b : Block = record { fill = 16 - 8 * length payload; bits = bits } in b) whole
 
--- three parts, one after the other
-pub three_parts : (none first second third b c : List Bit) (n m : ℕ) → none ≡ [] → m ≡ 0 → first ≡ take n none ++ replicate (n - m) Zero → second ≡ first ++ b → third ≡ second ++ c →
-    third ≡ replicate n Zero ++ b ++ c
-three_parts none first second third b c n m empty zero one two three =
-    three ∙ ap (λ (xs : List Bit). xs ++ c) (two ∙ ap (λ (xs : List Bit). xs ++ b) (one ∙ filled none n m empty zero))
-  where
-    filled : (none : List Bit) (n m : ℕ) → none ≡ [] → m ≡ 0 → take n none ++ replicate (n - m) Zero ≡ replicate n Zero
-    filled none n m empty zero = rw empty (rw zero (grind (arith, common_steps)))
+-- one block is all of them
+pub one_block : (payload : List ℕ) → 1 ≤ length payload → length payload ≤ 2 →
+    blocks (plan_of (length payload)) payload ≡ block (plan_of (length payload)) payload 0 ∷ []
+one_block payload some few =
+    ap (λ (n : ℕ). map (block (plan_of (length payload)) payload) (range_with_len 0 n)) (ap (λ (p : Plan). p.c) (plan_is_small (length payload) some few))
 
 pub small_size : (payload : List ℕ) → 1 ≤ length payload → length payload ≤ 2 → length (block (plan_of (length payload)) payload 0).bits ≡ 40
 small_size payload some few = ap (λ (b : Block). length b.bits) (small_block payload some few) ∙ sequence_long payload some few

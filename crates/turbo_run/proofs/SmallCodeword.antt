@@ -1,17 +1,15 @@
 -- The codeword of one block.
-use Rattle.std.proofs.Common.{◌≡◌, ℕ, ◌+◌, ◌-◌, ◌*◌, ◌/◌, ◌%◌, ◌≤◌, ◌<◌, List, [], ◌∷◌, ◌++◌, length, map, min, nat_lt, true, if◌then◌else◌, Bool, slice_index_or, refl, ap, sym, subst, ◌∙◌, arith}
+use Rattle.std.proofs.Common.{◌≡◌, ℕ, ◌+◌, ◌*◌, ◌/◌, ◌%◌, ◌≤◌, ◌<◌, List, length, map, min, nat_lt, true, if◌then◌else◌, slice_index_or, ap, subst, ◌∙◌, arith}
 use Rattle.std.specs.List.{range_with_len, flat_map}
-use Rattle.std.proofs.lemmas.Bool.{lt-ltb}
 use Rattle.std.proofs.lemmas.List.{append-nil}
 use Rattle.std.proofs.Math.Nat.{mod-one, div-one, div-add-mod}
 use Rattle.lte_bits.specs.declared.bit.Bit.{Bit}
-use Rattle.lte_bits.specs.declared.bit.Cell.{Cell}
 use Rattle.lte_bits.specs.declared.bit.Cell.TheVariants.{Null}
 use Rattle.lte_bits.specs.declared.block.Block.{Block}
 use Rattle.sender_model.specs.Segmentation.{Plan, plan_of}
 use Rattle.sender_model.specs.CodeBlocks.{block}
 use Rattle.sender_model.specs.CodedStreams.{streams}
-use Rattle.sender_model.specs.CircularBuffer.{w, buffer_size, piece_length, start}
+use Rattle.sender_model.specs.CircularBuffer.{w, piece_length, start}
 use Rattle.sender_model.specs.Selection.{is_bit, bit_of_cell, bits_from, repeated, sent}
 use Rattle.sender_model.specs.Codeword.{codeword, codeword_of}
 use Rattle.turbo_run.specs.Matching.{matching}

@@ -1,11 +1,11 @@
 -- What `codeword` is to write for an input.
-use Rattle.std.specs.Prelude.{◌≡◌, ℕ, ◌+◌, ◌≤◌, List, [], ◌∷◌, ◌++◌, length, nat_lt, ◌==◌, if◌then◌else◌, codes, decimal, Some, None}
+use Rattle.std.specs.Prelude.{◌≡◌, ℕ, ◌+◌, List, [], ◌∷◌, ◌++◌, length, nat_lt, ◌==◌, if◌then◌else◌, codes, decimal, Some, None}
 use Rattle.std.specs.declared.option.Option.{Option}
 use Rattle.lte_bits.specs.Packing.{packed}
 use Rattle.sender_model.specs.Codeword.{codeword}
 use Rattle.run_loop.specs.Answer.{Part, Answer, behind, refusal, closed}
 use Rattle.run_loop.specs.declared.work.Next.{Next}
-use Rattle.run_loop.specs.declared.work.Next.TheVariants.{Block, End, Bad, Fault, NoMemory}
+use Rattle.run_loop.specs.declared.work.Next.TheVariants.{Block, NoMemory}
 use Rattle.turbo_run.specs.Matching.{matching}
 
 -- `end bits G`

@@ -85,11 +85,7 @@ fn cell_at(streams: &Streams, k: usize, n: usize) -> Cell
 }
 
 /// The circular buffer of the streams of a block of `k` bits, whole: 3 * 32 * R cells.
-pub fn circular_buffer(
-    alloc: Global,
-    streams: &Streams,
-    k: usize,
-) -> Result<Vec<Cell>, NoMemory>
+pub fn circular_buffer(alloc: Global, streams: &Streams, k: usize) -> Result<Vec<Cell>, NoMemory>
     requires { k ≤ 6144 }
     ensures { IfOk result (λ cells. cells.items ≡ map (w k streams.now) (range_with_len 0 (buffer_size k))) }
 {

@@ -11,12 +11,7 @@ use turbo_encode::encode;
 
 /// The `g` bits that redundancy version `rv` sends of a payload, over a full buffer, where
 /// Q_m = 2 and N_L = 1.
-pub fn codeword(
-    alloc: Global,
-    payload: &[u8],
-    g: usize,
-    rv: usize,
-) -> Result<List<Bit>, NoMemory>
+pub fn codeword(alloc: Global, payload: &[u8], g: usize, rv: usize) -> Result<List<Bit>, NoMemory>
     requires some { 1 ≤ length payload.now }
     requires few { length payload.now ≤ 2 }
     requires even { g % 2 ≡ 0 }

@@ -14,3 +14,6 @@ mod words;
 pub use run_loop::{SinkName, Status};
 pub use running::{run, run_alone};
 pub use words::{Command, WordRefusal, read_words};
+
+#[cfg(test)]
+mod tests;

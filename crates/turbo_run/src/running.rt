@@ -1,8 +1,7 @@
 //! The top call.
-ghost use Rattle.std.specs.Prelude.{◌≡◌, ◌≤◌, ℕ, List, Some, IfOk, IfErr};
-ghost use Rattle.edge_io.specs.Edge.{Rose};
-ghost use Rattle.run_loop.specs.Ended.{Ended, held, Causes, IsEndingOf};
-ghost use Rattle.turbo_run.specs.Run.{answer_of, EndsAs, LeavesSinks};
+ghost use Rattle.std.specs.Prelude.{◌≡◌, IfErr};
+ghost use Rattle.run_loop.specs.Ended.{held, counts, Causes};
+ghost use Rattle.turbo_run.specs.Run.{EndsAs, Ends, Completes, HasCauses, Leaves};
 ghost use Rattle.turbo_run.specs.Words.{command_of, texts_of, IsLawful};
 
 use crate::coding::Coding;
@@ -25,17 +24,11 @@ fn codeword<S: Source, D: Sink, R: Sink>(
     ensures ended { EndsAs (Command.Codeword g)
         (held (S.left source.old) (D.held out.old) (R.held report.old))
         (held (S.left source.new) (D.held out.new) (R.held report.new)) result }
-    ensures causes { Causes (S.faults source.old) (S.faults source.new)
-        (D.faults out.old) (D.faults out.new) (R.faults report.old) (R.faults report.new) result }
+    ensures causes { Causes
+        (counts (S.faults source.old) (D.faults out.old) (R.faults report.old))
+        (counts (S.faults source.new) (D.faults out.new) (R.faults report.new)) result }
 {
-    drive(
-        alloc,
-        &mut Coding::new(g),
-        b"",
-        source,
-        out,
-        report,
-    )
+    drive(alloc, &mut Coding::new(g), b"", source, out, report)
 }
 
 /// Does a command.
@@ -50,8 +43,9 @@ fn perform<S: Source, D: Sink, R: Sink>(
     ensures ended { EndsAs command
         (held (S.left source.old) (D.held out.old) (R.held report.old))
         (held (S.left source.new) (D.held out.new) (R.held report.new)) result }
-    ensures causes { Causes (S.faults source.old) (S.faults source.new)
-        (D.faults out.old) (D.faults out.new) (R.faults report.old) (R.faults report.new) result }
+    ensures causes { Causes
+        (counts (S.faults source.old) (D.faults out.old) (R.faults report.old))
+        (counts (S.faults source.new) (D.faults out.new) (R.faults report.new)) result }
 {
     match command {
         Command::Codeword { g } => codeword(alloc, g, source, out, report),
@@ -72,29 +66,25 @@ pub fn run_alone<S: Source, D: Sink, R: Sink>(
         × (source.new ≡ source.old) × (out.new ≡ out.old) × (report.new ≡ report.old)) }
 
     // Otherwise the run ends as the command's answer says, or by a fault, or for want of memory.
-    ensures ends { IfOk (command_of (texts_of words.now)) (λ command.
-        (input : List ℕ) → S.left source.old ≡ Some input → Ended (answer_of command input)
+    ensures ends { Ends (texts_of words.now)
         (held (S.left source.old) (D.held out.old) (R.held report.old))
-        (held (S.left source.new) (D.held out.new) (R.held report.new)) result) }
+        (held (S.left source.new) (D.held out.new) (R.held report.new)) result }
 
     // Where no count rose, it ends as the answer says, or for want of memory.
-    ensures complete { IfOk (command_of (texts_of words.now)) (λ command.
-        (input : List ℕ) → S.left source.old ≡ Some input →
-        (Rose (S.faults source.old) (S.faults source.new) → ⊥) →
-        (Rose (D.faults out.old) (D.faults out.new) → ⊥) →
-        (Rose (R.faults report.old) (R.faults report.new) → ⊥) →
-        IsEndingOf (answer_of command input).ending result) }
+    ensures complete { Completes (texts_of words.now)
+        (held (S.left source.old) (D.held out.old) (R.held report.old))
+        (counts (S.faults source.old) (D.faults out.old) (R.faults report.old))
+        (counts (S.faults source.new) (D.faults out.new) (R.faults report.new)) result }
 
     // Each fault was counted, and accepted words are never refused.
-    ensures causes { IfOk (command_of (texts_of words.now)) (λ _.
-        Causes (S.faults source.old) (S.faults source.new)
-        (D.faults out.old) (D.faults out.new) (R.faults report.old) (R.faults report.new) result) }
+    ensures causes { HasCauses (texts_of words.now)
+        (counts (S.faults source.old) (D.faults out.old) (R.faults report.old))
+        (counts (S.faults source.new) (D.faults out.new) (R.faults report.new)) result }
 
     // Nothing is gained where the input is refused, the source fails or memory is wanting.
-    ensures leaves { IfOk (command_of (texts_of words.now)) (λ _.
-        (input : List ℕ) → S.left source.old ≡ Some input → LeavesSinks
+    ensures leaves { Leaves (texts_of words.now)
         (held (S.left source.old) (D.held out.old) (R.held report.old))
-        (held (S.left source.new) (D.held out.new) (R.held report.new)) result) }
+        (held (S.left source.new) (D.held out.new) (R.held report.new)) result }
 {
     match read_words(words) {
         Err(refusal) => Status::BadWords {
@@ -119,23 +109,19 @@ pub fn run<H: Threads + Wait + Sync, S: Source, D: Sink, R: Sink>(
     ensures refused { IfErr (command_of (texts_of words.now)) (λ refusal.
         (result ≡ Status.BadWords refusal.number refusal.place)
         × (source.new ≡ source.old) × (out.new ≡ out.old) × (report.new ≡ report.old)) }
-    ensures ends { IfOk (command_of (texts_of words.now)) (λ command.
-        (input : List ℕ) → S.left source.old ≡ Some input → Ended (answer_of command input)
+    ensures ends { Ends (texts_of words.now)
         (held (S.left source.old) (D.held out.old) (R.held report.old))
-        (held (S.left source.new) (D.held out.new) (R.held report.new)) result) }
-    ensures complete { IfOk (command_of (texts_of words.now)) (λ command.
-        (input : List ℕ) → S.left source.old ≡ Some input →
-        (Rose (S.faults source.old) (S.faults source.new) → ⊥) →
-        (Rose (D.faults out.old) (D.faults out.new) → ⊥) →
-        (Rose (R.faults report.old) (R.faults report.new) → ⊥) →
-        IsEndingOf (answer_of command input).ending result) }
-    ensures causes { IfOk (command_of (texts_of words.now)) (λ _.
-        Causes (S.faults source.old) (S.faults source.new)
-        (D.faults out.old) (D.faults out.new) (R.faults report.old) (R.faults report.new) result) }
-    ensures leaves { IfOk (command_of (texts_of words.now)) (λ _.
-        (input : List ℕ) → S.left source.old ≡ Some input → LeavesSinks
+        (held (S.left source.new) (D.held out.new) (R.held report.new)) result }
+    ensures complete { Completes (texts_of words.now)
         (held (S.left source.old) (D.held out.old) (R.held report.old))
-        (held (S.left source.new) (D.held out.new) (R.held report.new)) result) }
+        (counts (S.faults source.old) (D.faults out.old) (R.faults report.old))
+        (counts (S.faults source.new) (D.faults out.new) (R.faults report.new)) result }
+    ensures causes { HasCauses (texts_of words.now)
+        (counts (S.faults source.old) (D.faults out.old) (R.faults report.old))
+        (counts (S.faults source.new) (D.faults out.new) (R.faults report.new)) result }
+    ensures leaves { Leaves (texts_of words.now)
+        (held (S.left source.old) (D.held out.old) (R.held report.old))
+        (held (S.left source.new) (D.held out.new) (R.held report.new)) result }
 {
     run_alone(alloc, words, source, out, report)
 }

@@ -1,21 +1,22 @@
-use Rattle.std.proofs.Common.{◌≡◌, ℕ, ◌-◌, ◌*◌, List, [], ◌++◌, length, replicate, ap, sym, ◌∙◌}
-use Rattle.lte_bits.specs.declared.bit.Bit.{Bit}
-use Rattle.lte_bits.specs.declared.bit.Bit.TheVariants.{Zero}
+use Rattle.std.proofs.Common.{◌≡◌, ℕ, List, [], ◌∷◌, length, slice_index_or, ap, ◌∙◌, arith}
 use Rattle.lte_bits.specs.declared.block.Block.{Block}
-use Rattle.lte_bits.specs.Packing.{unpacked}
-use Rattle.sender_model.specs.CheckBits.{crc, crc24a}
-use Rattle.turbo_run.proofs.SmallBlock.{small_block, three_parts}
+use Rattle.sender_model.specs.Segmentation.{plan_of}
+use Rattle.sender_model.specs.CodeBlocks.{block, blocks}
+use Rattle.turbo_run.proofs.SmallBlock.{one_block}
 use Rattle.turbo_run.proofs.code_block.code_block.Goals as goal
+
+pub remove-requires : goal.remove-requires
+remove-requires c =
+    let payload = c.args.payload.now in
+    let bytes : c.unwrap-plan.result.bytes ≡ length payload = rw c.unwrap-plan.ensures at c.plan.ensures.bytes in
+    let one : c.into_vec-blocks.result.items ≡ block (plan_of (length payload)) payload 0 ∷ [] =
+    c.into_vec-blocks.ensures ∙ c.in_ok-cut.ensures.blocks ∙ ap (λ (n : ℕ). blocks (plan_of n) payload) bytes ∙ one_block payload c.requires.some c.requires.few in
+    omega (arith, ap length one, c.into_vec-blocks.result.ok)
 
 pub returns : goal.returns
 returns c =
     let payload = c.args.payload.now in
-    let fill : ℕ = 16 - 8 * length payload in
-    let bits : c.as_slice-payload_bits.result.now ≡ unpacked payload = c.as_slice-payload_bits.ensures ∙ c.in_ok-unpacked.ensures in
-    let check : c.crc24a.result ≡ crc crc24a (unpacked payload) = c.crc24a.ensures.value ∙ ap (crc crc24a) bits in
-    let all : c.from_vec.result ≡ replicate fill Zero ++ unpacked payload ++ crc crc24a (unpacked payload) =
-    c.from_vec.ensures
-    ∙ three_parts c.in_ok-bits.bits.items c.resize.new.self.items c.extend_from_slice.new.self.items c.extend_from_slice-2.new.self.items c.as_slice-payload_bits.result.now c.crc24a.result fill _ c.in_ok-bits.ensures.items c.in_ok-bits.ensures.len c.in_ok-resize.ensures.items c.in_ok-extend_from_slice.ensures.items c.in_ok-extend_from_slice-2.ensures.items
-    ∙ ap (λ (bs : List Bit). replicate fill Zero ++ bs ++ c.crc24a.result) bits
-    ∙ ap (λ (cs : List Bit). replicate fill Zero ++ unpacked payload ++ cs) check in
-    ap (λ (bs : List Bit). let b : Block = record { fill = fill; bits = bs } in b) all ∙ sym (small_block payload c.requires.some c.requires.few)
+    let bytes : c.unwrap-plan.result.bytes ≡ length payload = rw c.unwrap-plan.ensures at c.plan.ensures.bytes in
+    let one : c.into_vec-blocks.result.items ≡ block (plan_of (length payload)) payload 0 ∷ [] =
+    c.into_vec-blocks.ensures ∙ c.in_ok-cut.ensures.blocks ∙ ap (λ (n : ℕ). blocks (plan_of n) payload) bytes ∙ one_block payload c.requires.some c.requires.few in
+    c.remove.ensures.value ∙ ap (λ (bs : List Block). slice_index_or bs 0 c.remove.result) one

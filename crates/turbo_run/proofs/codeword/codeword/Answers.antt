@@ -1,13 +1,13 @@
-use Rattle.std.proofs.Common.{◌≡◌, ℕ, ◌≤◌, ◌<◌, ◌*◌, length, List, map, subst, sym, ap, ◌∙◌, arith}
-use Rattle.lte_bits.specs.declared.bit.Bit.{Bit}
+use Rattle.std.proofs.Common.{◌≡◌, ℕ, ◌<◌, length, Contains, map, subst, sym, ap, ◌∙◌, arith}
 use Rattle.lte_bits.specs.declared.block.Block.{Block}
 use Rattle.lte_bits.specs.declared.block.Streams.{Streams}
+use Rattle.sender_model.specs.Interleaver.{sizes}
 use Rattle.sender_model.specs.Segmentation.{plan_of}
 use Rattle.sender_model.specs.CodeBlocks.{block}
 use Rattle.sender_model.specs.CodedStreams.{streams}
 use Rattle.sender_model.specs.CircularBuffer.{w, start}
 use Rattle.sender_model.specs.Selection.{bit_of_cell, bits_from, repeated}
-use Rattle.sender_model.proofs.SelectionLaws.{some_bit, first_stream}
+use Rattle.sender_model.proofs.SizeTable.{size_40}
 use Rattle.turbo_run.proofs.OkAs.{ok_as}
 use Rattle.turbo_run.proofs.SmallBlock.{small_size, small_fill}
 use Rattle.turbo_run.proofs.SmallCodeword.{small_codeword, small_some}
@@ -15,7 +15,8 @@ use Rattle.turbo_run.proofs.codeword.codeword.Goals as goal
 
 pub encode-requires-clause-size : goal.encode-requires-clause-size
 encode-requires-clause-size c =
-    ap (λ (b : Block). length b.bits) c.in_ok-block.ensures ∙ small_size c.args.payload.now c.requires.some c.requires.few
+    let size : length c.in_ok-block.block.bits ≡ 40 = ap (λ (b : Block). length b.bits) c.in_ok-block.ensures ∙ small_size c.args.payload.now c.requires.some c.requires.few in
+    subst (λ (k : ℕ). Contains sizes k) (sym size) size_40
 
 pub encode-requires-clause-fill : goal.encode-requires-clause-fill
 encode-requires-clause-fill c =
@@ -36,5 +37,5 @@ returns c =
     let is : c.in_ok-streams.streams ≡ streams (block (plan_of (length payload)) payload 0) = c.in_ok-streams.ensures ∙ ap streams c.in_ok-block.ensures in
     ok_as c.sent.result _ _
     (ap (λ (s : Streams). map (λ p. bit_of_cell (w 40 s p)) (repeated (bits_from (w 40 s) (start 40 192 rv) 192) g)) is
-        ∙ sym (small_codeword payload g rv c.requires.some c.requires.few c.requires.even))
+    ∙ sym (small_codeword payload g rv c.requires.some c.requires.few c.requires.even))
     c.sent.ensures

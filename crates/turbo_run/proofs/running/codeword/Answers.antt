@@ -1,5 +1,4 @@
-use Rattle.std.proofs.Common.{◌≡◌, ℕ, [], Some, None, sym, subst, ap, ◌∙◌}
-use Rattle.std.specs.declared.option.Option.{Option}
+use Rattle.std.proofs.Common.{◌≡◌, ℕ, [], subst, ap}
 use Rattle.run_loop.specs.Answer.{Answer, opened}
 use Rattle.run_loop.specs.Ended.{held, Ended}
 use Rattle.turbo_run.specs.Codeword.{codeword_answer, codeword_rest, CodewordFits}

@@ -1,9 +1,9 @@
-use Rattle.std.proofs.Common.{ℕ, ◌≡◌, ◌<◌, ◌≤◌, ◌*◌, Bool, true, length, map, slice_index_or, List, Vec, Global, ap, sym, ◌∙◌, arith}
+use Rattle.std.proofs.Common.{ℕ, ◌≡◌, ◌<◌, ◌*◌, Bool, length, slice_index_or, Vec, Global, ap, sym, ◌∙◌, arith}
 use Rattle.std.proofs.lemmas.List.{length_push, get_or_default}
 use Rattle.lte_bits.specs.declared.bit.Bit.{Bit}
 use Rattle.lte_bits.specs.declared.bit.Cell.TheVariants.{Zero, Null}
 use Rattle.sender_model.specs.Selection.{is_bit, bit_of_cell}
-use Rattle.turbo_run.proofs.Walked.{walked, next_place}
+use Rattle.turbo_run.proofs.Walked.{next_place}
 use Rattle.turbo_run.proofs.Selected.{selected_done, selected_all, selected_kept, selected_left, place_in}
 use Rattle.turbo_run.proofs.selection.select.Goals as goal
 use Rattle.turbo_run.proofs.selection.select.Goals.{in-Some+in_ok-push, in_default}

@@ -1,6 +1,5 @@
 use Rattle.std.proofs.Common.{◌≡◌, ℕ, ◌<◌, ◌*◌, length, List, slice_index_or, map, subst, sym, ap, ◌∙◌, arith}
 use Rattle.std.specs.List.{range_with_len}
-use Rattle.lte_bits.specs.declared.bit.Bit.{Bit}
 use Rattle.lte_bits.specs.declared.bit.Cell.{Cell}
 use Rattle.lte_bits.specs.declared.bit.Cell.TheVariants.{Null}
 use Rattle.sender_model.specs.CircularBuffer.{w, buffer_size, start}
@@ -34,5 +33,5 @@ returns c =
     let from : c.start-start.result ≡ start k (buffer_size k) c.args.rv = c.start-start.ensures ∙ ap (λ (r : ℕ). start k (96 * r) c.args.rv) c.rows_of.ensures.value in
     ok_as c.select.result _ _
     (ap (λ (k0 : ℕ). map (λ p. bit_of_cell (slice_index_or items p Null)) (repeated (bits_from (λ p. slice_index_or items p Null) k0 (length items)) c.args.count)) from
-        ∙ written_sent items buffer (start k (buffer_size k) c.args.rv) (buffer_size k) c.args.count is c.requires.some)
+    ∙ written_sent items buffer (start k (buffer_size k) c.args.rv) (buffer_size k) c.args.count is c.requires.some)
     c.select.ensures

@@ -1,0 +1,32 @@
+//! Checksums of coded streams.
+ghost use Rattle.std.specs.Prelude.{◌≡◌, ◌≤◌, fold};
+ghost use Rattle.encode_speed.specs.Checksum.{basis, digit, mixed};
+
+use lte_bits::Cell;
+
+/// The byte that stands for a cell.
+fn digit(cell: Cell) -> u32
+    ensures { result ≡ digit cell }
+{
+    match cell {
+        Cell::Zero => 0,
+        Cell::One => 1,
+        Cell::Null => 2,
+    }
+}
+
+/// A checksum with a cell more.
+fn mixed(sum: u32, cell: Cell) -> u32
+    ensures { result ≡ mixed sum cell }
+{
+    (sum ^ digit(cell)).wrapping_mul(16_777_619)
+}
+
+/// The 32-bit FNV-1a checksum of cells, one byte each: 0, 1, and 2 for `Null`.
+pub fn checksum(cells: &[Cell]) -> u32
+    ensures { result ≡ fold mixed basis cells.now }
+{
+    cells
+        .iter()
+        .fold(2_166_136_261, |sum, cell| mixed(sum, *cell))
+}

@@ -1,0 +1,24 @@
+//! Why the program stops early.
+use lte_bits::NoMemory;
+use std::io;
+
+/// What kept the block from being encoded or reported on.
+#[derive(Debug, Drop)]
+pub enum Fault {
+    NoMemory,
+    Io(io::Error),
+    /// More blocks were encoded than can be counted.
+    TimeTooLong,
+}
+
+impl From<NoMemory> for Fault {
+    fn from(_error: NoMemory) -> Fault {
+        Fault::NoMemory
+    }
+}
+
+impl From<io::Error> for Fault {
+    fn from(error: io::Error) -> Fault {
+        Fault::Io(error)
+    }
+}
