@@ -1,5 +1,5 @@
 -- The sizes of a plan's blocks, and where each stands in S.
-use Rattle.std.proofs.Common.{◌≡◌, ℕ, zero, suc, ◌+◌, ◌-◌, ◌<◌, ◌≤◌, List, length, sym, ap, ◌∙◌, subst, inl, inr, arith}
+use Rattle.std.proofs.Common.{◌≡◌, ℕ, zero, suc, ◌+◌, ◌-◌, ◌<◌, ◌≤◌, List, length, subst, inl, inr, arith}
 use Rattle.std.proofs.lemmas.Bool.{cases_lt}
 use Rattle.sender_model.specs.Segmentation.{Plan, bits_of, carried, check_length, plan_of, size}
 use Rattle.sender_model.specs.CodeBlocks.{before, share, sequence}

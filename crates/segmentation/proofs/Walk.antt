@@ -1,14 +1,14 @@
 -- What a walk over the sizes finds first is the least or the greatest.
-use Rattle.std.proofs.Common.{◌≡◌, ◌≢◌, ℕ, zero, suc, ◌+◌, ◌-◌, ◌*◌, ◌/◌, ◌%◌, ◌<◌, ◌≤◌, ◌==◌, nat_le, nat_lt, min, Bool, true, false, ◌&&◌, cond, leb, List, [], ◌∷◌, length, get_or, find, filter, reverse, Contains, Option, Some, None, IsSome, unwrap_or, refl, sym, ap, ◌∙◌, subst, inl, inr, arith}
+use Rattle.std.proofs.Common.{◌≡◌, ℕ, ◌+◌, ◌-◌, ◌*◌, ◌<◌, ◌≤◌, nat_le, nat_lt, Bool, true, false, ◌&&◌, cond, leb, List, [], ◌∷◌, length, get_or, find, filter, reverse, Contains, Option, Some, None, IsSome, refl, sym, ap, ◌∙◌, subst, inl, inr, arith}
 use Rattle.std.specs.Int.{div_ceil}
-use Rattle.std.proofs.lemmas.Bool.{cases_lt, and_parts, leb-true, leb-false, le-leb, lt-ltb}
+use Rattle.std.proofs.lemmas.Bool.{cases_lt, and_parts, leb-true, le-leb, lt-ltb}
 use Rattle.std.proofs.lemmas.Grind.{div_ceil_times}
 use Rattle.std.proofs.lemmas.List.{get_or-reverse, length-reverse}
 use Rattle.std.proofs.Math.Nat.{mul-le-mul_right}
-use Rattle.sender_model.specs.Bits.{least, greatest}
+use Rattle.sender_model.specs.Bits.{greatest}
 use Rattle.sender_model.specs.Interleaver.{sizes}
-use Rattle.sender_model.specs.Segmentation.{larger_size, smaller_size}
-use Rattle.sender_model.proofs.Extremes.{Contains-more, Contains-cases, IsLeastPassing, IsGreatestPassing, least-one, greatest-one}
+use Rattle.sender_model.specs.Segmentation.{larger_size}
+use Rattle.sender_model.proofs.Extremes.{Contains-more, Contains-cases, least-one, greatest-one}
 use Rattle.sender_model.proofs.SizeTable.{size_40, size_6144}
 
 -- ---- a list in order

@@ -1,14 +1,13 @@
 -- What the blocks of a plan carry.
-use Rattle.std.proofs.Common.{◌≡◌, ℕ, zero, suc, ◌+◌, ◌-◌, ◌*◌, ◌<◌, ◌≤◌, ◌==◌, Bool, cond, List, [], ◌∷◌, ◌++◌, length, map, get_or, take, drop, min, refl, sym, ap, ◌∙◌, subst, arith, flat_map}
-use Rattle.std.specs.List.{range_with_len}
+use Rattle.std.proofs.Common.{◌≡◌, ℕ, zero, suc, ◌+◌, ◌-◌, ◌*◌, ◌<◌, ◌≤◌, Bool, cond, List, [], ◌∷◌, ◌++◌, length, map, get_or, take, drop, refl, sym, ap, ◌∙◌, subst, arith}
 use Rattle.std.proofs.lemmas.Bool.{ne_eqb}
 use Rattle.std.proofs.lemmas.List.{length-append, length-drop, length-take-le, take_more, take_all, get_or-map}
-use Rattle.std.proofs.lemmas.List.Concat.{flat_map-append, flat_map-cons}
+use Rattle.std.proofs.lemmas.List.Concat.{flat_map-append}
 use Rattle.std.proofs.lemmas.List.FromFn.{length-map-range_with_len, get_or-map-range_with_len}
 use Rattle.lte_bits.specs.declared.bit.Bit.{Bit}
 use Rattle.lte_bits.specs.declared.block.Block.{Block}
-use Rattle.sender_model.specs.Segmentation.{Plan, bits_of, carried, check_length, plan_of, size, fill}
-use Rattle.sender_model.specs.CodeBlocks.{before, share, whole}
+use Rattle.sender_model.specs.Segmentation.{Plan, bits_of, check_length, plan_of, size, fill}
+use Rattle.sender_model.specs.CodeBlocks.{before, whole}
 use Rattle.sender_model.proofs.PlanLaws.{IsSound, plan-sound, plan-count}
 use Rattle.sender_model.proofs.PlanShares.{before-more, before-whole}
 use Rattle.segmentation.specs.Shape.{AreBlocksOf}

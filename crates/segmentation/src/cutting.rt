@@ -16,7 +16,8 @@ use std::alloc::Global;
 fn sequence(alloc: Global, payload: &[u8], fillers: usize) -> Result<Vec<Bit>, NoMemory>
     requires length { length payload.now ≤ 18722 }
     requires few { fillers ≤ 6144 }
-    ensures { IfOk result (λ s. s.items ≡ replicate fillers Bit.Zero ++ unpacked payload.now ++ crc crc24a (unpacked payload.now)) }
+    ensures { IfOk result (λ s. s.items
+        ≡ replicate fillers Bit.Zero ++ unpacked payload.now ++ crc crc24a (unpacked payload.now)) }
 {
     let unpacked = unpack(alloc, payload)?;
     let bits = unpacked.as_slice();

@@ -1,6 +1,7 @@
 //! The plan of a transport block, and the sizes and fillers of its code blocks (36.212 5.1.2).
 ghost use Rattle.std.specs.Prelude.{◌≡◌, ◌≤◌, ◌<◌, ◌*◌, ◌↔◌, ◌⊎◌, IsOk, IsErr, IfOk};
-ghost use Rattle.sender_model.specs.Segmentation.{plan_of, count_of, check_length, smaller_count, size, fill};
+ghost use Rattle.sender_model.specs.Segmentation.{plan_of, count_of, check_length, smaller_count};
+ghost use Rattle.sender_model.specs.Segmentation.{size, fill};
 
 use crate::plans::Plan;
 use crate::sizes::{larger_size, smaller_size};
@@ -85,8 +86,8 @@ fn planned(bytes: usize) -> Plan
     }
 }
 
-/// The plan of a transport block of `bytes` bytes. `BadLength` comes exactly where `bytes` is outside
-/// 1 to 18,722.
+/// The plan of a transport block of `bytes` bytes. `BadLength` comes exactly where `bytes` is
+/// outside 1 to 18,722.
 pub fn plan(bytes: usize) -> Result<Plan, BadLength>
     ensures planned { IsOk result ↔ ((1 ≤ bytes) × (bytes ≤ 18722)) }
     ensures refused { IsErr result ↔ ((bytes ≡ 0) ⊎ (18722 < bytes)) }

@@ -3,8 +3,8 @@ ghost use Rattle.std.specs.Prelude.{◌≡◌, ◌≤◌};
 ghost use Rattle.sender_model.specs.Segmentation.{plan_of};
 
 /// The plan of a transport block of `bytes` bytes, 1 to 18,722 (36.212 5.1.2): C, K+, K-, C+, C-
-/// and F. The first `c_minus` blocks have `k_minus` bits, the others `k_plus`, and `f` fillers stand
-/// first in block 0.
+/// and F. The first `c_minus` of the `c` blocks have `k_minus` bits, the others `k_plus`, and `f`
+/// fillers stand first in block 0.
 #[derive(Clone, Copy, Debug, PartialEq, Eq)]
 pub struct Plan {
     pub bytes: usize,

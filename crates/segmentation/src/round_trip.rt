@@ -10,17 +10,18 @@ ghost use Rattle.segmentation.specs.Shape.{AreBlocksOf};
 /// check bits.
 pub fn blocks_carry_the_payload()
     ensures shape { (payload : List ℕ) → 1 ≤ length payload → length payload ≤ 18722 →
-        AreBlocksOf (plan_of (length payload)) (blocks (plan_of (length payload)) payload) }
+        let p = plan_of (length payload) in AreBlocksOf p (blocks p payload) }
     ensures whole { (payload : List ℕ) → 1 ≤ length payload → length payload ≤ 18722 →
-        whole (plan_of (length payload)) (blocks (plan_of (length payload)) payload)
-        ≡ unpacked payload ++ crc crc24a (unpacked payload) }
+        let p = plan_of (length payload) in
+        whole p (blocks p payload) ≡ unpacked payload ++ crc crc24a (unpacked payload) }
 {}
 
 /// So the blocks that `cut` gives are joined to the payload, and its check bits hold.
 pub fn joining_undoes_cutting()
-    ensures payload { (payload : List ℕ) → 1 ≤ length payload → length payload ≤ 18722 → All (λ byte. byte < 256) payload →
-        packed (take (8 * length payload) (whole (plan_of (length payload)) (blocks (plan_of (length payload)) payload)))
-        ≡ payload }
+    ensures payload { (payload : List ℕ) → 1 ≤ length payload → length payload ≤ 18722 →
+        All (λ byte. byte < 256) payload →
+        let p = plan_of (length payload) in
+        packed (take (8 * length payload) (whole p (blocks p payload))) ≡ payload }
     ensures holds { (payload : List ℕ) → 1 ≤ length payload → length payload ≤ 18722 →
-        IsMultiple crc24a (whole (plan_of (length payload)) (blocks (plan_of (length payload)) payload)) }
+        let p = plan_of (length payload) in IsMultiple crc24a (whole p (blocks p payload)) }
 {}

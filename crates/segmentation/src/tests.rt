@@ -19,8 +19,16 @@ fn plans_have_the_numbers_of_the_standard(rt: HostRuntime) -> Result<(), Fail> {
         let found = [p.c, p.k_plus, p.k_minus, p.c_plus, p.c_minus, p.f];
         assert_eq!(rt; found, numbers, "at {bytes}");
     }
-    assert_eq!(rt; plan(0), Err(BadLength));
-    assert_eq!(rt; plan(18723), Err(BadLength));
+    Ok(())
+}
+
+#[test]
+fn other_lengths_are_refused(rt: HostRuntime) -> Result<(), Fail> {
+    for bytes in [0, 18723] {
+        assert_eq!(rt; plan(bytes), Err(BadLength));
+    }
+    let text = format!(in rt.alloc(); "{BadLength}")?;
+    assert_eq!(rt; text.as_str(), "a transport block has 1 to 18722 bytes");
     Ok(())
 }
 

@@ -1,5 +1,5 @@
-use Rattle.std.proofs.Common.{◌≡◌, ◌≤◌, ℕ, ◌+◌, ◌-◌, ◌*◌, ap, ◌∙◌, arith}
-use Rattle.sender_model.specs.Segmentation.{Plan, bits_of, count_of, check_length, carried, larger_size, smaller_size, smaller_count, plan_of}
+use Rattle.std.proofs.Common.{◌≡◌, ◌≤◌, ℕ, ◌+◌, ◌*◌, ap, ◌∙◌, arith}
+use Rattle.sender_model.specs.Segmentation.{count_of, check_length, larger_size, smaller_size, smaller_count, plan_of}
 use Rattle.sender_model.proofs.PlanLaws.{plan-sound}
 use Rattle.segmentation.proofs.Computed.{AreThePlan, are_the_plan, plan-small, count-is, carried-is, larger-is, smaller-is, smaller_count-is}
 use Rattle.segmentation.proofs.planning.planned.Goals as goal

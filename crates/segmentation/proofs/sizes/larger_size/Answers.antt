@@ -1,4 +1,4 @@
-use Rattle.std.proofs.Common.{ℕ, List, nat_le, find, ap, ◌∙◌, sym, ◌≡◌, Option, Some, None}
+use Rattle.std.proofs.Common.{ℕ, List, nat_le, find, ap, ◌∙◌, sym, ◌≡◌, Option}
 use Rattle.std.specs.Int.{div_ceil}
 use Rattle.sender_model.specs.Interleaver.{sizes}
 use Rattle.segmentation.proofs.Walk.{larger-found, larger-some, is_some}
