@@ -4,8 +4,7 @@ ghost use Rattle.sender_model.specs.Segmentation.{plan_of};
 ghost use Rattle.sender_model.specs.CodeBlocks.{block};
 
 use lte_bits::{Block, NoMemory};
-use segmentation::cut;
-use segmentation::planning::plan;
+use segmentation::{cut, plan};
 use std::alloc::Global;
 
 /// K, the size of the block.
