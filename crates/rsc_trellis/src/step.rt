@@ -10,11 +10,7 @@ use lte_bits::Bit;
 pub(crate) fn plus(a: Bit, b: Bit) -> Bit
     ensures { result ≡ plus a b }
 {
-    match (a, b) {
-        (Bit::Zero, b) => b,
-        (Bit::One, Bit::Zero) => Bit::One,
-        (Bit::One, Bit::One) => Bit::Zero,
-    }
+    if a == b { Bit::Zero } else { Bit::One }
 }
 
 /// The state after the input `u`.
