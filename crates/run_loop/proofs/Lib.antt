@@ -1,4 +1,9 @@
-pub mod Reached
-pub mod Endings
-pub mod Complete
 pub mod Told
+pub mod Rises
+mod Lines
+mod Reached
+mod Blocks
+mod Endings
+pub mod Complete
+pub mod Headers
+pub mod Alone

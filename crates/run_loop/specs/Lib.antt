@@ -1,4 +1,9 @@
 pub mod Answer
-pub mod Step
+pub mod Due
+pub mod Edges
 pub mod Ended
+pub mod Step
+pub mod Puts
+pub mod Reply
+pub mod FaultLine
 pub mod Exit

@@ -1,32 +1,48 @@
--- What one step of a command's work answers.
-use Rattle.std.specs.Prelude.{◌≡◌, ℕ, ◌≤◌, ◌<◌, List, [], ◌∷◌, ◌++◌, length, Some}
+-- What one round of a command's work reads and gives.
+use Rattle.std.specs.Prelude.{◌≡◌, ℕ, ◌<◌, List, [], length, Some, map, Bool, true, false}
 use Rattle.std.specs.declared.option.Option.{Option}
 use Rattle.edge_io.specs.Edge.{Takes}
-use Rattle.run_loop.specs.Answer.{Part, Answer, behind, refusal, closed}
-use Rattle.run_loop.specs.declared.work.Next.{Next}
-use Rattle.run_loop.specs.declared.work.Next.TheVariants.{Block, End, Bad, Fault, NoMemory}
+use Rattle.run_loop.specs.Answer.{Part, Answer, Ending, finished, some_failed, bad, behind, size_of}
+use Rattle.run_loop.specs.Due.{IsDue, IsWithin}
+use Rattle.run_loop.specs.declared.work.Block.{Block}
+use Rattle.run_loop.specs.declared.work.Round.{Round}
+use Rattle.run_loop.specs.declared.work.Stop.{Stop}
+use Rattle.run_loop.specs.declared.work.Stop.TheVariants.{Go, End, Bad, Fault, NoMemory}
 
--- after n bytes the first block that is still to come isn't known whole, or with none to come the ending isn't known
-abbrev pub IsDue : (due : ℕ) → List Part → ℕ → Type 0
-IsDue due [] n = n < due
-IsDue due (p ∷ parts) n = n < p.wants
+abbrev pub part_of : Block → Part
+part_of block = record { text = block.text.items; line = block.line.items; size = block.size; wants = block.wants }
 
--- n bytes aren't past the first block that is still to come
-abbrev pub IsWithin : (due : ℕ) → List Part → ℕ → Type 0
-IsWithin due [] n = n < due
-IsWithin due (p ∷ parts) n = n ≤ p.size
+abbrev pub parts_of : List Block → List Part
+parts_of blocks = map part_of blocks
 
--- what a step that began with the answer `a` still to come took, answered and left
-abbrev pub Steps : Answer → (List ℕ → Answer) → (List ℕ → Type 0) → Option (List ℕ) → Option (List ℕ) → Next → Type 0
-Steps a after fits old new (Block text line wants) = (bytes rest : List ℕ) × (old ≡ Some (bytes ++ rest)) × (new ≡ Some rest)
-    × (a ≡ behind (record { text = text.items; line = line.items; size = length bytes; wants = wants } ∷ []) (after rest)) × fits rest
-Steps a after fits old new (End closing last) = (due : ℕ) × (old ≡ Some []) × (new ≡ Some []) × (a ≡ closed closing.items last.items due)
-Steps a after fits old new (Bad number place) = (bytes rest : List ℕ) × (due : ℕ) × (old ≡ Some (bytes ++ rest)) × (new ≡ Some rest)
-    × (a ≡ refusal number place (length bytes) due)
-Steps a after fits old new Fault = (bytes : List ℕ) × Takes old new bytes × IsDue a.due a.parts (length bytes)
-Steps a after fits old new NoMemory = (bytes : List ℕ) × Takes old new bytes × IsWithin a.due a.parts (length bytes)
+abbrev pub ending_of : (failed : Bool) → Ending
+ending_of false = finished
+ending_of true = some_failed
 
--- a block lowers the number of blocks that may still come
-abbrev pub Fewer : ℕ → ℕ → Next → Type 0
-Fewer before now (Block text line wants) = now < before
+-- How a round stops behind its blocks, where `b` is still to come then: `mid` is what was left behind the
+-- blocks' input, and `new` what is left now.
+abbrev pub Stops : (ahead : ℕ) → (b : Answer) → (after : List ℕ → Answer) → (fits : List ℕ → Type 0)
+    → (mid new : Option (List ℕ)) → Stop → Type 0
+Stops ahead b after fits mid new Go = (rest : List ℕ) × (mid ≡ Some rest) × (new ≡ Some rest)
+    × (b ≡ after rest) × fits rest
+Stops ahead b after fits mid new (End closing last failed) = (new ≡ Some []) × (b.parts ≡ [])
+    × (b.closing ≡ closing.items) × (b.last ≡ last.items) × (b.ending ≡ ending_of failed)
+Stops ahead b after fits mid new (Bad number place) = (more : List ℕ) × Takes mid new more
+    × (length more ≡ b.tail)
+    × (b.parts ≡ []) × (b.ending ≡ bad number place)
+Stops ahead b after fits mid new Fault = (more : List ℕ) × Takes mid new more
+    × IsDue b.due b.parts (length more)
+Stops ahead b after fits mid new NoMemory = (more : List ℕ) × Takes mid new more
+    × IsWithin ahead b (length more)
+
+-- A round that began with the answer `a` still to come took the input of its blocks, and then stopped.
+abbrev pub Steps : (ahead : ℕ) → (a : Answer) → (after : List ℕ → Answer) → (fits : List ℕ → Type 0)
+    → (old new : Option (List ℕ)) → Round → Type 0
+Steps ahead a after fits old new round = (b : Answer) × (bytes : List ℕ) × (mid : Option (List ℕ))
+    × (a ≡ behind (parts_of round.blocks.items) b) × (length bytes ≡ size_of (parts_of round.blocks.items))
+    × Takes old mid bytes × Stops ahead b after fits mid new round.stop
+
+-- a round that goes on lowers the number of rounds that may still come
+abbrev pub Fewer : (before now : ℕ) → Stop → Type 0
+Fewer before now Go = now < before
 Fewer before now _ = Unit {0}

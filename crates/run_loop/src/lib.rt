@@ -1,11 +1,14 @@
-//! The loop that every command runs in: its work's blocks, one after the other, from a source to
-//! two sinks, and how the run ends.
+//! The loop that every command runs in: its work's rounds of blocks, one after the other, from a
+//! source to two sinks, how the run ends, and the line that tells a fault.
 #![tactic(auto)]
 
 mod driver;
+mod fault_line;
+mod putting;
 mod status;
 mod work;
 
 pub use driver::drive;
+pub use fault_line::tell;
 pub use status::{SinkName, Status};
-pub use work::{Next, Work};
+pub use work::{Block, Round, Stop, Work};

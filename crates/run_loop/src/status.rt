@@ -12,8 +12,10 @@ pub enum SinkName {
 /// How a run ended.
 #[derive(Clone, Copy, Debug, PartialEq, Eq, Hash)]
 pub enum Status {
-    /// The command was done, and its input read to its end.
+    /// The command was done, its input read to its end, and no block failed.
     Done,
+    /// The same, but some block failed.
+    SomeFailed,
     /// A word was refused, before anything was read or written.
     BadWords { number: u8, place: usize },
     /// The input was refused at a byte, counted from 0.
@@ -33,6 +35,7 @@ impl Status {
     {
         match self {
             Status::Done => 0,
+            Status::SomeFailed => 1,
             Status::BadWords { .. } => 2,
             Status::BadStream { .. } => 3,
             Status::ReadFault => 4,

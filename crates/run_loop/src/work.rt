@@ -1,25 +1,36 @@
-//! The work of a command, a block at a time.
-ghost use Rattle.std.specs.Prelude.{◌≡◌, ◌≤◌, ◌<◌, ℕ, List, Some};
-ghost use Rattle.edge_io.specs.Edge.{Rose};
+//! The work of a command, a round at a time.
+ghost use Rattle.std.specs.Prelude.{◌≡◌, ◌≤◌, ◌<◌, ℕ, List, [], Some, OnOk, OnErr, take};
+ghost use Rattle.edge_io.specs.Edge.{Adds, HasCause, Rose};
 ghost use Rattle.run_loop.specs.Answer.{Answer};
 
-use edge_io::Source;
+use edge_io::{Sink, SinkFault, Source};
 use std::alloc::Global;
 
-/// What comes next of a command's answer.
+/// A block of a command's answer.
 #[derive(Debug, Drop)]
-pub enum Next {
-    /// A block: its text for `out` and its line for the report. It was known whole once `wants`
-    /// bytes of input had come, where the end of the input counts as one.
-    Block {
-        text: Vec<u8>,
-        line: Vec<u8>,
-        wants: usize,
-    },
-    /// No block any more: what closes `out`, and the report's last line.
+pub struct Block {
+    /// What it adds to `out`.
+    pub text: Vec<u8>,
+    /// What it adds to the report.
+    pub line: Vec<u8>,
+    /// How many bytes of input it takes.
+    pub size: usize,
+    /// How many bytes must have come before it is known whole, where the end of the input counts
+    /// as one.
+    pub wants: usize,
+}
+
+/// How a round stops, once its blocks were made.
+#[derive(Debug, Drop)]
+pub enum Stop {
+    /// More is to come.
+    Go,
+    /// The input was read to its end: what closes `out`, the report's last line, and whether some
+    /// block of the whole run failed.
     End {
         closing: Vec<u8>,
         last: Vec<u8>,
+        failed: bool,
     },
     /// The input is refused at a byte.
     Bad {
@@ -32,25 +43,62 @@ pub enum Next {
     NoMemory,
 }
 
-/// The work of a command, a block at a time.
+/// What one round gives: blocks in their order, and how it stops behind them.
+#[derive(Debug, Drop)]
+pub struct Round {
+    pub blocks: Vec<Block>,
+    pub stop: Stop,
+}
+
+impl Round {
+    /// A round without blocks.
+    pub fn stopped(alloc: Global, stop: Stop) -> Self
+        ensures blocks { result.blocks.items ≡ [] }
+        ensures stop { result.stop ≡ stop }
+    {
+        Round {
+            blocks: Vec::new(alloc),
+            stop,
+        }
+    }
+}
+
+/// The work of a command, a round at a time. A round reads one block or several, and they are
+/// written before the next round begins.
 pub trait Work {
     ghost use Rattle.run_loop.specs.Step.{Steps, Fewer};
 
-    // The answer that is still to come, for the input that is left.
+    // What `out` begins with.
+    ghost opening: { Self → List ℕ };
+
+    // The answer that is still to come, for the input that is left. Its opening is none.
     ghost answer: { Self → List ℕ → Answer };
 
     // What the work knows of the input that is left.
     ghost fits: { Self → List ℕ → Type 0 } = { λ _ _. Unit {0} };
 
-    // How many blocks may still come.
+    // How many blocks a round may read before they are written.
+    ghost ahead: { Self → ℕ } = { λ _. 1 };
+
+    // How many rounds may still come.
     ghost budget: { Self → ℕ };
 
-    /// Reads a block's input and computes what it gives.
-    fn next<S: Source>(&mut self, alloc: Global, source: &mut S) -> Next
+    /// Writes what `out` begins with, before the first round.
+    fn open<D: Sink>(&self, out: &mut D) -> Result<(), SinkFault>
+        ensures ok { OnOk result (Adds (D.held out.old) (D.held out.new) (opening self.now)) }
+        ensures err { OnErr result ((n : ℕ) ×
+            Adds (D.held out.old) (D.held out.new) (take n (opening self.now))) }
+        ensures cause { HasCause (D.faults out.old) (D.faults out.new) result };
+
+    /// Reads the input of the next blocks and computes them. All memory that the ending needs is
+    /// had before its bytes are read.
+    fn round<S: Source>(&mut self, alloc: Global, source: &mut S) -> Round
         ensures step { (input : List ℕ) → S.left source.old ≡ Some input → fits self.old input →
-            Steps (answer self.old input) (answer self.new) (fits self.new)
+            Steps (ahead self.old) (answer self.old input) (answer self.new) (fits self.new)
             (S.left source.old) (S.left source.new) result }
-        ensures fewer { Fewer (budget self.old) (budget self.new) result }
+        ensures ahead { ahead self.new ≡ ahead self.old }
+        ensures fewer { Fewer (budget self.old) (budget self.new) result.stop }
         ensures later { S.faults source.old ≤ S.faults source.new }
-        ensures fault { result ≡ Next.Fault → Rose (S.faults source.old) (S.faults source.new) };
+        ensures fault { result.stop ≡ Stop.Fault →
+            Rose (S.faults source.old) (S.faults source.new) };
 }

@@ -8,4 +8,3 @@ mod SameBuffer
 mod SmallCodeword
 mod OkAs
 mod CodewordSteps
-mod Leaves

@@ -1,22 +1,21 @@
 //! The work of the command `codeword`.
-ghost use Rattle.std.specs.Prelude.{◌≡◌, ◌≤◌, ◌<◌, ◌%◌, ℕ, List, None, IfOk, length, option_map};
-ghost use Rattle.edge_io.specs.Edge.{Rose};
-ghost use Rattle.turbo_run.specs.Codeword.{GivesCodeword, end_line, codeword_text};
+ghost use Rattle.std.specs.Prelude.{◌≡◌, ◌≤◌, ◌<◌, ◌%◌, ℕ, List, [], IfOk, OnOk, OnErr, take, length};
+ghost use Rattle.edge_io.specs.Edge.{Adds, HasCause, Rose};
+ghost use Rattle.turbo_run.specs.Codeword.{end_line, codeword_text};
+ghost use Rattle.turbo_run.specs.Coding.{IsCoded};
 
 use crate::codeword::codeword;
 use crate::payload::{Payload, take_payload};
-use edge_io::Source;
+use edge_io::{Sink, SinkFault, Source, write_all};
 use itoa::Buffer;
 use lte_bits::{List, NoMemory, pack};
-use run_loop::{Next, Work};
+use run_loop::{Block, Round, Stop, Work};
 use std::alloc::{AllocError, Global};
 
-/// The codeword of one transport block: its one block, and then the report's last line.
+/// The codeword of one transport block, of `g` bits: all in one round.
 #[derive(Debug, Drop)]
 pub struct Coding {
     g: u32,
-    /// The last line, made with the block, so that nothing fails once the block was written.
-    last: Option<List<u8>>,
     ghost some: { 2 ≤ g },
     ghost small: { g ≤ 1000000 },
     ghost even: { g % 2 ≡ 0 },
@@ -27,32 +26,9 @@ impl Coding {
         requires some { 2 ≤ g }
         requires small { g ≤ 1000000 }
         requires even { g % 2 ≡ 0 }
-        ensures g { result.g ≡ g }
-        ensures first { result.last ≡ None }
+        ensures { result.g ≡ g }
     {
-        Coding { g, last: None }
-    }
-
-    /// The block of a payload, and the last line kept.
-    fn block(&mut self, alloc: Global, payload: &[u8]) -> Next
-        requires some { 1 ≤ length payload.now }
-        requires few { length payload.now ≤ 2 }
-        requires first { self.old.last ≡ None }
-        ensures gives { GivesCodeword self.old.g payload.now self.new.last result }
-        ensures same { self.new.g ≡ self.old.g }
-    {
-        let Ok(text) = codeword_text(alloc, payload, self.g) else {
-            return Next::NoMemory;
-        };
-        let Ok(last) = end_line(alloc, self.g) else {
-            return Next::NoMemory;
-        };
-        self.last = Some(last);
-        Next::Block {
-            text: text.into_vec(),
-            line: Vec::new(alloc),
-            wants: payload.len() + 1,
-        }
+        Coding { g }
     }
 }
 
@@ -69,44 +45,79 @@ fn codeword_text(alloc: Global, payload: &[u8], g: u32) -> Result<List<u8>, NoMe
 }
 
 /// `end bits G`.
-fn end_line(alloc: Global, g: u32) -> Result<List<u8>, AllocError>
-    ensures { IfOk result (λ line. line ≡ end_line g) }
+fn end_line(alloc: Global, g: u32) -> Result<Vec<u8>, AllocError>
+    ensures { IfOk result (λ line. line.items ≡ end_line g) }
 {
     let mut buffer = Buffer::new();
     let mut line = Vec::from_slice(alloc, b"end bits ")?;
     line.extend_from_slice(buffer.format(g).as_bytes())?;
     line.push(b'\n')?;
-    Ok(List::from_vec(line))
+    Ok(line)
+}
+
+/// The block of a payload, and the end: all memory is had before anything is written.
+fn coded(alloc: Global, payload: &[u8], g: u32) -> Result<Round, NoMemory>
+    requires some { 1 ≤ length payload.now }
+    requires few { length payload.now ≤ 2 }
+    requires even { g % 2 ≡ 0 }
+    requires small { g ≤ 1000000 }
+    ensures { IfOk result (λ round. IsCoded g payload.now round.blocks.items round.stop) }
+{
+    let text = codeword_text(alloc, payload, g)?;
+    let last = end_line(alloc, g)?;
+    let mut blocks = Vec::new(alloc);
+    blocks.push(Block {
+        text: text.into_vec(),
+        line: Vec::new(alloc),
+        size: payload.len(),
+        wants: payload.len() + 1,
+    })?;
+    Ok(Round {
+        blocks,
+        stop: Stop::End {
+            closing: Vec::new(alloc),
+            last,
+            failed: false,
+        },
+    })
 }
 
 impl Work for Coding {
-    ghost use Rattle.turbo_run.specs.Codeword.{codeword_rest, codeword_budget, CodewordFits};
+    ghost use Rattle.std.specs.Prelude.{[]};
+    ghost use Rattle.turbo_run.specs.Codeword.{codeword_answer};
 
-    ghost answer = { λ s input. codeword_rest s.last s.g input };
+    ghost opening = { λ _. [] };
 
-    ghost fits = { λ s input. CodewordFits s.last input };
+    ghost answer = { λ s input. codeword_answer s.g input };
 
-    ghost budget = { λ s. codeword_budget s.last };
+    ghost budget = { λ _. 0 };
 
-    fn next<S: Source>(&mut self, alloc: Global, source: &mut S) -> Next {
-        if let Some(last) = self.last.take() {
-            return Next::End {
-                closing: Vec::new(alloc),
-                last: last.into_vec(),
-            };
-        }
+    fn open<D: Sink>(&self, out: &mut D) -> Result<(), SinkFault> {
+        write_all(out, b"")
+    }
+
+    fn round<S: Source>(&mut self, alloc: Global, source: &mut S) -> Round {
         match take_payload(alloc, source) {
-            Payload::Bytes(payload) => self.block(alloc, payload.as_slice()),
-            Payload::Empty => Next::Bad {
-                number: 4,
-                place: 0,
+            Payload::Bytes(payload) => match coded(alloc, payload.as_slice(), self.g) {
+                Ok(round) => round,
+                Err(NoMemory) => Round::stopped(alloc, Stop::NoMemory),
             },
-            Payload::TooLong => Next::Bad {
-                number: 9,
-                place: 2,
-            },
-            Payload::Fault => Next::Fault,
-            Payload::NoMemory => Next::NoMemory,
+            Payload::Empty => Round::stopped(
+                alloc,
+                Stop::Bad {
+                    number: 4,
+                    place: 0,
+                },
+            ),
+            Payload::TooLong => Round::stopped(
+                alloc,
+                Stop::Bad {
+                    number: 9,
+                    place: 2,
+                },
+            ),
+            Payload::Fault => Round::stopped(alloc, Stop::Fault),
+            Payload::NoMemory => Round::stopped(alloc, Stop::NoMemory),
         }
     }
 }

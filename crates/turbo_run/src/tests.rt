@@ -65,16 +65,37 @@ fn codewords_are_written_whole_in_pieces_of_1_and_7(rt: HostRuntime) -> Result<(
             number: 4,
             place: 0,
         };
-        assert_run(&rt, &g132, &[], piece, &[], (empty, &[], ""))?;
+        assert_run(
+            &rt,
+            &g132,
+            &[],
+            piece,
+            &[],
+            (empty, &[], "bad stream 4 at 0\n"),
+        )?;
         let long = Status::BadStream {
             number: 9,
             place: 2,
         };
-        assert_run(&rt, &g132, &[1, 2, 3], piece, &[], (long, &[], ""))?;
+        assert_run(
+            &rt,
+            &g132,
+            &[1, 2, 3],
+            piece,
+            &[],
+            (long, &[], "bad stream 9 at 2\n"),
+        )?;
         let fault = Status::WriteFault {
             sink: SinkName::Out,
         };
-        assert_run(&rt, &g132, &[0x00, 0x01], piece, &[0], (fault, &[], ""))?;
+        assert_run(
+            &rt,
+            &g132,
+            &[0x00, 0x01],
+            piece,
+            &[0],
+            (fault, &[], "write fault out\n"),
+        )?;
     }
     Ok(())
 }
@@ -96,7 +117,14 @@ fn words_that_are_not_built_are_refused(rt: HostRuntime) -> Result<(), Fail> {
         &["codeword", "qm=2", "g=132", "rv=0"],
     ];
     for words in rows {
-        assert_run(&rt, words, &[0x00, 0x01], 7, &[], (refused, &[], ""))?;
+        assert_run(
+            &rt,
+            words,
+            &[0x00, 0x01],
+            7,
+            &[],
+            (refused, &[], "bad words 9 at 0\n"),
+        )?;
     }
     Ok(())
 }
