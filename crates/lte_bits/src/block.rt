@@ -3,6 +3,7 @@ ghost use Rattle.std.specs.Prelude.{◌<◌, length};
 
 use crate::bit::{Bit, Cell};
 use crate::list::List;
+use crate::soft::Soft;
 
 /// A code block of K bits (36.212 5.1.2). The first `fill` of them are `Zero` and stand for
 /// fillers; `fill` is below K.
@@ -18,4 +19,14 @@ pub struct Streams {
     pub d0: List<Cell>,
     pub d1: List<Cell>,
     pub d2: List<Cell>,
+}
+
+/// Soft values of the three coded streams of a code block, each of K + 4 values. `fill` is the number
+/// of its fillers.
+#[derive(Debug, Drop)]
+pub struct SoftStreams {
+    pub fill: usize,
+    pub d0: List<Soft>,
+    pub d1: List<Soft>,
+    pub d2: List<Soft>,
 }

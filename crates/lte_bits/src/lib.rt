@@ -5,11 +5,13 @@ pub mod bit;
 pub mod block;
 pub mod list;
 pub mod packing;
+pub mod soft;
 
 pub use bit::{Bit, Cell};
-pub use block::{Block, Streams};
+pub use block::{Block, SoftStreams, Streams};
 pub use list::{List, NoMemory};
 pub use packing::{pack, unpack};
+pub use soft::Soft;
 
 #[cfg(test)]
 mod tests;

@@ -1,17 +1,18 @@
 //! The constituent coder of the turbo code, step by step (36.212 5.1.3.2.1 and 5.1.3.2.2).
 #![tactic(auto)]
 
+pub mod reach;
 pub mod state;
 pub mod step;
 pub mod tail;
 
 pub use state::State;
-pub use step::{next, parity};
+pub use step::{next, parity, previous};
 pub use tail::tail_path;
 
 #[cfg(test)]
 mod tests {
-    use super::{State, next, parity, tail_path};
+    use super::{State, next, parity, previous, tail_path};
     use lte_bits::Bit;
 
     #[test]
@@ -37,5 +38,16 @@ mod tests {
             assert_eq!(rt; s.number(), 0, "state {n}");
         }
         assert!(rt; State::new(8).is_none());
+    }
+
+    #[test]
+    fn each_state_has_two_before_it(rt: HostRuntime) {
+        for a1 in [Bit::Zero, Bit::One] {
+            for oldest in [Bit::Zero, Bit::One] {
+                let s = State::from_bits(a1, Bit::One, Bit::Zero);
+                let (t, u) = previous(s, oldest);
+                assert!(rt; next(t, u) == s);
+            }
+        }
     }
 }

@@ -68,6 +68,13 @@ impl State {
         })
     }
 
+    /// The state with these last three values of the register, the newest first.
+    pub const fn from_bits(a1: Bit, a2: Bit, a3: Bit) -> State
+        ensures { result ≡ (record { a1 = a1; a2 = a2; a3 = a3 }) }
+    {
+        State { a1, a2, a3 }
+    }
+
     /// The state's number, 0 to 7.
     pub fn number(self) -> u8
         ensures value { result ≡ number_of self }

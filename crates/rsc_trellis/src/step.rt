@@ -2,6 +2,7 @@
 ghost use Rattle.std.specs.Prelude.{◌≡◌};
 ghost use Rattle.sender_model.specs.Bits.{plus};
 ghost use Rattle.sender_model.specs.ConstituentCoder.{next, parity};
+ghost use Rattle.rsc_trellis.specs.Steps.{state_before, input_before};
 
 use crate::state::State;
 use lte_bits::Bit;
@@ -29,4 +30,20 @@ pub fn parity(s: State, u: Bit) -> Bit
     ensures { result ≡ parity s u }
 {
     plus(plus(u, s.a1), s.a2)
+}
+
+/// The one state from which an input leads to `s` and whose oldest value is `oldest`, with that input.
+pub fn previous(s: State, oldest: Bit) -> (State, Bit)
+    ensures oldest { result.0.a3 ≡ oldest }
+    ensures leads { next result.0 result.1 ≡ s }
+    ensures value { result ≡ (state_before s oldest, input_before s oldest) }
+{
+    (
+        State {
+            a1: s.a2,
+            a2: s.a3,
+            a3: oldest,
+        },
+        plus(plus(s.a1, s.a3), oldest),
+    )
 }
