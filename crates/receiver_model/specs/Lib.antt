@@ -1,0 +1,5 @@
+pub mod Borders
+pub mod Paths
+pub mod Windows
+pub mod HalfIteration
+pub mod Decoding

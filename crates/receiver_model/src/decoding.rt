@@ -1,0 +1,24 @@
+//! Laws of a code block's decoding. Each function computes nothing: its contract is the law.
+ghost use Rattle.std.specs.Prelude.{◌≡◌, ◌≤◌, ◌↔◌, IsTrue, List};
+ghost use Rattle.lte_bits.specs.declared.bit.Bit.{Bit};
+ghost use Rattle.lte_bits.specs.declared.block.SoftStreams.{SoftStreams};
+ghost use Rattle.sender_model.specs.CheckBits.{IsMultiple};
+ghost use Rattle.receiver_model.specs.declared.result.CheckKind.{CheckKind};
+ghost use Rattle.receiver_model.specs.declared.result.CodeResult.{CodeResult};
+ghost use Rattle.receiver_model.specs.HalfIteration.{Shape};
+ghost use Rattle.receiver_model.specs.Decoding.{IsDecoded, checks, decode, generator};
+
+/// The check holds exactly for multiples of its generator.
+pub fn checks_tell_multiples()
+    ensures { (kind : CheckKind) (bits : List Bit)
+        → IsTrue (checks kind bits) ↔ IsMultiple (generator kind) bits }
+{}
+
+/// The function gives the result of the first iteration whose check holds, or else of the last, and
+/// no other result is that.
+pub fn decoding_is_the_one()
+    ensures is { (soft : SoftStreams) (shape : Shape) → 1 ≤ shape.limit
+        → IsDecoded soft shape (decode soft shape) }
+    ensures only { (soft : SoftStreams) (shape : Shape) (r : CodeResult) → 1 ≤ shape.limit
+        → IsDecoded soft shape r → r ≡ decode soft shape }
+{}

@@ -1,0 +1,9 @@
+//! What a receiver makes of soft values, as definitions: one code block's decoding.
+#![tactic(auto)]
+
+pub mod decoding;
+pub mod paths;
+pub mod positions;
+pub mod result;
+
+pub use result::{CheckKind, CodeResult};

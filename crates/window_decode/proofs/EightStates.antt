@@ -1,0 +1,120 @@
+-- Numbers of the eight states as lists.
+use Rattle.std.proofs.Common.{◌≡◌, ℕ, zero, suc, ◌<◌, ◌≤◌, List, [], ◌∷◌, ◌++◌, length, map, fold, slice_index_or, ℤ, pos, ◌-ℤ◌, ◌≤ℤ◌, refl, sym, ap, ◌∙◌, subst, arith}
+use Rattle.std.specs.Int.{int_max}
+use Rattle.std.proofs.lemmas.Int.{ints}
+use Rattle.lte_bits.specs.Softs.{IsWithin}
+use Rattle.lte_bits.specs.declared.bit.Bit.{Bit}
+use Rattle.lte_bits.specs.declared.bit.Bit.TheVariants.{Zero, One}
+use Rattle.sender_model.specs.ConstituentCoder.{State, zero_state}
+use Rattle.receiver_model.specs.Borders.{state, states, number_for, border_of, relative, IsBorder}
+use Rattle.receiver_model.specs.Paths.{greatest}
+use Rattle.receiver_model.proofs.Members.{member-map, member-unmap}
+use Rattle.receiver_model.proofs.Maxima.{greatest-bound, greatest-inside}
+use Rattle.receiver_model.proofs.GreatestPaths.{states-all}
+use Rattle.window_decode.specs.Recursions.{IsBounded, AreNear, IsMetrics}
+use Rattle.window_decode.proofs.Within.{within-same, within-more}
+
+-- the list of a function's numbers has them
+pub number-border_of : (f : State → ℤ) (s : State) → number_for (border_of f) s ≡ f s
+number-border_of f s = by_bits s.a1 s.a2 s.a3
+  where
+    by_bits : (a b c : Bit) → number_for (border_of f) (state a b c) ≡ f (state a b c)
+    by_bits Zero Zero Zero = refl
+    by_bits Zero Zero One = refl
+    by_bits Zero One Zero = refl
+    by_bits Zero One One = refl
+    by_bits One Zero Zero = refl
+    by_bits One Zero One = refl
+    by_bits One One Zero = refl
+    by_bits One One One = refl
+
+map-same : {X Y : Type 0} (f g : X → Y) (xs : List X) → ((x : X) → f x ≡ g x) → map f xs ≡ map g xs
+map-same f g [] e = refl
+map-same f g (x ∷ xs) e = ap (λ y. y ∷ map f xs) (e x) ∙ ap (λ ys. g x ∷ ys) (map-same f g xs e)
+
+pub relative-same : (f g : State → ℤ) → ((s : State) → f s ≡ g s) → relative f ≡ relative g
+relative-same f g e = map-same (λ s. f s -ℤ f zero_state) (λ s. g s -ℤ g zero_state) states (λ s. ap (λ z. z -ℤ f zero_state) (e s) ∙ ap (λ z. g s -ℤ z) (e zero_state))
+
+-- numbers that are near one another make a border
+pub border_from : (f : State → ℤ) → AreNear 4096 f → IsBorder (relative f)
+border_from f near = record {
+  eight = refl;
+  zero = itself (f zero_state);
+  spread = λ s t. differ _ _ (f s) (f t) (f zero_state) (number-border_of (λ s. f s -ℤ f zero_state) s) (number-border_of (λ s. f s -ℤ f zero_state) t) (near s t);
+}
+  where
+    itself : (x : ℤ) → x -ℤ x ≡ pos 0
+    itself x = omega (arith, ints)
+
+    differ : (a b x y z : ℤ) → a ≡ x -ℤ z → b ≡ y -ℤ z → (x -ℤ y) ≤ℤ pos 4096 → (a -ℤ b) ≤ℤ pos 4096
+    differ a b x y z p q h = omega (arith, ints)
+
+-- and a border's numbers are small
+pub border-bounded : (b : List ℤ) → IsBorder b → IsBounded 4096 (number_for b)
+border-bounded b h s = small (number_for b s) (number_for b zero_state) h.zero (h.spread s zero_state) (h.spread zero_state s)
+  where
+    small : (x z : ℤ) → z ≡ pos 0 → (x -ℤ z) ≤ℤ pos 4096 → (z -ℤ x) ≤ℤ pos 4096 → IsWithin 4096 x
+    small x z e p q = (omega (arith, ints), omega (arith, ints))
+
+-- ---- the greatest of eight
+
+pub states-bound : (f : State → ℤ) (s : State) → f s ≤ℤ greatest (border_of f)
+states-bound f s = greatest-bound (map f states) (f s) (member-map f s states (states-all s))
+
+pub states-attained : (f : State → ℤ) → (s : State) × (greatest (border_of f) ≡ f s)
+states-attained f =
+    let w = member-unmap f (greatest (map f states)) states (greatest-inside (map f states) (f zero_state) (member-map f zero_state states (states-all zero_state))) in
+    (w.0, w.2)
+
+-- what is true of each state's number is true at each index
+pub each-index : (xs : List ℤ) (P : ℤ → Type 0) → ((s : State) → P (number_for xs s)) → (i : ℕ) → i < 8 → P (slice_index_or xs i (pos 0))
+each-index xs P h zero lt = h (state Zero Zero Zero)
+each-index xs P h (suc zero) lt = h (state Zero Zero One)
+each-index xs P h (suc (suc zero)) lt = h (state Zero One Zero)
+each-index xs P h (suc (suc (suc zero))) lt = h (state Zero One One)
+each-index xs P h (suc (suc (suc (suc zero)))) lt = h (state One Zero Zero)
+each-index xs P h (suc (suc (suc (suc (suc zero))))) lt = h (state One Zero One)
+each-index xs P h (suc (suc (suc (suc (suc (suc zero)))))) lt = h (state One One Zero)
+each-index xs P h (suc (suc (suc (suc (suc (suc (suc zero))))))) lt = h (state One One One)
+each-index xs P h (suc (suc (suc (suc (suc (suc (suc (suc i)))))))) lt = absurd (omega (arith, lt))
+
+-- one number more
+pub greatest-push : (xs : List ℤ) (y : ℤ) → 1 ≤ length xs → greatest (xs ++ y ∷ []) ≡ int_max (greatest xs) y
+greatest-push [] y h = absurd (omega (arith, h))
+greatest-push (x ∷ xs) y h = pushed x xs
+  where
+    pushed : (a : ℤ) (xs : List ℤ) → fold int_max a (xs ++ y ∷ []) ≡ int_max (fold int_max a xs) y
+    pushed a [] = refl
+    pushed a (x ∷ xs) = pushed (int_max a x) xs
+
+-- a list that has a function's numbers
+pub same_eight : (f : State → ℤ) (r0 r1 r2 r3 r4 r5 r6 r7 : ℤ)
+    → r0 ≡ f (state Zero Zero Zero) → r1 ≡ f (state Zero Zero One) → r2 ≡ f (state Zero One Zero) → r3 ≡ f (state Zero One One)
+    → r4 ≡ f (state One Zero Zero) → r5 ≡ f (state One Zero One) → r6 ≡ f (state One One Zero) → r7 ≡ f (state One One One)
+    → r0 ∷ r1 ∷ r2 ∷ r3 ∷ r4 ∷ r5 ∷ r6 ∷ r7 ∷ [] ≡ border_of f
+same_eight f r0 r1 r2 r3 r4 r5 r6 r7 e0 e1 e2 e3 e4 e5 e6 e7 = rw (e0, e1, e2, e3, e4, e5, e6, e7) refl
+
+-- metrics that were made of a function
+pub metrics_from : (xs : List ℤ) (f : State → ℤ) (n : ℕ) → xs ≡ border_of f → n ≤ 10000000 → IsBounded n f → IsMetrics xs
+metrics_from xs f n e le h = record {
+  eight = ap length e;
+  bounded = λ s. within-more n 10000000 _ le (within-same n _ (f s) (ap (λ ys. number_for ys s) e ∙ number-border_of f s) (h s));
+}
+
+pub near_from : (xs : List ℤ) (f : State → ℤ) → xs ≡ border_of f → IsBounded 762 f → AreNear 4096 (number_for xs)
+near_from xs f e h s t = near _ _ (within-same 762 _ (f s) (is s) (h s)) (within-same 762 _ (f t) (is t) (h t))
+  where
+    is : (s : State) → number_for xs s ≡ f s
+    is s = ap (λ ys. number_for ys s) e ∙ number-border_of f s
+
+    near : (x y : ℤ) → IsWithin 762 x → IsWithin 762 y → (x -ℤ y) ≤ℤ pos 4096
+    near x y p q = omega (arith, ints)
+
+-- numbers that were made of a function are as small as its values
+pub bounded_from : (xs : List ℤ) (f : State → ℤ) (m n : ℕ) → xs ≡ border_of f → m ≤ n → IsBounded m f → IsBounded n (number_for xs)
+bounded_from xs f m n e le h s = within-more m n _ le (within-same m _ (f s) (ap (λ ys. number_for ys s) e ∙ number-border_of f s) (h s))
+
+pub greatest-within : (xs : List ℤ) (f : State → ℤ) (m : ℕ) → xs ≡ border_of f → IsBounded m f → IsWithin m (greatest xs)
+greatest-within xs f m e h =
+    let w = states-attained f in
+    within-same m _ (f w.0) (ap greatest e ∙ w.1) (h w.0)

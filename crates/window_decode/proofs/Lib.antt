@@ -1,0 +1,9 @@
+pub mod Within
+pub mod EightStates
+pub mod PathSteps
+pub mod ForwardMetrics
+pub mod BackwardMetrics
+pub mod JoinedPaths
+pub mod Spread
+pub mod WindowSteps
+pub mod WindowSweep

@@ -1,0 +1,34 @@
+-- What the metrics of a recursion are: greatest numbers over paths.
+use Rattle.std.specs.Prelude.{◌≡◌, ℕ, ◌+◌, ◌*◌, ℤ, ◌+ℤ◌, List, [], length, slice_index_or}
+use Rattle.lte_bits.specs.declared.bit.Bit.{Bit}
+use Rattle.sender_model.specs.ConstituentCoder.{State}
+use Rattle.sender_model.specs.Tail.{reached}
+use Rattle.receiver_model.specs.Borders.{Border, number_for}
+use Rattle.receiver_model.specs.Paths.{Path, end_state, Gain, earned, IsGreatest}
+use Rattle.window_decode.specs.Recursions.{IsBounded}
+
+-- m has for each state the greatest number of a path of j bits that ends in it
+abbrev pub IsForward : (State → ℤ) → Gain → ℕ → (State → ℤ) → Type 0
+IsForward first g j m =
+    (s : State) → IsGreatest (λ (p : Path). (length p.bits ≡ j) × (end_state p ≡ s)) (λ p. first p.start +ℤ earned g 0 p.start p.bits) (m s)
+
+-- m has for each state the greatest number of n bits from it, from position j on
+abbrev pub IsBackward : (State → ℤ) → Gain → ℕ → ℕ → (State → ℤ) → Type 0
+IsBackward last g j n m =
+    (s : State) → IsGreatest (λ (us : List Bit). length us ≡ n) (λ us. earned g j s us +ℤ last (reached s us)) (m s)
+
+-- the forward metrics before position j, from a start border
+pub record IsForwardRow (start : Border) (g : Gain) (j : ℕ) (row : List ℤ) : Type 0 where
+  pub eight : length row ≡ 8
+  pub greatest : IsForward (number_for start) g j (number_for row)
+  pub bounded : IsBounded (4096 + 765 * j) (number_for row)
+
+-- the backward metrics before position j, with n positions to an end border
+pub record IsBackwardRow (end : Border) (g : Gain) (j n : ℕ) (row : List ℤ) : Type 0 where
+  pub eight : length row ≡ 8
+  pub greatest : IsBackward (number_for end) g j n (number_for row)
+  pub bounded : IsBounded (4096 + 765 * n) (number_for row)
+
+-- the metrics of position j in a list of them
+abbrev pub row_at : List (List ℤ) → ℕ → List ℤ
+row_at rows j = slice_index_or rows j []

@@ -1,0 +1,146 @@
+//! Borders between windows.
+ghost use Rattle.std.specs.Prelude.{◌≡◌, ◌<◌, ◌+ℤ◌, ◌-ℤ◌};
+ghost use Rattle.sender_model.specs.ConstituentCoder.{zero_state};
+ghost use Rattle.receiver_model.specs.Borders.{IsBorder, number_for, at, if_zero};
+ghost use Rattle.receiver_model.specs.Borders.{relative, unknown, known, tail, tail_sum};
+ghost use Rattle.lte_bits.specs.Softs.{IsWithin};
+ghost use Rattle.window_decode.specs.Recursions.{IsMetrics, AreNear};
+
+use crate::per_state::{PerState, number_of, numbers};
+use lte_bits::{Bit, Soft};
+use rsc_trellis::{State, tail_path};
+use std::marker::Model;
+
+/// A number for each state, by how much it is better than state 0. The number of state 0 is 0, and the
+/// greatest and the least differ by at most 4096.
+#[derive(Clone, Copy, Debug, PartialEq, Eq)]
+pub struct Border {
+    numbers: [i16; 8],
+}
+
+impl Model for Border {
+    ghost use Rattle.std.specs.Prelude.{ℤ, List};
+    ghost use Rattle.receiver_model.specs.Borders.{IsBorder};
+
+    ghost Value = { List ℤ };
+
+    ghost view = { λ b. b.numbers };
+
+    ghost invariant = { λ b. IsBorder b.numbers };
+
+    ghost inverse = { λ z. record { numbers = z } };
+}
+
+impl Border {
+    /// The border of which nothing is known: all numbers are 0.
+    pub fn unknown() -> Border
+        ensures { result ≡ unknown }
+    {
+        Border { numbers: [0; 8] }
+    }
+
+    /// The border where the state is 0: the other states have -4096.
+    pub fn known() -> Border
+        ensures { result ≡ known }
+    {
+        Border {
+            numbers: [0, -4096, -4096, -4096, -4096, -4096, -4096, -4096],
+        }
+    }
+
+    /// The border after the last position, by the soft values of the tail's input bits and parity bits
+    /// (36.212 5.1.3.2.2).
+    pub fn tail(x: [Soft; 3], z: [Soft; 3]) -> Border
+        ensures { result ≡ tail x z }
+    {
+        Border::relative(&numbers(&Tail { x, z }))
+    }
+
+    /// The border's number for a state.
+    pub fn value(&self, s: State) -> i16
+        ensures value { result ≡ number_for self.now s }
+        ensures border { IsBorder self.now }
+    {
+        self.numbers[usize::from(s.number())]
+    }
+
+    /// Metrics that differ by at most 4096, relative to that of state 0.
+    pub(crate) fn relative(metrics: &[i64; 8]) -> Border
+        requires metrics { IsMetrics metrics.now }
+        requires near { AreNear 4096 (number_for metrics.now) }
+        ensures { result ≡ relative (number_for metrics.now) }
+    {
+        let (z, o) = (Bit::Zero, Bit::One);
+        Border {
+            numbers: [
+                above_zero(metrics, State::from_bits(z, z, z)),
+                above_zero(metrics, State::from_bits(z, z, o)),
+                above_zero(metrics, State::from_bits(z, o, z)),
+                above_zero(metrics, State::from_bits(z, o, o)),
+                above_zero(metrics, State::from_bits(o, z, z)),
+                above_zero(metrics, State::from_bits(o, z, o)),
+                above_zero(metrics, State::from_bits(o, o, z)),
+                above_zero(metrics, State::from_bits(o, o, o)),
+            ],
+        }
+    }
+}
+
+impl PerState for Border {
+    ghost number = { number_for };
+
+    ghost bound = { 4096 };
+
+    fn at(&self, s: State) -> i64 {
+        i64::from(self.value(s))
+    }
+}
+
+/// By how much a metric is above that of state 0.
+fn above_zero(metrics: &[i64; 8], s: State) -> i16
+    requires metrics { IsMetrics metrics.now }
+    requires near { AreNear 4096 (number_for metrics.now) }
+    ensures { result ≡ number_for metrics.now s -ℤ number_for metrics.now zero_state }
+{
+    (number_of(metrics, s) - number_of(metrics, State::ZERO)) as i16
+}
+
+/// The soft values of a tail's input bits and parity bits.
+#[derive(Clone, Copy)]
+struct Tail {
+    x: [Soft; 3],
+    z: [Soft; 3],
+}
+
+impl Tail {
+    /// What the bits of step `k` of the tail earn.
+    fn step(&self, k: usize, bits: (Bit, Bit)) -> i64
+        requires { k < 3 }
+        ensures value { result ≡ if_zero bits.0 (at self.now.x k) +ℤ if_zero bits.1 (at self.now.z k) }
+        ensures range { IsWithin 254 result }
+    {
+        earned(bits.0, self.x[k]) + earned(bits.1, self.z[k])
+    }
+}
+
+/// What a tail bit earns.
+fn earned(bit: Bit, value: Soft) -> i64
+    ensures value { result ≡ if_zero bit value }
+    ensures range { IsWithin 127 result }
+{
+    match bit {
+        Bit::Zero => i64::from(value.value()),
+        Bit::One => 0,
+    }
+}
+
+impl PerState for Tail {
+    ghost number = { λ t s. tail_sum t.x t.z s };
+
+    ghost bound = { 762 };
+
+    fn at(&self, s: State) -> i64 {
+        let [first, second, third] = tail_path(s);
+        self.step(0, first) + self.step(1, second) + self.step(2, third)
+    }
+}
