@@ -1,0 +1,9 @@
+pub mod StripCells
+pub mod Orders
+pub mod Parts
+pub mod ReadingOrder
+pub mod StripParts
+pub mod ViewLists
+pub mod WindowRuns
+pub mod HalfSteps
+pub mod Stopping

@@ -1,0 +1,95 @@
+-- The first iteration whose check holds.
+use Rattle.std.proofs.Common.{◌≡◌, ◌⊎◌, ℕ, zero, suc, ◌+◌, ◌-◌, ◌*◌, ◌==◌, ◌<◌, ◌≤◌, Bool, true, false, List, Some, None, Option, find, refl, sym, ap, ◌∙◌, arith, cond}
+use Rattle.std.specs.Prelude.{◌↔◌, IsTrue}
+use Rattle.std.specs.List.{range_with_len}
+use Rattle.lte_bits.specs.declared.bit.Bit.{Bit}
+use Rattle.lte_bits.specs.declared.block.SoftStreams.{SoftStreams}
+use Rattle.sender_model.specs.CheckBits.{IsMultiple, IsMonic, remainder}
+use Rattle.sender_model.proofs.CheckBitLaws.{crc24a-monic, crc24b-monic, multiple-remainder}
+use Rattle.receiver_model.specs.declared.result.CheckKind.{CheckKind}
+use Rattle.receiver_model.specs.declared.result.CheckKind.TheVariants.{A, B}
+use Rattle.receiver_model.specs.declared.result.CodeResult.{CodeResult}
+use Rattle.receiver_model.specs.HalfIteration.{Shape, Before, after, opening}
+use Rattle.receiver_model.specs.Decoding.{before, decided_bits, decided_in, generator, checks, passing, result_in, result_of, decode}
+use Rattle.receiver_model.proofs.DecodedOnce.{checks-true, checks-false, decoded-is, decoded_once}
+use Rattle.serial_decode.proofs.Orders.{equal, not-equal}
+
+generator-monic : (kind : CheckKind) → IsMonic (generator kind)
+generator-monic A = crc24a-monic
+generator-monic B = crc24b-monic
+
+-- the check's answer is that of the definition
+pub check-is : (b : Bool) (kind : CheckKind) (bits : List Bit) → IsTrue b ↔ IsMultiple (generator kind) bits → checks kind bits ≡ b
+check-is true kind bits h =
+    let m = multiple-remainder (generator kind) bits (generator-monic kind) in
+    equal (remainder (generator kind) 0 bits) 0 (m.0 (h.0 refl))
+check-is false kind bits h =
+    let m = multiple-remainder (generator kind) bits (generator-monic kind) in
+    not-equal (remainder (generator kind) 0 bits) 0 (λ e. let t : false ≡ true = h.1 (m.1 e) in absurd (cc))
+
+-- ---- what the halves start from
+
+pub before-none : (soft : SoftStreams) (shape : Shape) → before soft shape 0 ≡ opening shape
+unfolding before
+before-none soft shape = refl
+
+before-suc : (soft : SoftStreams) (shape : Shape) (h : ℕ) → before soft shape (suc h) ≡ after soft shape h (before soft shape h)
+unfolding before
+before-suc soft shape h = refl
+
+pub before-more : (soft : SoftStreams) (shape : Shape) (h next : ℕ) → next ≡ suc h → before soft shape next ≡ after soft shape h (before soft shape h)
+before-more soft shape h next e = ap (before soft shape) e ∙ before-suc soft shape h
+
+-- iteration n goes from half 2(n - 1) to half 2n
+pub iteration-more : (soft : SoftStreams) (shape : Shape) (n : ℕ) (b : Before) → 1 ≤ n → b ≡ before soft shape (2 * (n - 1))
+    → after soft shape (2 * n - 1) (after soft shape (2 * n - 2) b) ≡ before soft shape (suc (2 * n - 1))
+iteration-more soft shape n b some e =
+    let first : before soft shape (2 * n - 1) ≡ after soft shape (2 * n - 2) (before soft shape (2 * n - 2)) = before-more soft shape (2 * n - 2) (2 * n - 1) (omega arith) in
+    let from : b ≡ before soft shape (2 * n - 2) = e ∙ ap (before soft shape) (let s : 2 * (n - 1) ≡ 2 * n - 2 = omega arith in s) in
+    ap (λ x. after soft shape (2 * n - 1) (after soft shape (2 * n - 2) x)) from
+    ∙ (ap (after soft shape (2 * n - 1)) (sym first) ∙ sym (before-suc soft shape (2 * n - 1)))
+
+pub before-iteration : (soft : SoftStreams) (shape : Shape) (n : ℕ) → 1 ≤ n → before soft shape (suc (2 * n - 1)) ≡ before soft shape (2 * (n + 1 - 1))
+before-iteration soft shape n some = ap (before soft shape) (let s : suc (2 * n - 1) ≡ 2 * (n + 1 - 1) = omega arith in s)
+
+-- ---- the result
+
+-- no iteration before n has a check that holds
+abbrev pub FailBefore : SoftStreams → Shape → ℕ → Type 0
+FailBefore soft shape n = (m : ℕ) → 1 ≤ m → m < n → checks shape.kind (decided_in soft shape m) ≡ false
+
+abbrev pub result_with : ℕ → List Bit → ℕ → Bool → CodeResult
+result_with fill bits n passed = record { block = record { fill = fill; bits = bits }; iterations = n; passed = passed }
+
+pub decode-passed : (soft : SoftStreams) (shape : Shape) (fill n : ℕ) (bits : List Bit) → fill ≡ shape.f → 1 ≤ n → n ≤ shape.limit
+    → bits ≡ decided_in soft shape n → checks shape.kind bits ≡ true → FailBefore soft shape n
+    → result_with fill bits n true ≡ decode soft shape
+decode-passed soft shape fill n bits ef some few eb passed fails =
+    decoded_once soft shape (result_with fill bits n true) (decode soft shape)
+    (record {
+      fill = ef;
+      bits = eb;
+      from_one = some;
+      to_limit = few;
+      passed = (λ _. checks-true shape.kind bits passed, λ _. refl);
+      first = λ m least lt. checks-false shape.kind (decided_in soft shape m) (fails m least lt);
+      last = λ e. let f : true ≡ false = e in absurd (cc);
+    })
+    (decoded-is soft shape (omega arith))
+
+pub decode-failed : (soft : SoftStreams) (shape : Shape) (fill n : ℕ) (bits : List Bit) → fill ≡ shape.f → 1 ≤ n → n ≡ shape.limit
+    → bits ≡ decided_in soft shape n → FailBefore soft shape (n + 1)
+    → result_with fill bits n false ≡ decode soft shape
+decode-failed soft shape fill n bits ef some en eb fails =
+    let failed : checks shape.kind bits ≡ false = ap (checks shape.kind) eb ∙ fails n some (omega arith) in
+    decoded_once soft shape (result_with fill bits n false) (decode soft shape)
+    (record {
+      fill = ef;
+      bits = eb;
+      from_one = some;
+      to_limit = omega arith;
+      passed = (λ e. let f : false ≡ true = e in absurd (cc), λ m. absurd (checks-false shape.kind bits failed m));
+      first = λ m least lt. checks-false shape.kind (decided_in soft shape m) (fails m least (omega arith));
+      last = λ _. en;
+    })
+    (decoded-is soft shape (omega arith))

@@ -1,0 +1,6 @@
+use Rattle.std.proofs.Common.{◌≡◌, map, take}
+use Rattle.receiver_model.specs.Borders.{at}
+use Rattle.serial_decode.proofs.lists.picked.Given as goal
+
+abbrev pub invariant-loop-place : goal.invariant-loop-place
+invariant-loop-place l = l.out.items ≡ map (at l.values) (take l.place-index l.places)

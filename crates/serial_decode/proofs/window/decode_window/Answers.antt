@@ -1,0 +1,42 @@
+use Rattle.std.proofs.Common.{◌≡◌, ℕ, ◌*◌, ◌≤◌, ◌<◌, List, length, map, sym, ap, ◌∙◌, arith}
+use Rattle.std.proofs.lemmas.List.{length-map}
+use Rattle.receiver_model.specs.Paths.{Window}
+use Rattle.receiver_model.specs.Windows.{Extrinsic, cell_at, new_cells, forward_left, backward_left}
+use Rattle.receiver_model.specs.HalfIteration.{order, window_width}
+use Rattle.serial_decode.specs.Strips.{elsewhere}
+use Rattle.serial_decode.specs.Runs.{left_of}
+use Rattle.serial_decode.specs.Views.{AreWhole}
+use Rattle.serial_decode.proofs.StripParts.{length-part}
+use Rattle.serial_decode.proofs.WindowRuns.{strip_window-is, replaced}
+use Rattle.serial_decode.proofs.window.decode_window.Goals as goal
+
+pub run_window-forward-requires-clause-least : goal.run_window-forward-requires-clause-least
+run_window-forward-requires-clause-least c =
+    let s = c.strip-strip.result in let shape = c.args.views.now.shape in
+    omega (arith, length-map s.places.now (cell_at s.cells.items), length-part (order shape.k c.args.h) shape c.args.t s.places.now c.strip-strip.ensures.places, c.strip-strip.ensures.whole.wide)
+
+pub run_window-forward-requires-clause-room : goal.run_window-forward-requires-clause-room
+run_window-forward-requires-clause-room c =
+    let s = c.strip-strip.result in let shape = c.args.views.now.shape in
+    omega (arith, length-map s.places.now (cell_at s.cells.items), length-part (order shape.k c.args.h) shape c.args.t s.places.now c.strip-strip.ensures.places, c.requires.room)
+
+pub returns-clause-left : goal.returns-clause-left
+returns-clause-left c =
+    let s = c.strip-strip.result in let v = c.args.views.now in let run = c.run_window-forward.ensures in
+    let e = strip_window-is v.streams.now v.shape c.args.h c.args.t c.args.start.now c.args.end.now s.systematic.now s.parity.now s.places.now
+    c.args.cells.items s.cells.items c.strip-strip.ensures.systematic c.strip-strip.ensures.parity c.strip-strip.ensures.places c.strip-strip.ensures.cells in
+    let f = run.forward ∙ ap forward_left e in
+    let b = run.backward ∙ ap backward_left e in
+    cc
+
+pub returns-clause-cells : goal.returns-clause-cells
+returns-clause-cells c =
+    let s = c.strip-strip.result in let n = c.run_window-forward.new.strip in let v = c.args.views.now in let run = c.run_window-forward.ensures in
+    let e = strip_window-is v.streams.now v.shape c.args.h c.args.t c.args.start.now c.args.end.now s.systematic.now s.parity.now s.places.now
+    c.args.cells.items s.cells.items c.strip-strip.ensures.systematic c.strip-strip.ensures.parity c.strip-strip.ensures.places c.strip-strip.ensures.cells in
+    replaced v.shape c.args.h c.args.t _ s.places.now n.places.now c.args.cells.items n.cells.items
+    c.strip-strip.ensures.whole
+    c.requires.window c.strip-strip.ensures.places c.requires.cells
+    (ap (λ p. p.0) run.rest)
+    (run.cells ∙ ap new_cells e)
+    (ap (λ p. p.1) run.rest ∙ ap (λ cells. elsewhere s.places.now cells) c.strip-strip.ensures.cells)

@@ -1,0 +1,4 @@
+pub mod Strips
+pub mod Views
+pub mod Runs
+pub mod Progress

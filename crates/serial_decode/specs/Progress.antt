@@ -1,0 +1,6 @@
+-- What the next half of a decoding starts from.
+use Rattle.receiver_model.specs.HalfIteration.{Before}
+use Rattle.serial_decode.specs.declared.decoder.SerialDecoder.{SerialDecoder}
+
+abbrev pub before_of : SerialDecoder → Before
+before_of d = record { cells = d.cells.items; left = d.left.items; left_earlier = d.left_earlier.items }

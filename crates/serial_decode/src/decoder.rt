@@ -1,0 +1,91 @@
+//! The decoder of a code block on one thread.
+ghost use Rattle.std.specs.Prelude.{◌≡◌, ◌≤◌, IfOk, length};
+ghost use Rattle.receiver_model.specs.HalfIteration.{window_width};
+
+use crate::bits::decide;
+use crate::block::HalfDecoder;
+use crate::half::decode_half;
+use crate::left::Left;
+use crate::views::Views;
+use lte_bits::{Bit, NoMemory, SoftStreams};
+use std::alloc::Global;
+use window_decode::{Ext, Shape, Work};
+
+/// A code block under decoding, window after window: the cells of all places, and the borders that each
+/// window left in the half before and in the one before that.
+#[derive(Drop)]
+pub struct SerialDecoder<'a> {
+    views: Views<'a>,
+    work: Work,
+    cells: Vec<Ext>,
+    left: Vec<Left>,
+    left_earlier: Vec<Left>,
+    ghost room: { window_width views.shape ≤ work },
+    ghost all_places: { length cells.items ≡ views.shape.k },
+    ghost all_windows: { length left.items ≡ views.shape.windows },
+    ghost all_windows_earlier: { length left_earlier.items ≡ views.shape.windows },
+}
+
+impl<'a> SerialDecoder<'a> {
+    ghost use Rattle.receiver_model.specs.HalfIteration.{opening};
+    ghost use Rattle.serial_decode.specs.Views.{AreStreams};
+    ghost use Rattle.serial_decode.specs.Progress.{before_of};
+
+    /// A code block before its first half.
+    pub fn new(
+        alloc: Global,
+        streams: &'a SoftStreams,
+        shape: &Shape,
+    ) -> Result<SerialDecoder<'a>, NoMemory>
+        requires { AreStreams streams.now shape.now }
+        ensures streams { IfOk result (λ d. d.views.streams.now ≡ streams.now) }
+        ensures shape { IfOk result (λ d. d.views.shape ≡ shape.now) }
+        ensures before { IfOk result (λ d. before_of d ≡ opening shape.now) }
+    {
+        let views = Views::new(alloc, streams, shape)?;
+        let windows = views.windows();
+        let work = Work::new(alloc, views.width())?;
+        let cells = vec![in alloc; Ext::ZERO; shape.k()]?;
+        let left = vec![in alloc; Left::none(); windows]?;
+        let left_earlier = vec![in alloc; Left::none(); windows]?;
+        Ok(SerialDecoder {
+            views,
+            work,
+            cells,
+            left,
+            left_earlier,
+        })
+    }
+}
+
+impl HalfDecoder for SerialDecoder<'_> {
+    ghost use Rattle.serial_decode.specs.Progress.{before_of};
+
+    ghost streams = { λ d. d.views.streams.now };
+
+    ghost shape = { λ d. d.views.shape };
+
+    ghost before = { before_of };
+
+    fn half(self, h: usize) -> Self {
+        let SerialDecoder {
+            views,
+            mut work,
+            cells,
+            left,
+            mut left_earlier,
+        } = self;
+        let cells = decode_half(&mut work, &views, h, cells, left_earlier.as_mut_slice());
+        SerialDecoder {
+            views,
+            work,
+            cells,
+            left: left_earlier,
+            left_earlier: left,
+        }
+    }
+
+    fn decide(&self, bits: &mut [Bit]) {
+        decide(self.cells.as_slice(), self.views.shape.f(), bits);
+    }
+}

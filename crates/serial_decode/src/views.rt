@@ -1,0 +1,143 @@
+//! A code block as its half iterations read it.
+ghost use Rattle.std.specs.Prelude.{◌≡◌, ◌≤◌, ℕ};
+ghost use Rattle.sender_model.specs.Interleaver.{place};
+ghost use Rattle.receiver_model.specs.HalfIteration.{systematic_at};
+ghost use Rattle.serial_decode.specs.Views.{AreStreams, AreWhole, by_position};
+
+use crate::lists::{own_order, part, picked, second_order};
+use crate::strip::ListStrip;
+use lte_bits::{NoMemory, Soft, SoftStreams};
+use std::alloc::Global;
+use window_decode::{Border, Ext, Shape};
+
+/// The soft values of a code block, and the lists in which the halves read them: the place of each
+/// position in both orders, and the systematic values in the second one.
+#[derive(Drop)]
+pub struct Views<'a> {
+    pub streams: &'a SoftStreams,
+    pub shape: Shape,
+    natural: Vec<u16>,
+    interleaved: Vec<u16>,
+    systematic: Vec<Soft>,
+    pub ghost filled: { shape.f ≤ shape.k },
+    pub ghost whole: { AreStreams streams.now shape },
+    ghost in_order: { natural.items ≡ by_position shape (λ i. i) },
+    ghost in_second_order: { interleaved.items ≡ by_position shape (place shape.k) },
+    ghost read_in_second_order: { systematic.items ≡ by_position shape (systematic_at streams.now shape.k 1) },
+}
+
+impl<'a> Views<'a> {
+    ghost use Rattle.std.specs.Prelude.{◌<◌, IfOk, length, map};
+    ghost use Rattle.receiver_model.specs.HalfIteration.{positions, window_width, order, parity_at, tail_border};
+
+    /// The views of a code block. The streams have length K + 4, and the shape's fillers.
+    pub fn new(
+        alloc: Global,
+        streams: &'a SoftStreams,
+        shape: &Shape,
+    ) -> Result<Views<'a>, NoMemory>
+        requires { AreStreams streams.now shape.now }
+        ensures streams { IfOk result (λ v. v.streams.now ≡ streams.now) }
+        ensures shape { IfOk result (λ v. v.shape ≡ shape.now) }
+    {
+        let k = shape.k();
+        let natural = own_order(alloc, k)?;
+        let interleaved = second_order(alloc, k)?;
+        let systematic = picked(alloc, streams.d0.as_slice(), interleaved.as_slice())?;
+        Ok(Views {
+            streams,
+            shape: *shape,
+            natural,
+            interleaved,
+            systematic,
+        })
+    }
+
+    /// The place of each position in half `h`.
+    fn places(&self, h: usize) -> &[u16]
+        ensures { result.now ≡ by_position self.now.shape (order self.now.shape.k h) }
+    {
+        if h % 2 == 0 {
+            self.natural.as_slice()
+        } else {
+            self.interleaved.as_slice()
+        }
+    }
+
+    /// The systematic value of each position in half `h`.
+    fn systematic(&self, h: usize) -> &[Soft]
+        ensures { result.now
+            ≡ by_position self.now.shape (systematic_at self.now.streams.now self.now.shape.k h) }
+    {
+        if h % 2 == 0 {
+            &self.streams.d0.as_slice()[..self.shape.k()]
+        } else {
+            self.systematic.as_slice()
+        }
+    }
+
+    /// The parity value of each position in half `h`.
+    fn parity(&self, h: usize) -> &[Soft]
+        ensures { result.now ≡ by_position self.now.shape (parity_at self.now.streams.now h) }
+    {
+        if h % 2 == 0 {
+            &self.streams.d1.as_slice()[..self.shape.k()]
+        } else {
+            &self.streams.d2.as_slice()[..self.shape.k()]
+        }
+    }
+
+    /// The border after the last position in half `h`.
+    pub fn tail(&self, h: usize) -> Border
+        ensures { result ≡ tail_border self.now.streams.now self.now.shape.k h }
+    {
+        let k = self.shape.k();
+        let d0 = self.streams.d0.as_slice();
+        let d1 = self.streams.d1.as_slice();
+        let d2 = self.streams.d2.as_slice();
+        if h % 2 == 0 {
+            Border::tail([d0[k], d2[k], d1[k + 1]], [d1[k], d0[k + 1], d2[k + 1]])
+        } else {
+            Border::tail(
+                [d0[k + 2], d2[k + 2], d1[k + 3]],
+                [d1[k + 2], d0[k + 3], d2[k + 3]],
+            )
+        }
+    }
+
+    /// The number of positions of a window.
+    pub fn width(&self) -> usize
+        ensures value { result ≡ window_width self.now.shape }
+        ensures whole { AreWhole self.now.shape }
+    {
+        self.shape.k() / self.shape.windows()
+    }
+
+    /// The number of windows of a half.
+    pub fn windows(&self) -> usize
+        ensures value { result ≡ self.now.shape.windows }
+        ensures whole { AreWhole self.now.shape }
+    {
+        self.shape.k() / self.width()
+    }
+
+    /// Window `t` of half `h` as a strip; `t` is below the number of windows, and there are K cells.
+    pub fn strip(&self, h: usize, t: usize, cells: Vec<Ext>) -> ListStrip<'_>
+        requires window { t < self.now.shape.windows }
+        requires cells { length cells.items ≡ self.now.shape.k }
+        ensures whole { AreWhole self.now.shape }
+        ensures cells { result.cells.items ≡ cells.items }
+        ensures places { result.places.now ≡ map (order self.now.shape.k h) (positions self.now.shape t) }
+        ensures systematic { result.systematic.now ≡ map (systematic_at self.now.streams.now self.now.shape.k h) (positions self.now.shape t) }
+        ensures parity { result.parity.now ≡ map (parity_at self.now.streams.now h) (positions self.now.shape t) }
+    {
+        let width = self.width();
+        let from = t * width;
+        ListStrip {
+            systematic: part(self.systematic(h), from, width),
+            parity: part(self.parity(h), from, width),
+            places: part(self.places(h), from, width),
+            cells,
+        }
+    }
+}

@@ -1,0 +1,36 @@
+//! One window of a half iteration.
+ghost use Rattle.std.specs.Prelude.{◌≡◌, ◌<◌, ◌≤◌, length};
+ghost use Rattle.receiver_model.specs.HalfIteration.{window_width};
+ghost use Rattle.serial_decode.specs.Runs.{window_from, left_of, IsReplaced};
+
+use crate::left::Left;
+use crate::strip::ListStrip;
+use crate::views::Views;
+use window_decode::{Border, Ext, Work, run_window};
+
+/// Decodes window `t` of half `h` between two borders: gives the cells of all places with those of the
+/// window replaced, and the borders that it leaves.
+pub fn decode_window(
+    work: &mut Work,
+    views: &Views<'_>,
+    h: usize,
+    t: usize,
+    start: &Border,
+    end: &Border,
+    cells: Vec<Ext>,
+) -> (Vec<Ext>, Left)
+    requires room { window_width views.now.shape ≤ work.old }
+    requires window { t < views.now.shape.windows }
+    requires cells { length cells.items ≡ views.now.shape.k }
+    ensures room { work.new ≡ work.old }
+    ensures cells { IsReplaced views.now.shape h t
+        (window_from views.now.streams.now views.now.shape h t start.now end.now cells.items)
+        cells.items result.0.items }
+    ensures left { result.1
+        ≡ left_of (window_from views.now.streams.now views.now.shape h t start.now end.now cells.items) }
+{
+    let mut strip = views.strip(h, t, cells);
+    let (forward, backward) = run_window(work, start, end, &mut strip);
+    let ListStrip { cells, .. } = strip;
+    (cells, Left { forward, backward })
+}
