@@ -1,0 +1,17 @@
+mod Changed
+mod Dealing
+mod FreeRights
+mod Gathering
+mod Lent
+mod Names
+mod Nones
+mod Numbers
+mod OneCell
+mod Owns
+mod Parts
+mod Placed
+mod Positions
+mod Rows
+mod Shuffles
+mod Told
+mod Undone

@@ -1,0 +1,45 @@
+-- The positions of a share.
+use Rattle.std.proofs.Common.{◌≡◌, ℕ, suc, ◌+◌, ◌*◌, ◌^◌, ◌<◌, ◌≤◌, length, map, refl, sym, ap, ◌∙◌, subst, arith}
+use Rattle.std.proofs.Math.Nat.{mul-le-mul_left}
+use lib.ListN.{length-map}
+use Rattle.std.specs.List.{range_with_len}
+use Rattle.cell_shares.specs.Deal.{share_places}
+use Rattle.cell_shares.specs.Orders.{place_in}
+use Rattle.cell_shares.specs.Parts.{places, values, IsCell}
+use Rattle.cell_shares.specs.declared.share.Share.{Share}
+use Rattle.cell_shares.specs.Shares.{share_values, share_place}
+use Rattle.cell_shares.proofs.Changed.{cell_of}
+use Rattle.cell_shares.proofs.Placed.{place-below}
+use Rattle.cell_shares.proofs.Told.{run-long}
+
+in_window : (t m w j : ℕ) → t < m → j < w → t * w + j < m * w
+in_window t m w j ht hj =
+    let le : w * suc t ≤ w * m = mul-le-mul_left w (let h : suc t ≤ m = omega (arith, ht) in h) in
+    let a : w * suc t ≡ t * w + w = omega arith in let b : w * m ≡ m * w = omega arith in omega (arith, le, a, b, hj)
+
+module _ {X : Type 0} (s : Share X) where
+  pub width-long : length (share_values s) ≡ s.split.width
+  width-long =
+      length-map s.part.cells (λ c. c.1) ∙ sym (length-map s.part.cells (λ c. c.0)) ∙ ap length s.dealt
+      ∙ run-long (λ i. place_in s.split.order i) (s.number * s.split.width) s.split.width
+
+  module _ (j : ℕ) (h : j < length (share_values s)) where
+    pub in_width : j < s.split.width
+    in_width = subst (λ (n : ℕ). j < n) width-long h
+
+    pub position_below : s.first + j < s.split.count
+    position_below =
+        let b = in_window s.number s.split.windows s.split.width j s.numbered in_width in let f = s.begins in let w = s.split.whole in
+        subst (λ (n : ℕ). s.first + j < n) (sym w) (subst (λ (n : ℕ). n + j < s.split.windows * s.split.width) (sym f) b)
+
+    -- cell j stands at the place of position first + j
+    pub cell_here : (x : X) × IsCell s.part.cells j (place_in s.split.order (s.first + j)) x
+    cell_here =
+        subst (λ (n : ℕ). (x : X) × IsCell s.part.cells j (place_in s.split.order (n + j)) x) (sym s.begins)
+        (cell_of (λ i. place_in s.split.order i) (s.number * s.split.width) s.split.width j s.part.cells s.dealt in_width)
+
+    pub place_is : share_place s j ≡ place_in s.split.order (s.first + j)
+    place_is = ap (λ (n : ℕ). place_in s.split.order (n + j)) (ap (λ (w : ℕ). s.number * w) width-long ∙ sym s.begins)
+
+    pub place_below : place_in s.split.order (s.first + j) < s.split.count
+    place_below = place-below s.split.order s.split.count (s.first + j) s.split.fits position_below

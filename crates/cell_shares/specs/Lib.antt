@@ -1,0 +1,6 @@
+pub mod Deal
+pub mod Orders
+pub mod Ownership
+pub mod Parts
+pub mod Rights
+pub mod Shares

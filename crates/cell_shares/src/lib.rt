@@ -1,0 +1,19 @@
+//! Disjoint shares of one buffer of cells: each share reads and writes its own cells, on any thread.
+#![tactic(auto)]
+
+pub mod cells;
+pub mod deal;
+pub mod joining;
+pub mod order;
+mod part;
+mod right;
+pub mod share;
+
+pub use cells::Cells;
+pub use deal::one_list_is_dealt;
+pub use joining::join;
+pub use order::Order;
+pub use share::Share;
+
+#[cfg(test)]
+mod tests;
