@@ -1,0 +1,11 @@
+pub mod ClaimWord
+pub mod Numbers
+pub mod Lawful
+pub mod Slots
+pub mod Steps
+pub mod Boards
+pub mod Seats
+pub mod Claims
+pub mod Finishes
+pub mod Openings
+pub mod Closings

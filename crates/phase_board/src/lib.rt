@@ -1,0 +1,27 @@
+//! A board of pieces, one for each window of a half, that the threads which share it draw, do and
+//! mark, each by one atomic step. The thread that marks the last one has all pieces, and either
+//! turns the board to the next half or stops it. No call waits.
+#![tactic(auto)]
+
+mod board;
+mod claiming;
+mod closed;
+mod closing;
+mod finishing;
+mod gathering;
+mod making;
+mod piece;
+mod plays;
+mod scattering;
+mod seating;
+mod seats;
+#[cfg(test)]
+mod tests;
+mod turning;
+mod view;
+
+pub use board::Board;
+pub use closed::Closed;
+pub use making::NewRefused;
+pub use piece::Piece;
+pub use seats::{Claim, Finish, Idle, Turning, Working};
