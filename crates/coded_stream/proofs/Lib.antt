@@ -1,0 +1,15 @@
+pub mod Sizes
+pub mod Told
+pub mod Fronts
+pub mod WordSteps
+pub mod Sent
+pub mod Midway
+pub mod BlockSteps
+pub mod Passed
+pub mod OpeningSteps
+pub mod Remaining
+pub mod BodyTexts
+pub mod HeaderTexts
+pub mod BodySpelled
+pub mod HeaderSpelled
+pub mod StreamTexts

@@ -1,0 +1,14 @@
+pub mod Limit
+pub mod Header
+pub mod Shown
+pub mod Units
+pub mod Blocks
+pub mod Text
+pub mod Opening
+pub mod Body
+pub mod Stream
+pub mod Steps
+pub mod Fields
+pub mod Takes
+pub mod Words
+pub mod Reached

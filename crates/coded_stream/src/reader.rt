@@ -1,0 +1,173 @@
+//! Reading a stream block by block.
+ghost use Rattle.std.specs.Prelude.{◌≡◌, ◌≤◌, ◌∷◌, [], ℕ, List, Some, IfOk, true};
+ghost use Rattle.edge_io.specs.Edge.{Rose};
+ghost use Rattle.coded_stream.specs.Opening.{opening};
+ghost use Rattle.coded_stream.specs.Shown.{header_of};
+ghost use Rattle.coded_stream.specs.Steps.{Begins, IsBegun, GoesOn, Advances, remaining};
+
+use crate::block::{Next, read_block};
+use crate::fields::{Fields, read_fields};
+use crate::header::Header;
+use crate::kind::Kind;
+use crate::opening::{Second, read_second};
+use crate::stop::StreamStop;
+use crate::transmission::transmission_size;
+use crate::unit::{Unit, read_unit};
+use edge_io::Source;
+use lte_bits::List;
+use std::marker::Model;
+
+/// The most blocks of a stream.
+const MOST_BLOCKS: usize = 4096;
+
+/// A stream whose header was read.
+#[derive(Debug, Drop)]
+pub struct StreamReader {
+    header: Header,
+    place: u64,
+    blocks: usize,
+    live: bool,
+}
+
+impl Model for StreamReader {
+    ghost use Rattle.coded_stream.specs.Steps.{Reading};
+
+    ghost Value = { Reading };
+
+    ghost use Rattle.coded_stream.specs.Reached.{reading_of, IsWithin};
+
+    ghost view = { reading_of };
+
+    ghost invariant = { IsWithin };
+}
+
+impl StreamReader {
+    /// Reads the header of a stream of the kind that is wanted. It takes no memory, so that it
+    /// never answers `NoMemory`. After `Bad` and `Fault` no byte past the unit that was being
+    /// read was taken.
+    pub fn begin<S: Source>(source: &mut S, want: Kind) -> Result<StreamReader, StreamStop>
+        // Where the source tells its bytes: the header that they begin with, or where they are
+        // refused.
+        ensures begins { (input : List ℕ) → S.left source.old ≡ Some input →
+            Begins (opening (want ∷ []) input) (S.left source.old) (S.left source.new) result }
+
+        // Whether it tells them or not.
+        ensures accepted { IfOk result (IsBegun want) }
+        ensures memory { result ≡ Err StreamStop.NoMemory → ⊥ }
+        ensures later { S.faults source.old ≤ S.faults source.new }
+        ensures fault { result ≡ Err StreamStop.Fault → Rose (S.faults source.old) (S.faults source.new) }
+    {
+        let mut unit = [0u8; 18];
+        match read_unit(source, &mut unit) {
+            Unit::Whole => {}
+            Unit::Short { got } => {
+                return Err(StreamStop::Bad {
+                    number: 6,
+                    place: got as u64,
+                });
+            }
+            Unit::Fault => return Err(StreamStop::Fault),
+        }
+        match read_fields(&unit, want) {
+            Fields::Bad { number, place } => Err(StreamStop::Bad { number, place }),
+            Fields::Good { m, tb, count } => match read_second(source, count) {
+                Second::Bad { number, place } => Err(StreamStop::Bad { number, place }),
+                Second::Fault => Err(StreamStop::Fault),
+                Second::Good { rvs } => {
+                    let versions = rvs.as_slice().len();
+                    Ok(StreamReader {
+                        header: Header {
+                            kind: want,
+                            m,
+                            tb,
+                            rvs,
+                        },
+                        place: 18 + versions as u64,
+                        blocks: 0,
+                        live: true,
+                    })
+                }
+            },
+        }
+    }
+
+    /// The header that was read.
+    pub fn header(&self) -> &Header
+        ensures { header_of result.now ≡ self.now.header }
+    {
+        &self.header
+    }
+
+    /// The number of bytes taken from the stream, while the reader is live.
+    pub fn place(&self) -> u64
+        ensures { result ≡ self.now.place }
+    {
+        self.place
+    }
+
+    /// How often `next_block` answered a block.
+    pub fn blocks(&self) -> usize
+        ensures { result ≡ self.now.blocks }
+    {
+        self.blocks
+    }
+
+    /// Whether the stream may go on: until `next_block` answers `None`, `Bad` or `Fault`.
+    pub fn is_live(&self) -> bool
+        ensures { result ≡ self.now.live }
+    {
+        self.live
+    }
+
+    /// Reads the next block of a live reader. `Some(n)` says that its payload has n bytes, and
+    /// that `into` holds the bytes of its transmissions, one after the other. `None` says that the
+    /// end word and the end of the input were read. `NoMemory` comes before anything is read,
+    /// with all as before. After `None`, `Bad` or `Fault` the reader isn't live, and `into` may
+    /// hold any bytes; after `Bad` and `Fault` no byte past the unit that was being read was
+    /// taken.
+    pub fn next_block<S: Source>(
+        &mut self,
+        source: &mut S,
+        into: &mut List<u8>,
+    ) -> Result<Option<usize>, StreamStop>
+        requires { self.old.live ≡ true }
+
+        // Where the source tells its bytes: what the stream still says begins with this.
+        ensures goes_on { (input : List ℕ) → S.left source.old ≡ Some input →
+            GoesOn (remaining self.old input) (remaining self.new) into.new
+            (S.left source.old) (S.left source.new) result }
+
+        // Whether it tells them or not.
+        ensures advances { Advances self.old self.new into.new result }
+        ensures memory { result ≡ Err StreamStop.NoMemory →
+            (source.new ≡ source.old) × (into.new ≡ into.old) }
+        ensures later { S.faults source.old ≤ S.faults source.new }
+        ensures fault { result ≡ Err StreamStop.Fault → Rose (S.faults source.old) (S.faults source.new) }
+    {
+        let size = transmission_size(self.header.kind, self.header.m.g());
+        let total = self.header.rvs.as_slice().len() * size;
+        if into.resize(total, 0).is_err() {
+            return Err(StreamStop::NoMemory);
+        }
+        let more = MOST_BLOCKS - self.blocks;
+        match read_block(source, &self.header, more, self.place, into.as_mut_slice()) {
+            Next::Block { payload } => {
+                self.place += 4 + total as u64;
+                self.blocks += 1;
+                Ok(Some(payload))
+            }
+            Next::End => {
+                self.live = false;
+                Ok(None)
+            }
+            Next::Bad { number, place } => {
+                self.live = false;
+                Err(StreamStop::Bad { number, place })
+            }
+            Next::Fault => {
+                self.live = false;
+                Err(StreamStop::Fault)
+            }
+        }
+    }
+}

@@ -1,0 +1,79 @@
+//! Reading one transmission of a block.
+ghost use Rattle.std.specs.Prelude.{◌≡◌, ◌≤◌, length};
+ghost use Rattle.edge_io.specs.Edge.{Rose};
+ghost use Rattle.coded_stream.specs.Blocks.{transmission_size, has_bad_bit, spare_bits};
+ghost use Rattle.coded_stream.specs.Takes.{TakesTransmission};
+
+use crate::kind::Kind;
+use crate::unit::{Unit, read_unit};
+use edge_io::Source;
+
+/// How reading a transmission ended.
+#[derive(Clone, Copy)]
+pub enum Transmission {
+    /// It was read whole, and is accepted.
+    Whole,
+    /// An unused low bit of its last byte is 1.
+    BadBit,
+    /// The input ended after `got` bytes of it.
+    Short { got: usize },
+    /// The source failed.
+    Fault,
+}
+
+/// The bytes of a transmission of `g` bits.
+pub fn transmission_size(kind: Kind, g: usize) -> usize
+    ensures { result ≡ transmission_size kind g }
+{
+    match kind {
+        Kind::Hard => g.div_ceil(8),
+        Kind::Soft => g,
+    }
+}
+
+/// The unused low bits of the last byte of `g` bits.
+fn spare_bits(g: usize) -> u32
+    requires { g ≤ 1000000 }
+    ensures { result ≡ spare_bits g }
+{
+    (8 * g.div_ceil(8) - g) as u32
+}
+
+/// Whether an unused low bit of a transmission's last byte is 1.
+fn has_bad_bit(kind: Kind, g: usize, bytes: &[u8]) -> bool
+    requires some { 1 ≤ length bytes.now }
+    requires few { g ≤ 1000000 }
+    ensures { result ≡ has_bad_bit kind g bytes.now }
+{
+    match kind {
+        Kind::Hard => bytes[bytes.len() - 1] % (1 << spare_bits(g)) != 0,
+        Kind::Soft => false,
+    }
+}
+
+/// Reads a transmission of `g` bits.
+pub fn read_transmission<S: Source>(
+    source: &mut S,
+    kind: Kind,
+    g: usize,
+    bytes: &mut [u8],
+) -> Transmission
+    requires some { 1 ≤ g }
+    requires few { g ≤ 1000000 }
+    requires size { length bytes.old ≡ transmission_size kind g }
+    ensures bytes { TakesTransmission kind g (S.left source.old) (S.left source.new) bytes.new result }
+    ensures later { S.faults source.old ≤ S.faults source.new }
+    ensures fault { result ≡ Transmission.Fault → Rose (S.faults source.old) (S.faults source.new) }
+{
+    match read_unit(source, bytes) {
+        Unit::Whole => {
+            if has_bad_bit(kind, g, bytes) {
+                Transmission::BadBit
+            } else {
+                Transmission::Whole
+            }
+        }
+        Unit::Short { got } => Transmission::Short { got },
+        Unit::Fault => Transmission::Fault,
+    }
+}

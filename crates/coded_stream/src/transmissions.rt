@@ -1,0 +1,55 @@
+//! Reading the transmissions of a block.
+ghost use Rattle.std.specs.Prelude.{◌≡◌, ◌≤◌, ◌<◌, ◌*◌, ◌^◌, ℕ, List, [], Some, length};
+ghost use Rattle.edge_io.specs.Edge.{Rose};
+ghost use Rattle.coded_stream.specs.Blocks.{lengths, transmission_size, AreTransmissions};
+ghost use Rattle.coded_stream.specs.Body.{transmissions_step};
+ghost use Rattle.coded_stream.specs.Shown.{header_of};
+ghost use Rattle.coded_stream.specs.Takes.{TakesStep, AreTaken};
+
+use crate::block::Next;
+use crate::header::Header;
+use crate::transmission::{Transmission, read_transmission, transmission_size};
+use edge_io::Source;
+
+/// Reads the transmissions of a block of `payload` bytes that begins at a place of the stream,
+/// one after the other.
+pub fn read_transmissions<S: Source>(
+    source: &mut S,
+    header: &Header,
+    payload: usize,
+    start: u64,
+    into: &mut [u8],
+) -> Next
+    requires place { start < 2 ^ 60 }
+    requires size { length into.old ≡ length header.now.rvs * transmission_size header.now.kind header.now.m.g }
+    ensures told { (input : List ℕ) → S.left source.old ≡ Some input →
+        TakesStep (transmissions_step header.now.kind start (record { payload = payload; bytes = [] }) (lengths (header_of header.now)) input)
+        4 into.new (S.left source.old) (S.left source.new) result }
+    ensures taken { AreTaken header.now.kind (lengths (header_of header.now)) payload into.new result }
+    ensures later { S.faults source.old ≤ S.faults source.new }
+    ensures fault { result ≡ Next.Fault → Rose (S.faults source.old) (S.faults source.new) }
+{
+    let g = header.m.g();
+    let size = transmission_size(header.kind, g);
+    for turn in 0..header.rvs.as_slice().len() {
+        let read = turn * size;
+        let place = start + 4 + read as u64;
+        match read_transmission(source, header.kind, g, &mut into[read..read + size]) {
+            Transmission::Whole => {}
+            Transmission::BadBit => {
+                return Next::Bad {
+                    number: 5,
+                    place: place + (size as u64 - 1),
+                };
+            }
+            Transmission::Short { got } => {
+                return Next::Bad {
+                    number: 6,
+                    place: place + got as u64,
+                };
+            }
+            Transmission::Fault => return Next::Fault,
+        }
+    }
+    Next::Block { payload }
+}

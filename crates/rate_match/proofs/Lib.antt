@@ -1,0 +1,3 @@
+pub mod SizeSteps
+pub mod Need
+pub mod FitTest
