@@ -25,7 +25,7 @@ pub record Runs {S D : Type 0} (words : List (List ℕ)) (source source' : S) (o
   -- refused words: nothing is read, `out` is as before, and the report gains the fault line
   pub refused : IfErr (command_of words) (λ refusal. (status ≡ BadWords refusal.number refusal.place)
       × (source' ≡ source) × (out' ≡ out)
-    × AddsLine old.report new.report (fault_line status) before.reports now.reports)
+      × AddsLine old.report new.report (fault_line status) before.reports now.reports)
   -- else the run ends as the command's answer says, or by a fault, or for want of memory, and the fault line
   -- stands behind
   pub ends : IfOk (command_of words) (λ command. (input : List ℕ) → old.left ≡ Some input →
