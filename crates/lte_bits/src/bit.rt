@@ -1,4 +1,6 @@
 //! Bits, and the cells of coded streams.
+ghost use Rattle.lte_bits.specs.Bits.{digit, cell_of};
+ghost use Rattle.std.specs.Prelude.{◌≡◌};
 
 /// A bit.
 #[derive(Clone, Copy, Debug, PartialEq, Eq, Hash)]
@@ -13,4 +15,34 @@ pub enum Cell {
     Zero,
     One,
     Null,
+}
+
+impl From<Bit> for Cell {
+    ghost from_gives = { λ bit cell. cell ≡ cell_of bit };
+
+    fn from(bit: Bit) -> Cell {
+        match bit {
+            Bit::Zero => Cell::Zero,
+            Bit::One => Cell::One,
+        }
+    }
+}
+
+impl From<Bit> for u8 {
+    ghost from_gives = { λ bit number. number ≡ digit bit };
+
+    fn from(bit: Bit) -> u8 {
+        match bit {
+            Bit::Zero => 0,
+            Bit::One => 1,
+        }
+    }
+}
+
+impl From<Bit> for u32 {
+    ghost from_gives = { λ bit number. number ≡ digit bit };
+
+    fn from(bit: Bit) -> u32 {
+        u32::from(u8::from(bit))
+    }
 }

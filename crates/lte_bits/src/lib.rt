@@ -12,6 +12,3 @@ pub use block::{Block, SoftStreams, Streams};
 pub use list::{List, NoMemory};
 pub use packing::{pack, unpack};
 pub use soft::Soft;
-
-#[cfg(test)]
-mod tests;

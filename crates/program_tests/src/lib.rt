@@ -1,0 +1,3 @@
+//! Tests of what runs over sources and sinks: the edges themselves, the container, the commands.
+#![tactic(auto)]
+

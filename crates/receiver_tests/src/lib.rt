@@ -1,0 +1,3 @@
+//! Tests of the receiver's public calls on one thread.
+#![tactic(auto)]
+
