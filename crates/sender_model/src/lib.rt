@@ -7,5 +7,7 @@ pub mod interleaver;
 pub mod rows;
 pub mod segmentation;
 pub mod selection;
+pub mod spot;
 
 pub use rows::{ROWS, Row};
+pub use spot::Spot;
