@@ -2,6 +2,7 @@
 #![tactic(auto)]
 
 pub mod check_bits;
+pub mod circular_buffer;
 pub mod constituent_coder;
 pub mod interleaver;
 pub mod rows;

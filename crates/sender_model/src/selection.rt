@@ -20,7 +20,7 @@ pub fn some_bit_is_kept_where_it_fits()
     ensures { (plan : Plan) (m : Match) (r start : ℕ) →
         fill plan r ≤ size plan r → size plan r ≤ plan.k_plus → Fits m plan →
         0 < length (bits_from (holds_bit (size plan r) (fill plan r)) start
-            (buffer_length m.limit plan.c (size plan r))) }
+        (buffer_length m.limit plan.c (size plan r))) }
 {}
 
 /// The blocks of a transport block send G bits together.
