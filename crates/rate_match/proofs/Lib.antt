@@ -6,3 +6,4 @@ pub mod Matchings
 pub mod Walked
 pub mod Selected
 pub mod CursorSteps
+pub mod BlockStreams
