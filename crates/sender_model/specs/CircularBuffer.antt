@@ -33,9 +33,11 @@ pub record Stream : Type 0 where
 
 -- the bit at place p of y, which is the stream behind its padding; none at a NULL
 abbrev pub padded : Stream → ℕ → Option Spot
-padded d p = if nat_lt p (padding d.k + d.nulls) then None else Some (record { stream = d.number; index = p - padding d.k })
+padded d p =
+    if nat_lt p (padding d.k + d.nulls) then None
+    else Some (record { stream = d.number; index = p - padding d.k })
 
--- the bit at place n of w, by index and fillers alone: v0 of d0 first, and then v1 of d1 and v2 of d2 by turns
+-- the bit at place n of w, by index and fillers alone: v0 of d0 first, then v1 of d1 and v2 of d2 by turns
 abbrev pub spot : ℕ → ℕ → ℕ → Option Spot
 spot k fill n =
     let r = rows_of k in

@@ -50,10 +50,10 @@ pub parity_more : (fill i : ℕ) (s t : State) (inputs : List Bit) (u : Bit) (ou
     → out ≡ cells_before fill (parities inputs) i → longer ≡ cells_before fill (parities inputs) (i + 1)
 parity_more fill i s t inputs u out longer below read state step before =
     let bit : step.parity_bit ≡ at (parities inputs) i =
-        step.parity_is
-        ∙ ap (λ v. parity v u) state
-        ∙ ap (parity (reached zero_state (take i inputs))) (sym read)
-        ∙ sym (parity-at zero_state inputs i below) in
+    step.parity_is
+    ∙ ap (λ v. parity v u) state
+    ∙ ap (parity (reached zero_state (take i inputs))) (sym read)
+    ∙ sym (parity-at zero_state inputs i below) in
     cell_more fill (parities inputs) i out longer step.cell before step.pushed (step.cell_is ∙ ap (filled_cell fill i) bit)
 
 -- a state more

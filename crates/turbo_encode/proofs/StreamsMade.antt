@@ -101,7 +101,7 @@ streams-made fill c d e f d0 d1 d2 long end_c end_d e0 e1 e2 =
     (e0 ∙ ap (λ bits. null_filled fill c ++ cells_of bits) (bits_0-is c d e f h))
     (e1 ∙ ap (λ bits. null_filled fill (parities c) ++ cells_of bits) (bits_1-is c d e f h))
     (e2 ∙ ap (λ bits. null_filled 0 (parities d) ++ cells_of bits) (bits_2-is c d e f h)
-        ∙ ap (λ cells. cells ++ cells_of (tail_2 (length c) (values c) (values d))) (null_filled-none (parities d)))
+    ∙ ap (λ cells. cells ++ cells_of (tail_2 (length c) (values c) (values d))) (null_filled-none (parities d)))
 
 pub length-interleaved : (c : List Bit) → length (interleaved c) ≡ length c
 length-interleaved c = length-map-range_with_len (λ i. at c (place (length c) i)) 0 (length c)

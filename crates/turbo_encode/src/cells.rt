@@ -10,7 +10,11 @@ use std::alloc::Global;
 pub fn cell_at(fill: usize, i: usize, bit: Bit) -> Cell
     ensures { result ≡ filled_cell fill i bit }
 {
-    if i < fill { Cell::Null } else { Cell::from(bit) }
+    if i < fill {
+        Cell::Null
+    } else {
+        Cell::from(bit)
+    }
 }
 
 /// The cells of a block's own bits, `Null` at the first `fill` places, with room for the tail.

@@ -4,9 +4,7 @@ use Rattle.lte_bits.specs.declared.bit.Bit.{Bit}
 use Rattle.lte_bits.specs.declared.bit.Bit.TheVariants.{Zero}
 use Rattle.sender_model.specs.Bits.{at}
 use Rattle.sender_model.specs.ConstituentCoder.{zero_state, parities}
-use Rattle.sender_model.specs.CodedStreams.{null_filled}
 use Rattle.sender_model.specs.Interleaver.{pi}
-use Rattle.sender_model.specs.Tail.{reached}
 use Rattle.sender_model.proofs.RowLaws.{range-of_size}
 use Rattle.sender_model.proofs.Coder.{made}
 use Rattle.turbo_encode.specs.Order.{in_order}
@@ -55,7 +53,7 @@ returns-clause-cells c =
     let bits = c.args.bits.now in
     let inputs = in_order (length bits) c.args.order.f1 c.args.order.f2 bits in
     let all : c.loop-i.i ≡ length (parities inputs) =
-        omega (arith, length-in_order (length bits) c.args.order.f1 c.args.order.f2 bits, (made zero_state inputs).z_long, c.loop-i-test.false, c.loop-i.auto.i-end) in
+    omega (arith, length-in_order (length bits) c.args.order.f1 c.args.order.f2 bits, (made zero_state inputs).z_long, c.loop-i-test.false, c.loop-i.auto.i-end) in
     c.loop-i.invariant.cells ∙ ap (cells_before c.args.fill (parities inputs)) all
 
 pub returns-clause-end : goal.returns-clause-end
