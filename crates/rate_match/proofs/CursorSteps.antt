@@ -2,10 +2,10 @@
 use Rattle.std.proofs.Common.{◌≡◌, ℕ, ◌+◌, ◌-◌, ◌*◌, ◌/◌, ◌%◌, ◌<◌, ◌≤◌, nat_lt, if◌then◌else◌, slice_index, sym, ap, ◌∙◌, inl, inr, arith}
 use Rattle.std.proofs.lemmas.Bool.{cases_lt, lt-ltb, le-ltb}
 use Rattle.std.proofs.lemmas.Nat.{div-mul-add, mod-mul-add, mod_below}
-use Rattle.std.proofs.Math.Nat.{div-add-mod, div-eq_of_lt, mod-eq_of_lt, mod_self}
+use Rattle.std.proofs.Math.Nat.{div-add-mod, div-eq_of_lt, mod-eq_of_lt, mod_self, div-lt_iff_lt-mul}
 use Rattle.sender_model.specs.CircularBuffer.{column_order, read_place, rows_of, buffer_size, Stream, padded, spot}
 use Rattle.sender_model.proofs.BufferLaws.{spot-third}
-use Rattle.sender_model.proofs.PaddedStreams.{read_place-below}
+use Rattle.sender_model.proofs.PaddedStreams.{column-below, read_place-below}
 use Rattle.rate_match.specs.Cursor.{order_of, cursor_at}
 use Rattle.rate_match.specs.declared.cursor.Cursor.{Cursor}
 use Rattle.rate_match.proofs.SizeSteps.{places-most}
@@ -53,56 +53,54 @@ order-more r n apart even =
 
 -- ---- the cursor there
 
-abbrev pub made : (n column row by_rows : ℕ) → Cursor
-made n column row by_rows = record { n = n; column = column; row = row; by_rows = by_rows }
+abbrev pub made : (n column by_rows : ℕ) → Cursor
+made n column by_rows = record { n = n; column = column; by_rows = by_rows }
 
-same : (n : ℕ) {a b c d e f : ℕ} → a ≡ b → c ≡ d → e ≡ f → made n a c e ≡ made n b d f
-same n p q s i = made n (p i) (q i) (s i)
+same : (n : ℕ) {a b c d : ℕ} → a ≡ b → c ≡ d → made n a c ≡ made n b d
+same n p q i = made n (p i) (q i)
 
-pub begins : (r n : ℕ) → 0 < r → order_of r n ≡ 0 → made n 0 0 0 ≡ cursor_at r n
+pub begins : (r n : ℕ) → 0 < r → order_of r n ≡ 0 → made n 0 0 ≡ cursor_at r n
 begins r n some order =
     let column : order_of r n / r ≡ 0 = ap (λ (i : ℕ). i / r) order ∙ div-eq_of_lt some in
     let row : order_of r n % r ≡ 0 = ap (λ (i : ℕ). i % r) order ∙ mod-eq_of_lt some in
     let first : slice_index column_order (order_of r n / r) ≡ 0 = ap (slice_index column_order) column in
-    same n (sym column) (sym row) (omega (arith, row, first))
-
-pub stays : (r n : ℕ) (c : Cursor) → c ≡ cursor_at r c.n → order_of r n ≡ order_of r c.n → made n c.column c.row c.by_rows ≡ cursor_at r n
-stays r n c is order =
-    same n
-    (ap (λ (c : Cursor). c.column) is ∙ ap (λ (i : ℕ). i / r) (sym order))
-    (ap (λ (c : Cursor). c.row) is ∙ ap (λ (i : ℕ). i % r) (sym order))
-    (ap (λ (c : Cursor). c.by_rows) is ∙ ap (read_place r) (sym order))
+    same n (sym column) (omega (arith, row, first))
 
 -- one row further on
-pub next_row : (r n : ℕ) (c : Cursor) → c ≡ cursor_at r c.n → order_of r n ≡ order_of r c.n + 1 → c.row + 1 < r → made n c.column (c.row + 1) (c.by_rows + 32) ≡ cursor_at r n
+pub next_row : (r n : ℕ) (c : Cursor) → c ≡ cursor_at r c.n → order_of r n ≡ order_of r c.n + 1 → c.by_rows + 32 < 32 * r → made n c.column (c.by_rows + 32) ≡ cursor_at r n
 next_row r n c is order within =
     let i : ℕ = order_of r c.n in
     let column : c.column ≡ i / r = ap (λ (c : Cursor). c.column) is in
-    let row : c.row ≡ i % r = ap (λ (c : Cursor). c.row) is in
     let place : c.by_rows ≡ slice_index column_order (i / r) + 32 * (i % r) = ap (λ (c : Cursor). c.by_rows) is in
-    let inside : i % r + 1 < r = omega (arith, within, row) in
-    let some : 0 < r = omega (arith, within) in
+    let inside : i % r + 1 < r = omega (arith, within, place) in
     let whole : r * (i / r) + i % r ≡ i = div-add-mod i r in
     let split : order_of r n ≡ i / r * r + (i % r + 1) = omega (arith, order, whole) in
     let quotient : order_of r n / r ≡ i / r = ap (λ (j : ℕ). j / r) split ∙ div-mul-add (i / r) r (i % r + 1) inside in
     let rest : order_of r n % r ≡ i % r + 1 = ap (λ (j : ℕ). j % r) split ∙ mod-mul-add (i / r) r (i % r + 1) inside in
     let at : slice_index column_order (order_of r n / r) ≡ slice_index column_order (i / r) = ap (slice_index column_order) quotient in
-    same n (column ∙ sym quotient) (omega (arith, row, rest)) (omega (arith, place, at, rest))
+    same n (column ∙ sym quotient) (omega (arith, place, at, rest))
 
 -- the column is full
-pub next_column : (r n : ℕ) (c : Cursor) → 0 < r → c ≡ cursor_at r c.n → order_of r n ≡ order_of r c.n + 1 → r ≤ c.row + 1 → made n (c.column + 1) 0 (slice_index column_order (c.column + 1)) ≡ cursor_at r n
-next_column r n c some is order full =
+pub next_column : (r n : ℕ) (c : Cursor) → c ≡ cursor_at r c.n → order_of r n ≡ order_of r c.n + 1 → order_of r n < 32 * r → 32 * r ≤ c.by_rows + 32 → made n (c.column + 1) (slice_index column_order (c.column + 1)) ≡ cursor_at r n
+next_column r n c is order within full =
     let i : ℕ = order_of r c.n in
+    let some : 0 < r = omega (arith, within) in
     let column : c.column ≡ i / r = ap (λ (c : Cursor). c.column) is in
-    let row : c.row ≡ i % r = ap (λ (c : Cursor). c.row) is in
+    let place : c.by_rows ≡ slice_index column_order (i / r) + 32 * (i % r) = ap (λ (c : Cursor). c.by_rows) is in
+    let small : slice_index column_order (i / r) < 32 = column-below (i / r) ((div-lt_iff_lt-mul some).1 (let h : i < 32 * r = omega (arith, order, within) in h)) in
     let last : i % r < r = mod_below i r some in
     let whole : r * (i / r) + i % r ≡ i = div-add-mod i r in
-    let split : order_of r n ≡ (i / r + 1) * r + 0 = omega (arith, order, whole, last, row, full) in
+    let split : order_of r n ≡ (i / r + 1) * r + 0 = omega (arith, order, whole, last, place, small, full) in
     let quotient : order_of r n / r ≡ i / r + 1 = ap (λ (j : ℕ). j / r) split ∙ div-mul-add (i / r + 1) r 0 some in
     let rest : order_of r n % r ≡ 0 = ap (λ (j : ℕ). j % r) split ∙ mod-mul-add (i / r + 1) r 0 some in
     let next : c.column + 1 ≡ order_of r n / r = omega (arith, column, quotient) in
     let at : slice_index column_order (c.column + 1) ≡ slice_index column_order (order_of r n / r) = ap (slice_index column_order) next in
-    same n next (sym rest) (omega (arith, at, rest))
+    same n next (omega (arith, at, rest))
+
+pub column-left : (r n : ℕ) (c : Cursor) → c ≡ cursor_at r c.n → order_of r n ≡ order_of r c.n + 1 → order_of r n < 32 * r → 32 * r ≤ c.by_rows + 32 → c.column + 1 < 32
+column-left r n c is order within full =
+    let next : c.column + 1 ≡ order_of r n / r = ap (λ (d : Cursor). d.column) (next_column r n c is order within full) in
+    omega (arith, next, (div-lt_iff_lt-mul {k = r} {x = order_of r n} {y = 32} (let some : 0 < r = omega (arith, within) in some)).1 within)
 
 -- ---- its bounds
 

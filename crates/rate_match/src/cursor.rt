@@ -54,13 +54,12 @@ fn padded(ring: Ring, number: u8, nulls: usize, p: usize) -> Option<Spot>
     }
 }
 
-/// Place `n` of the buffer: the column, counted in the order of reading, and the row of a stream
-/// that stand there, and where these are by rows.
+/// Place `n` of the buffer: the column that stands there, counted in the order of reading, and the
+/// place in the stream by rows.
 #[derive(Clone, Copy)]
 pub(crate) struct Cursor {
     pub n: usize,
     pub column: usize,
-    pub row: usize,
     pub by_rows: usize,
 }
 
@@ -72,23 +71,21 @@ impl Cursor {
     {
         let first = 32 * ring.rows;
         let order = if n < first { n } else { (n - first) / 2 };
-        let (column_place, row) = (order / ring.rows, order % ring.rows);
+        let reading = order / ring.rows;
         Cursor {
             n,
-            column: column_place,
-            row,
-            by_rows: column(column_place) + 32 * row,
+            column: reading,
+            by_rows: column(reading) + 32 * (order % ring.rows),
         }
     }
 
     /// Place `n`, where the reading of a stream begins.
     fn first(n: usize) -> Cursor
-        ensures { result ≡ record { n = n; column = 0; row = 0; by_rows = 0 } }
+        ensures { result ≡ record { n = n; column = 0; by_rows = 0 } }
     {
         Cursor {
             n,
             column: 0,
-            row: 0,
             by_rows: 0,
         }
     }
@@ -100,20 +97,18 @@ impl Cursor {
         requires within { order_of ring.rows n < 32 * ring.rows }
         ensures { result ≡ cursor_at ring.rows n }
     {
-        if self.row + 1 < ring.rows {
-            Cursor {
+        let below = self.by_rows + 32;
+        if below < 32 * ring.rows {
+            return Cursor {
                 n,
                 column: self.column,
-                row: self.row + 1,
-                by_rows: self.by_rows + 32,
-            }
-        } else {
-            Cursor {
-                n,
-                column: self.column + 1,
-                row: 0,
-                by_rows: column(self.column + 1),
-            }
+                by_rows: below,
+            };
+        }
+        Cursor {
+            n,
+            column: self.column + 1,
+            by_rows: column(self.column + 1),
         }
     }
 
