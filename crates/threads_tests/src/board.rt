@@ -4,7 +4,7 @@ ghost use Rattle.phase_board.specs.Boards.{board_job};
 ghost use Rattle.phase_board.specs.Seats.{IsIdleOf, IsWorkingOf, IsTurningOf, idle_view};
 ghost use Rattle.phase_board.specs.ClaimWord.{IsStopped};
 
-use super::{Board, Claim, Finish, Idle, Piece, Turning, Working};
+use phase_board::{Board, Claim, Finish, Idle, Piece, Turning, Working};
 use std::process::Abort;
 use std::test::Fail;
 
