@@ -23,4 +23,5 @@ pairs (suc more) (a ∷ b ∷ rest) = behind (copied a 2 ∷ copied b 1 ∷ []) 
 -- the header is a 7, and `out` begins with it
 abbrev pub answer_of : (input : List ℕ) → Reply
 answer_of [] = unopened 6 0 0 1
-answer_of (head ∷ rest) = if head == 7 then begun 1 2 (opened (7 ∷ []) (pairs 1000 rest)) else unopened 1 0 1 1
+answer_of (head ∷ rest) =
+    if head == 7 then begun 1 2 (opened (7 ∷ []) (pairs 1000 rest)) else unopened 1 0 1 1

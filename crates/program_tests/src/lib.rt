@@ -1,3 +1,7 @@
 //! Tests of what runs over sources and sinks: the edges themselves, the container, the commands.
 #![tactic(auto)]
 
+#[cfg(test)]
+mod container;
+#[cfg(test)]
+mod edges;

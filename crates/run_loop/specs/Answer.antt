@@ -48,9 +48,25 @@ opened text a = record a { opening = text }
 -- nothing more, and a refusal
 abbrev pub refusal : (number place tail due : ℕ) → Answer
 refusal number place tail due =
-    record { opening = []; parts = []; closing = []; last = []; ending = bad number place; tail = tail; due = due }
+    record {
+      opening = [];
+      parts = [];
+      closing = [];
+      last = [];
+      ending = bad number place;
+      tail = tail;
+      due = due;
+    }
 
 -- nothing more but the closing and the last line
 abbrev pub closed : (closing last : List ℕ) → Ending → (tail due : ℕ) → Answer
 closed closing last ending tail due =
-    record { opening = []; parts = []; closing = closing; last = last; ending = ending; tail = tail; due = due }
+    record {
+      opening = [];
+      parts = [];
+      closing = closing;
+      last = last;
+      ending = ending;
+      tail = tail;
+      due = due;
+    }

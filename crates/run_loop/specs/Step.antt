@@ -10,7 +10,8 @@ use Rattle.run_loop.specs.declared.work.Stop.{Stop}
 use Rattle.run_loop.specs.declared.work.Stop.TheVariants.{Go, End, Bad, Fault, NoMemory}
 
 abbrev pub part_of : Block → Part
-part_of block = record { text = block.text.items; line = block.line.items; size = block.size; wants = block.wants }
+part_of block =
+    record { text = block.text.items; line = block.line.items; size = block.size; wants = block.wants }
 
 abbrev pub parts_of : List Block → List Part
 parts_of blocks = map part_of blocks

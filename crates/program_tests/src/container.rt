@@ -1,10 +1,7 @@
 //! Streams as they are written, and each refusal at its byte.
-ghost use Rattle.std.specs.Prelude.{◌≤◌};
-
-use crate::{Header, Kind, StreamReader, StreamStop, write_header, write_length};
+use coded_stream::{Kind, StreamReader, StreamStop, write_header, write_length};
 use edge_io::{MemSink, MemSource};
 use lte_bits::List;
-use rate_match::{Buffer, Match, Rvs};
 use std::alloc::{AllocError, Global};
 use std::test::Fail;
 
@@ -20,11 +17,9 @@ fn read(
     input: &[u8],
     want: Kind,
     piece: usize,
-) -> Result<(usize, Option<StreamStop>), AllocError>
-    requires { 1 ≤ piece }
-{
+) -> Result<(usize, Option<StreamStop>), AllocError> {
     let bytes = List::from_vec(Vec::from_slice(alloc, input)?);
-    let mut source = MemSource::new(bytes, piece, List::from_vec(Vec::new(alloc)));
+    let mut source = MemSource::new(bytes, piece.max(1), List::from_vec(Vec::new(alloc)));
     let mut reader = match StreamReader::begin(&mut source, want) {
         Ok(reader) => reader,
         Err(stop) => return Ok((0, Some(stop))),
@@ -85,10 +80,10 @@ fn a_stream_that_is_cut_is_refused_at_its_end(rt: HostRuntime) -> Result<(), Fai
     for piece in [1, 7] {
         for n in 0..whole.len() {
             let blocks = if n < 155 { 0 } else { 1 };
-            let got = read(rt.alloc(), &whole[..n], Kind::Soft, piece.max(1))?;
+            let got = read(rt.alloc(), &whole[..n], Kind::Soft, piece)?;
             assert!(rt; got == (blocks, bad(6, n as u64)), "cut to {n} bytes");
         }
-        let got = read(rt.alloc(), &whole, Kind::Soft, piece.max(1))?;
+        let got = read(rt.alloc(), &whole, Kind::Soft, piece)?;
         assert!(rt; got == (1, None));
     }
     Ok(())
@@ -117,7 +112,7 @@ fn each_change_is_refused_at_its_byte(rt: HostRuntime) -> Result<(), Fail> {
             if let Some(changed) = bytes.get_mut(at) {
                 *changed = byte;
             }
-            let got = read(rt.alloc(), &bytes, Kind::Soft, piece.max(1))?;
+            let got = read(rt.alloc(), &bytes, Kind::Soft, piece)?;
             assert!(rt; got == (0, bad(number, place)), "byte {at} is {byte}");
         }
     }
@@ -127,7 +122,6 @@ fn each_change_is_refused_at_its_byte(rt: HostRuntime) -> Result<(), Fail> {
 #[test]
 fn streams_of_other_kinds_and_lengths(rt: HostRuntime) -> Result<(), Fail> {
     for piece in [1, 7] {
-        let piece: usize = piece.max(1);
         let soft = soft_stream(rt.alloc())?;
         assert!(rt; read(rt.alloc(), &soft, Kind::Hard, piece)? == (0, bad(2, 4)));
         let mut longer = soft_stream(rt.alloc())?;
