@@ -6,6 +6,3 @@ mod pairs;
 mod running;
 
 pub use running::copy_pairs;
-
-#[cfg(test)]
-mod tests;

@@ -5,3 +5,7 @@
 mod container;
 #[cfg(test)]
 mod edges;
+#[cfg(test)]
+mod pairs;
+#[cfg(test)]
+mod runs;

@@ -1,6 +1,6 @@
-//! Runs over memory.
-use crate::copy_pairs;
+//! The example of a command over the run loop, run over memory.
 use edge_io::{MemSink, MemSource};
+use loop_example::copy_pairs;
 use lte_bits::List;
 use run_loop::Status;
 use std::process::Abort;

@@ -25,16 +25,19 @@ pub smaller-is : (bytes c k j : ℕ) → c ≡ count_of (8 * bytes + 24) → k �
 unfolding plan_of
 smaller-is bytes c k j e larger size = size ∙ (ap (λ (m : ℕ). smaller_size c m) larger ∙ ap (λ (m : ℕ). smaller_size m (larger_size (count_of (bits_of bytes)) (carried (bits_of bytes)))) e)
 
+abbrev pub count_at : (c n k j : ℕ) → ℕ
+count_at c n k j = smaller_count (record { c = c; bits = n; k_plus = k; k_minus = j })
+
 pub smaller_count-is : (bytes c n k j m : ℕ) → c ≡ count_of (8 * bytes + 24) → n ≡ carried (bits_of bytes) → k ≡ (plan_of bytes).k_plus → j ≡ (plan_of bytes).k_minus
-    → m ≡ smaller_count c n k j → m ≡ (plan_of bytes).c_minus
+    → m ≡ count_at c n k j → m ≡ (plan_of bytes).c_minus
 unfolding plan_of
 smaller_count-is bytes c n k j m e bits larger smaller count =
     let p : Plan = plan_of bytes in
     count
-    ∙ (ap (λ (x : ℕ). smaller_count x n k j) e
-    ∙ (ap (λ (x : ℕ). smaller_count (count_of (bits_of bytes)) x k j) bits
-    ∙ (ap (λ (x : ℕ). smaller_count (count_of (bits_of bytes)) (carried (bits_of bytes)) x j) larger
-    ∙ ap (λ (x : ℕ). smaller_count (count_of (bits_of bytes)) (carried (bits_of bytes)) p.k_plus x) smaller)))
+    ∙ (ap (λ (x : ℕ). count_at x n k j) e
+    ∙ (ap (λ (x : ℕ). count_at (count_of (bits_of bytes)) x k j) bits
+    ∙ (ap (λ (x : ℕ). count_at (count_of (bits_of bytes)) (carried (bits_of bytes)) x j) larger
+    ∙ ap (λ (x : ℕ). count_at (count_of (bits_of bytes)) (carried (bits_of bytes)) p.k_plus x) smaller)))
 
 pub larger_count-is : (bytes : ℕ) → (plan_of bytes).c_plus ≡ (plan_of bytes).c - (plan_of bytes).c_minus
 unfolding plan_of

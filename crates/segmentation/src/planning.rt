@@ -53,7 +53,7 @@ fn smaller_count(c: usize, n: usize, k_plus: usize, k_minus: usize) -> usize
     requires size { k_plus ≤ 6144 }
     requires apart { k_minus < k_plus }
     requires room { n ≤ c * k_plus }
-    ensures { result ≡ smaller_count c n k_plus k_minus }
+    ensures { result ≡ smaller_count (record { c = c; bits = n; k_plus = k_plus; k_minus = k_minus }) }
 {
     if c == 1 {
         0

@@ -6,7 +6,7 @@ use Rattle.std.proofs.lemmas.Nat.{mod_below}
 use Rattle.std.proofs.Math.Nat.{div-add-mod, mul-le-mul_left}
 use Rattle.sender_model.specs.Bits.{greatest}
 use Rattle.sender_model.specs.Interleaver.{sizes}
-use Rattle.sender_model.specs.Segmentation.{Plan, bits_of, count_of, check_length, carried, larger_size, smaller_size, smaller_count, planned, plan_of}
+use Rattle.sender_model.specs.Segmentation.{Plan, bits_of, count_of, check_length, carried, larger_size, smaller_size, planned, plan_of}
 use Rattle.sender_model.proofs.Extremes.{IsLeastPassing, IsGreatestPassing, least-passes, greatest-passes}
 use Rattle.sender_model.proofs.SizeTable.{size_6144, size-lower}
 
@@ -98,16 +98,28 @@ pub record IsSound (n : ℕ) (p : Plan) : Type 0 where
   pub several : 1 < p.c → IsSeveral p
 
 sound : (bytes c n : ℕ) → 1 ≤ c → c ≤ 25 → 1 ≤ n → n ≤ c * 6144 → (1 < c → 6144 < n)
-    → IsSound n (planned bytes c n (larger_size c n) (smaller_size c (larger_size c n)) (smaller_count c n (larger_size c n) (smaller_size c (larger_size c n))))
+    → IsSound n (planned bytes (record { c = c; bits = n; k_plus = larger_size c n; k_minus = smaller_size c (larger_size c n) }))
 sound bytes c n some few bits room several = by_count (c == 1) refl
   where
+    -- m blocks of j bits, and the others of k
+    plan_with : (k j m : ℕ) → Plan
+    plan_with k j m = record {
+      bytes = bytes;
+      c = c;
+      k_plus = k;
+      k_minus = j;
+      c_plus = c - m;
+      c_minus = m;
+      f = (c - m) * k + m * j - n;
+    }
+
     largest : IsLeastPassing (λ k. nat_le n (c * k)) sizes (larger_size c n)
     largest = least-passes (λ k. nat_le n (c * k)) sizes 6144 size_6144 (le-leb n (c * 6144) room)
 
     enough : n ≤ c * larger_size c n
     enough = leb-true n (c * larger_size c n) largest.pass
 
-    by_count : (t : Bool) → (c == 1) ≡ t → IsSound n (planned bytes c n (larger_size c n) (cond t 0 (greatest (filter (λ k. nat_lt k (larger_size c n)) sizes)))
+    by_count : (t : Bool) → (c == 1) ≡ t → IsSound n (plan_with (larger_size c n) (cond t 0 (greatest (filter (λ k. nat_lt k (larger_size c n)) sizes)))
         (cond t 0 ((c * larger_size c n - n) / (larger_size c n - cond t 0 (greatest (filter (λ k. nat_lt k (larger_size c n)) sizes))))))
     by_count true e =
         let one : c ≡ 1 = eqb-true c 1 e in
@@ -135,7 +147,7 @@ sound bytes c n some few bits room several = by_count (c == 1) refl
         (let le : near.0 ≤ greatest (filter (λ j. nat_lt j k) sizes) = second.greatest near.0 near.1 (lt-ltb near.0 k near.2) in omega (arith, le, near.3))
       where
         several_blocks : (k j : ℕ) → 1 < c → IsLeastPassing (λ k. nat_le n (c * k)) sizes k → IsGreatestPassing (λ j. nat_lt j k) sizes j → 240 ≤ k → k ≤ j + 64
-            → IsSound n (planned bytes c n k j ((c * k - n) / (k - j)))
+            → IsSound n (plan_with k j ((c * k - n) / (k - j)))
         several_blocks k j two first second large near =
             let room : n ≤ c * k = leb-true n (c * k) first.pass in
             let below : j < k = ltb-true j k second.pass in

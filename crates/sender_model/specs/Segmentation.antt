@@ -28,9 +28,16 @@ larger_size c n = least (filter (λ k. nat_le n (c * k)) sizes)
 abbrev pub smaller_size : ℕ → ℕ → ℕ
 smaller_size c k_plus = if c == 1 then 0 else greatest (filter (λ k. nat_lt k k_plus) sizes)
 
+-- C blocks of K+ or K- bits, which carry so many bits
+pub record Division : Type 0 where
+  pub c : ℕ
+  pub bits : ℕ
+  pub k_plus : ℕ
+  pub k_minus : ℕ
+
 -- C-, the number of blocks of size K-
-abbrev pub smaller_count : ℕ → ℕ → ℕ → ℕ → ℕ
-smaller_count c n k_plus k_minus = if c == 1 then 0 else (c * k_plus - n) / (k_plus - k_minus)
+abbrev pub smaller_count : Division → ℕ
+smaller_count d = if d.c == 1 then 0 else (d.c * d.k_plus - d.bits) / (d.k_plus - d.k_minus)
 
 pub record Plan : Type 0 where
   pub bytes : ℕ
@@ -41,17 +48,20 @@ pub record Plan : Type 0 where
   pub c_minus : ℕ
   pub f : ℕ
 
--- the plan of n bits in c blocks of at most k_plus and at least k_minus bits, of which c_minus are smaller
-abbrev pub planned : (bytes c n k_plus k_minus c_minus : ℕ) → Plan
-planned bytes c n k_plus k_minus c_minus = record {
-  bytes = bytes;
-  c = c;
-  k_plus = k_plus;
-  k_minus = k_minus;
-  c_plus = c - c_minus;
-  c_minus = c_minus;
-  f = (c - c_minus) * k_plus + c_minus * k_minus - n;
-}
+-- the plan of a division of a payload of so many bytes, its check bits and the blocks' own
+abbrev pub planned : ℕ → Division → Plan
+planned bytes d =
+    let c_minus = smaller_count d in
+    let c_plus = d.c - c_minus in
+    record {
+      bytes = bytes;
+      c = d.c;
+      k_plus = d.k_plus;
+      k_minus = d.k_minus;
+      c_plus = c_plus;
+      c_minus = c_minus;
+      f = c_plus * d.k_plus + c_minus * d.k_minus - d.bits;
+    }
 
 unfoldable pub plan_of : ℕ → Plan
 plan_of bytes =
@@ -59,8 +69,7 @@ plan_of bytes =
     let c = count_of b in
     let n = carried b in
     let k_plus = larger_size c n in
-    let k_minus = smaller_size c k_plus in
-    planned bytes c n k_plus k_minus (smaller_count c n k_plus k_minus)
+    planned bytes (record { c = c; bits = n; k_plus = k_plus; k_minus = smaller_size c k_plus })
 
 -- the size of block r
 abbrev pub size : Plan → ℕ → ℕ

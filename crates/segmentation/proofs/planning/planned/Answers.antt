@@ -1,7 +1,7 @@
 use Rattle.std.proofs.Common.{◌≡◌, ◌≤◌, ℕ, ◌+◌, ◌*◌, ap, ◌∙◌, arith}
-use Rattle.sender_model.specs.Segmentation.{count_of, check_length, larger_size, smaller_size, smaller_count, plan_of}
+use Rattle.sender_model.specs.Segmentation.{count_of, check_length, larger_size, smaller_size, plan_of}
 use Rattle.sender_model.proofs.PlanLaws.{plan-sound}
-use Rattle.segmentation.proofs.Computed.{AreThePlan, are_the_plan, plan-small, count-is, carried-is, larger-is, smaller-is, smaller_count-is}
+use Rattle.segmentation.proofs.Computed.{AreThePlan, are_the_plan, count_at, plan-small, count-is, carried-is, larger-is, smaller-is, smaller_count-is}
 use Rattle.segmentation.proofs.planning.planned.Goals as goal
 
 pub smaller_size-k_minus-requires : goal.smaller_size-k_minus-requires
@@ -32,7 +32,7 @@ smaller_count-c_minus-requires c =
     }
 
 -- the numbers from those of the steps
-from_steps : (bytes c l k j m : ℕ) → 1 ≤ bytes → bytes ≤ 18722 → c ≡ count_of (8 * bytes + 24) → l ≡ check_length c → k ≡ larger_size c (8 * bytes + 24 + c * l) → j ≡ smaller_size c k → m ≡ smaller_count c (8 * bytes + 24 + c * l) k j
+from_steps : (bytes c l k j m : ℕ) → 1 ≤ bytes → bytes ≤ 18722 → c ≡ count_of (8 * bytes + 24) → l ≡ check_length c → k ≡ larger_size c (8 * bytes + 24 + c * l) → j ≡ smaller_size c k → m ≡ count_at c (8 * bytes + 24 + c * l) k j
     → AreThePlan bytes (8 * bytes + 24 + c * l) c k j m (plan_of bytes)
 from_steps bytes c l k j m some few blocks own larger smaller count =
     let bits = carried-is bytes c l blocks own in
