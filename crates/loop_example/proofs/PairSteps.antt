@@ -63,10 +63,10 @@ within_last (suc more) (a ∷ []) some short = (omega arith, λ none. cc)
 within_last (suc more) (a ∷ b ∷ bytes) some short = absurd (omega (arith, short))
 
 pub step_of_none : (more : ℕ) (input : List ℕ) (after : List ℕ → Answer) (fits : List ℕ → Type 0) (old : Option (List ℕ)) (round : Round) →
-    round.blocks.items ≡ [] → round.stop ≡ Bad 8 2000 → more ≡ 0 → Steps 2 (pairs more input) after fits old old round
+    round.blocks.items ≡ [] → round.stop ≡ Bad 8 2001 → more ≡ 0 → Steps 2 (pairs more input) after fits old old round
 step_of_none more input after fits old round none is zero_more =
     let P : ℕ → Type 0 = λ m. Steps 2 (pairs m input) after fits old old round in
-    subst P (sym zero_more) (step_alone 2 (refusal 8 2000 0 0) after fits old old round (Bad 8 2000) none is ([], takes_none old, refl, refl, refl))
+    subst P (sym zero_more) (step_alone 2 (refusal 8 2001 0 0) after fits old old round (Bad 8 2001) none is ([], takes_none old, refl, refl, refl))
 
 pub step_of_fault : (more : ℕ) (input bytes : List ℕ) (after : List ℕ → Answer) (fits : List ℕ → Type 0) (old new : Option (List ℕ)) (round : Round) →
     round.blocks.items ≡ [] → round.stop ≡ Fault → 0 < more → length bytes < 2 → Takes old new bytes → old ≡ Some input → Steps 2 (pairs more input) after fits old new round

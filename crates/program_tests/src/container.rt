@@ -1,7 +1,7 @@
 //! Streams as they are written, and each refusal at its byte.
+use crate::lists::list_of;
 use coded_stream::{Kind, StreamReader, StreamStop, write_header, write_length};
 use edge_io::{MemSink, MemSource};
-use lte_bits::List;
 use std::alloc::{AllocError, Global};
 use std::test::Fail;
 
@@ -18,13 +18,13 @@ fn read(
     want: Kind,
     piece: usize,
 ) -> Result<(usize, Option<StreamStop>), AllocError> {
-    let bytes = List::from_vec(Vec::from_slice(alloc, input)?);
-    let mut source = MemSource::new(bytes, piece.max(1), List::from_vec(Vec::new(alloc)));
+    let bytes = list_of(alloc, input)?;
+    let mut source = MemSource::new(bytes, piece.max(1), list_of(alloc, &[])?);
     let mut reader = match StreamReader::begin(&mut source, want) {
         Ok(reader) => reader,
         Err(stop) => return Ok((0, Some(stop))),
     };
-    let mut into = List::from_vec(Vec::new(alloc));
+    let mut into = list_of(alloc, &[])?;
     let mut end = None;
     for _ in 0..5000u32 {
         if !reader.is_live() {
@@ -141,14 +141,13 @@ fn streams_of_other_kinds_and_lengths(rt: HostRuntime) -> Result<(), Fail> {
 
 #[test]
 fn a_header_is_written_and_read(rt: HostRuntime) -> Result<(), Fail> {
-    let failing = List::from_vec(Vec::new(rt.alloc()));
-    let bytes = List::from_vec(Vec::from_slice(rt.alloc(), &SMALL)?);
-    let mut source = MemSource::new(bytes, 7, failing);
+    let bytes = list_of(rt.alloc(), &SMALL)?;
+    let mut source = MemSource::new(bytes, 7, list_of(rt.alloc(), &[])?);
     let reader = StreamReader::begin(&mut source, Kind::Soft).expect(&rt, "a header");
     assert!(rt; reader.header().kind == Kind::Soft);
     assert_eq!(rt; reader.header().m.g(), 132);
     assert_eq!(rt; reader.place(), 19);
-    let mut sink = MemSink::new(rt.alloc(), 7, List::from_vec(Vec::new(rt.alloc())));
+    let mut sink = MemSink::new(rt.alloc(), 7, list_of(rt.alloc(), &[])?);
     sink.reserve(100)?;
     write_header(&mut sink, reader.header()).expect(&rt, "a header");
     write_length(&mut sink, 0x0102_0304).expect(&rt, "a word");

@@ -1,22 +1,15 @@
 //! Reads and writes in small pieces, with failures in mid-stream.
-ghost use Rattle.std.specs.Prelude.{◌≡◌, ◌≤◌, IfOk};
+ghost use Rattle.std.specs.Prelude.{◌≤◌};
 
+use crate::lists::list_of;
 use edge_io::{
     MemSink, MemSource, ReadStop, Sink, SinkFault, Source, SourceFault, StdSink, StdSource,
     SteadySource, read_exactly, write_all,
 };
-use lte_bits::List;
-use std::alloc::{AllocError, Global};
 use std::io;
 use std::io::{Read, Write};
 use std::process::Abort;
 use std::test::Fail;
-
-fn list_of<T: Copy>(alloc: Global, items: &[T]) -> Result<List<T>, AllocError>
-    ensures { IfOk result (λ list. list ≡ items.now) }
-{
-    Ok(List::from_vec(Vec::from_slice(alloc, items)?))
-}
 
 /// Reads ten bytes, four at a time, of which the call of number 2 fails. A step is what a read
 /// answers, and how many bytes are left after it.

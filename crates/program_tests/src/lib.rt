@@ -6,6 +6,8 @@ mod container;
 #[cfg(test)]
 mod edges;
 #[cfg(test)]
+mod lists;
+#[cfg(test)]
 mod pairs;
 #[cfg(test)]
 mod runs;

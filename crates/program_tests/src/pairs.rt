@@ -1,7 +1,7 @@
 //! The example of a command over the run loop, run over memory.
+use crate::lists::list_of;
 use edge_io::{MemSink, MemSource};
 use loop_example::copy_pairs;
-use lte_bits::List;
 use run_loop::Status;
 use std::process::Abort;
 use std::test::Fail;
@@ -13,11 +13,10 @@ fn assert_run(
     failing: &[u64],
     want: (Status, &[u8]),
 ) -> Result<(), Fail> {
-    let input = List::from_vec(Vec::from_slice(rt.alloc(), input)?);
-    let failing = List::from_vec(Vec::from_slice(rt.alloc(), failing)?);
-    let mut source = MemSource::new(input, 1, failing);
-    let mut out = MemSink::new(rt.alloc(), 1, List::from_vec(Vec::new(rt.alloc())));
-    let mut report = MemSink::new(rt.alloc(), 1, List::from_vec(Vec::new(rt.alloc())));
+    let input = list_of(rt.alloc(), input)?;
+    let mut source = MemSource::new(input, 1, list_of(rt.alloc(), failing)?);
+    let mut out = MemSink::new(rt.alloc(), 1, list_of(rt.alloc(), &[])?);
+    let mut report = MemSink::new(rt.alloc(), 1, list_of(rt.alloc(), &[])?);
     out.reserve(100)?;
     report.reserve(100)?;
     let status = copy_pairs(rt.alloc(), &mut source, &mut out, &mut report);

@@ -28,12 +28,15 @@ pub record Answer : Type 0 where
   pub tail : ℕ
   pub due : ℕ
 
+-- what blocks add to `out`, one after the other
 abbrev pub texts : List Part → List ℕ
 texts parts = flat_map (λ p. p.text) parts
 
+-- what they add to the report
 abbrev pub lines : List Part → List ℕ
 lines parts = flat_map (λ p. p.line) parts
 
+-- how many bytes of input they take
 abbrev pub size_of : List Part → ℕ
 size_of parts = sum_by (λ p. p.size) parts
 

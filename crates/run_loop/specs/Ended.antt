@@ -29,6 +29,7 @@ abbrev pub next_text : Answer → List Part → List ℕ
 next_text a [] = a.closing
 next_text a (p ∷ parts) = p.text
 
+-- the line that goes with it
 abbrev pub next_line : Answer → List Part → List ℕ
 next_line a [] = a.last
 next_line a (p ∷ parts) = p.line
