@@ -161,3 +161,17 @@ fn a_header_is_written_and_read(rt: HostRuntime) -> Result<(), Fail> {
     );
     Ok(())
 }
+
+#[test]
+fn stops_are_named_in_words(rt: HostRuntime) -> Result<(), Fail> {
+    let bad = StreamStop::Bad {
+        number: 5,
+        place: 39,
+    };
+    let text = format!(in rt.alloc(); "{bad}; {}; {}", StreamStop::Fault, StreamStop::NoMemory)?;
+    assert_eq!(rt;
+        text.as_str(),
+        "the stream is refused at byte 39, cause 5; the source failed; no memory"
+    );
+    Ok(())
+}
