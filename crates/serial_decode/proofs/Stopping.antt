@@ -10,7 +10,7 @@ use Rattle.receiver_model.specs.declared.result.CheckKind.{CheckKind}
 use Rattle.receiver_model.specs.declared.result.CheckKind.TheVariants.{A, B}
 use Rattle.receiver_model.specs.declared.result.CodeResult.{CodeResult}
 use Rattle.receiver_model.specs.HalfIteration.{Shape, Before, after, opening}
-use Rattle.receiver_model.specs.Decoding.{before, decided_bits, decided_in, generator, checks, passing, result_in, result_of, decode}
+use Rattle.receiver_model.specs.Decoding.{before, decided_bits, decided_in, generator, check_holds, passing_iteration, result_in, result_of, code_result}
 use Rattle.receiver_model.proofs.DecodedOnce.{checks-true, checks-false, decoded-is, decoded_once}
 use Rattle.serial_decode.proofs.Orders.{equal, not-equal}
 
@@ -19,7 +19,7 @@ generator-monic A = crc24a-monic
 generator-monic B = crc24b-monic
 
 -- the check's answer is that of the definition
-pub check-is : (b : Bool) (kind : CheckKind) (bits : List Bit) → IsTrue b ↔ IsMultiple (generator kind) bits → checks kind bits ≡ b
+pub check-is : (b : Bool) (kind : CheckKind) (bits : List Bit) → IsTrue b ↔ IsMultiple (generator kind) bits → check_holds kind bits ≡ b
 check-is true kind bits h =
     let m = multiple-remainder (generator kind) bits (generator-monic kind) in
     equal (remainder (generator kind) 0 bits) 0 (m.0 (h.0 refl))
@@ -56,16 +56,16 @@ before-iteration soft shape n some = ap (before soft shape) (let s : suc (2 * n 
 
 -- no iteration before n has a check that holds
 abbrev pub FailBefore : SoftStreams → Shape → ℕ → Type 0
-FailBefore soft shape n = (m : ℕ) → 1 ≤ m → m < n → checks shape.kind (decided_in soft shape m) ≡ false
+FailBefore soft shape n = (m : ℕ) → 1 ≤ m → m < n → check_holds shape.kind (decided_in soft shape m) ≡ false
 
 abbrev pub result_with : ℕ → List Bit → ℕ → Bool → CodeResult
 result_with fill bits n passed = record { block = record { fill = fill; bits = bits }; iterations = n; passed = passed }
 
 pub decode-passed : (soft : SoftStreams) (shape : Shape) (fill n : ℕ) (bits : List Bit) → fill ≡ shape.f → 1 ≤ n → n ≤ shape.limit
-    → bits ≡ decided_in soft shape n → checks shape.kind bits ≡ true → FailBefore soft shape n
-    → result_with fill bits n true ≡ decode soft shape
+    → bits ≡ decided_in soft shape n → check_holds shape.kind bits ≡ true → FailBefore soft shape n
+    → result_with fill bits n true ≡ code_result soft shape
 decode-passed soft shape fill n bits ef some few eb passed fails =
-    decoded_once soft shape (result_with fill bits n true) (decode soft shape)
+    decoded_once soft shape (result_with fill bits n true) (code_result soft shape)
     (record {
       fill = ef;
       bits = eb;
@@ -79,10 +79,10 @@ decode-passed soft shape fill n bits ef some few eb passed fails =
 
 pub decode-failed : (soft : SoftStreams) (shape : Shape) (fill n : ℕ) (bits : List Bit) → fill ≡ shape.f → 1 ≤ n → n ≡ shape.limit
     → bits ≡ decided_in soft shape n → FailBefore soft shape (n + 1)
-    → result_with fill bits n false ≡ decode soft shape
+    → result_with fill bits n false ≡ code_result soft shape
 decode-failed soft shape fill n bits ef some en eb fails =
-    let failed : checks shape.kind bits ≡ false = ap (checks shape.kind) eb ∙ fails n some (omega arith) in
-    decoded_once soft shape (result_with fill bits n false) (decode soft shape)
+    let failed : check_holds shape.kind bits ≡ false = ap (check_holds shape.kind) eb ∙ fails n some (omega arith) in
+    decoded_once soft shape (result_with fill bits n false) (code_result soft shape)
     (record {
       fill = ef;
       bits = eb;

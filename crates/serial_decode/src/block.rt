@@ -2,7 +2,7 @@
 ghost use Rattle.std.specs.Prelude.{◌≡◌, ◌+◌, ◌-◌, ◌*◌, ◌≤◌, ℕ, IfOk, length};
 ghost use Rattle.lte_bits.specs.declared.block.SoftStreams.{SoftStreams};
 ghost use Rattle.receiver_model.specs.HalfIteration.{Shape as Numbers, Before, after, opening};
-ghost use Rattle.receiver_model.specs.Decoding.{decided_bits, decode};
+ghost use Rattle.receiver_model.specs.Decoding.{decided_bits, code_result};
 
 use crate::bits::holds;
 use lte_bits::{Bit, Block, List, NoMemory};
@@ -64,7 +64,7 @@ pub fn decode_halves<H: HalfDecoder>(
 ) -> Result<CodeResult, NoMemory>
     requires opening { H.before decoder ≡ opening shape.now }
     requires shape { H.shape decoder ≡ shape.now }
-    ensures { IfOk result (λ r. r ≡ decode (H.streams decoder) shape.now) }
+    ensures { IfOk result (λ r. r ≡ code_result (H.streams decoder) shape.now) }
 {
     let fill = shape.f();
     let mut decoder = decoder;

@@ -18,6 +18,3 @@ pub use shape::Shape;
 pub use strip::Strip;
 pub use window::run_window;
 pub use work::Work;
-
-#[cfg(test)]
-mod tests;

@@ -3,7 +3,7 @@ use Rattle.std.proofs.lemmas.Bool.{cases_eq}
 use Rattle.lte_bits.specs.declared.bit.Bit.{Bit}
 use Rattle.lte_bits.specs.declared.block.SoftStreams.{SoftStreams}
 use Rattle.receiver_model.specs.HalfIteration.{Shape, Before, after}
-use Rattle.receiver_model.specs.Decoding.{before, decided_bits, decided_in, checks, generator}
+use Rattle.receiver_model.specs.Decoding.{before, decided_bits, decided_in, check_holds, generator}
 use Rattle.serial_decode.proofs.Parts.{written}
 use Rattle.serial_decode.proofs.Stopping.{before-none, iteration-more, before-iteration, check-is, decode-passed, decode-failed, FailBefore}
 use Rattle.serial_decode.proofs.block.decode_halves.Goals as goal
@@ -20,10 +20,10 @@ decided-by_iteration : (soft : SoftStreams) (numbers shape : Shape) (n : ℕ) (r
 decided-by_iteration soft numbers shape n r bits en er eb =
     eb ∙ (ap (λ (x : Shape). decided_bits x.f r.cells) en ∙ ap (λ (x : Before). decided_bits shape.f x.cells) er)
 
-fail-more : (soft : SoftStreams) (shape : Shape) (n : ℕ) → FailBefore soft shape n → checks shape.kind (decided_in soft shape n) ≡ false → FailBefore soft shape (n + 1)
+fail-more : (soft : SoftStreams) (shape : Shape) (n : ℕ) → FailBefore soft shape n → check_holds shape.kind (decided_in soft shape n) ≡ false → FailBefore soft shape (n + 1)
 fail-more soft shape n before here m some lt =
     elim (cases_eq m n) [
-      | inl e ↦ ap (λ (k : ℕ). checks shape.kind (decided_in soft shape k)) e ∙ here
+      | inl e ↦ ap (λ (k : ℕ). check_holds shape.kind (decided_in soft shape k)) e ∙ here
       | inr ne ↦ before m some (omega (arith, ne))
     ]
 
@@ -51,9 +51,9 @@ loop-n-preserved g c =
     let decided = decided-by_iteration soft (g.H.HalfDecoder.shape r) shape l.n (g.H.HalfDecoder.before r) c.decide.new.bits (it.shape ∙ inv.shape) stands c.decide.ensures in
     let long : length c.decide.new.bits ≡ length l.bits.items = c.decide.auto.bits ∙ ap length c.as_mut_slice.ensures.value in
     let wrote = written l.bits.len c.decide.new.bits l.bits.items (long ∙ sym l.bits.ok.0) in
-    let fails : checks shape.kind (decided_in soft shape l.n) ≡ false =
-    ap (λ k. checks k (decided_in soft shape l.n)) (sym c.kind.ensures)
-    ∙ (ap (checks c.kind.result) (sym (c.as_slice.ensures.value ∙ (wrote ∙ decided)))
+    let fails : check_holds shape.kind (decided_in soft shape l.n) ≡ false =
+    ap (λ k. check_holds k (decided_in soft shape l.n)) (sym c.kind.ensures)
+    ∙ (ap (check_holds c.kind.result) (sym (c.as_slice.ensures.value ∙ (wrote ∙ decided)))
     ∙ (check-is c.holds.result c.kind.result c.as_slice.result.now c.holds.ensures ∙ c.if-holds.false)) in
     record {
       end = inv.end;
@@ -77,9 +77,9 @@ returns-then-holds g c =
     let long : length c.decide.new.bits ≡ length l.bits.items = c.decide.auto.bits ∙ ap length c.as_mut_slice.ensures.value in
     let wrote = written l.bits.len c.decide.new.bits l.bits.items (long ∙ sym l.bits.ok.0) in
     let bits : List Bit = take l.bits.len (c.decide.new.bits ++ drop (length c.decide.new.bits) l.bits.items) in
-    let passes : checks shape.kind bits ≡ true =
-    ap (λ k. checks k bits) (sym c.kind.ensures)
-    ∙ (ap (checks c.kind.result) (sym c.as_slice.ensures.value)
+    let passes : check_holds shape.kind bits ≡ true =
+    ap (λ k. check_holds k bits) (sym c.kind.ensures)
+    ∙ (ap (check_holds c.kind.result) (sym c.as_slice.ensures.value)
     ∙ (check-is c.holds.result c.kind.result c.as_slice.result.now c.holds.ensures ∙ c.if-holds.true)) in
     c.result_in.ensures
     ∙ decode-passed soft shape c.f-fill.result l.n bits c.f-fill.ensures inv.some (omega (arith, inv.end, c.loop-n-test.true, c.limit-n-end.ensures))
