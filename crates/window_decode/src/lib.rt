@@ -3,6 +3,7 @@
 
 pub mod border;
 pub mod ext;
+pub mod metrics;
 mod per_state;
 mod recursion;
 pub mod shape;
