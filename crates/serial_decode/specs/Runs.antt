@@ -35,8 +35,8 @@ start_of cells left = record { cells = cells; left = left; left_earlier = left }
 -- half h, begun from b, where the windows before t are done: the cells by now, and the borders by window, of
 -- which those of the windows from t on are still those of two halves ago
 pub record IsPartDone
-  (soft : SoftStreams) (shape : Shape) (h : ℕ) (b : Before)
-  (t : ℕ) (cells : List Extrinsic) (left : List Left) (start : Border) : Type 0 where
+    (soft : SoftStreams) (shape : Shape) (h : ℕ) (b : Before)
+    (t : ℕ) (cells : List Extrinsic) (left : List Left) (start : Border) : Type 0 where
   pub long : length cells ≡ shape.k
   pub done : (i : ℕ) → i < t * window_width shape
       → cell_at cells (order shape.k h i) ≡ renewed soft shape h b i

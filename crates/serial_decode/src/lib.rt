@@ -4,7 +4,7 @@
 ghost use Rattle.std.specs.Prelude.{◌≡◌, ◌+◌, IfOk, length};
 ghost use Rattle.receiver_model.specs.Decoding.{code_result};
 
-mod bits;
+pub mod bits;
 pub mod block;
 pub mod decoder;
 pub mod half;
@@ -36,6 +36,3 @@ pub fn decode_block(
     let decoder = SerialDecoder::new(alloc, streams, shape)?;
     decode_halves(alloc, decoder, shape)
 }
-
-#[cfg(test)]
-mod tests;

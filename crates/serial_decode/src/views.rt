@@ -23,7 +23,8 @@ pub struct Views<'a> {
     pub ghost whole: { AreStreams streams.now shape },
     ghost in_order: { natural.items ≡ by_position shape (λ i. i) },
     ghost in_second_order: { interleaved.items ≡ by_position shape (place shape.k) },
-    ghost read_in_second_order: { systematic.items ≡ by_position shape (systematic_at streams.now shape.k 1) },
+    ghost read_in_second_order: { systematic.items
+        ≡ by_position shape (systematic_at streams.now shape.k 1) },
 }
 
 impl<'a> Views<'a> {
@@ -54,7 +55,7 @@ impl<'a> Views<'a> {
     }
 
     /// The place of each position in half `h`.
-    fn places(&self, h: usize) -> &[u16]
+    pub fn places(&self, h: usize) -> &[u16]
         ensures { result.now ≡ by_position self.now.shape (order self.now.shape.k h) }
     {
         if h % 2 == 0 {
@@ -65,7 +66,7 @@ impl<'a> Views<'a> {
     }
 
     /// The systematic value of each position in half `h`.
-    fn systematic(&self, h: usize) -> &[Soft]
+    pub fn systematic(&self, h: usize) -> &[Soft]
         ensures { result.now
             ≡ by_position self.now.shape (systematic_at self.now.streams.now self.now.shape.k h) }
     {
@@ -77,7 +78,7 @@ impl<'a> Views<'a> {
     }
 
     /// The parity value of each position in half `h`.
-    fn parity(&self, h: usize) -> &[Soft]
+    pub fn parity(&self, h: usize) -> &[Soft]
         ensures { result.now ≡ by_position self.now.shape (parity_at self.now.streams.now h) }
     {
         if h % 2 == 0 {
@@ -118,7 +119,7 @@ impl<'a> Views<'a> {
         ensures value { result ≡ self.now.shape.windows }
         ensures whole { AreWhole self.now.shape }
     {
-        self.shape.k() / self.width()
+        self.shape.windows()
     }
 
     /// Window `t` of half `h` as a strip; `t` is below the number of windows, and there are K cells.
@@ -127,9 +128,12 @@ impl<'a> Views<'a> {
         requires cells { length cells.items ≡ self.now.shape.k }
         ensures whole { AreWhole self.now.shape }
         ensures cells { result.cells.items ≡ cells.items }
-        ensures places { result.places.now ≡ map (order self.now.shape.k h) (positions self.now.shape t) }
-        ensures systematic { result.systematic.now ≡ map (systematic_at self.now.streams.now self.now.shape.k h) (positions self.now.shape t) }
-        ensures parity { result.parity.now ≡ map (parity_at self.now.streams.now h) (positions self.now.shape t) }
+        ensures places { result.places.now
+            ≡ map (order self.now.shape.k h) (positions self.now.shape t) }
+        ensures systematic { result.systematic.now
+            ≡ map (systematic_at self.now.streams.now self.now.shape.k h) (positions self.now.shape t) }
+        ensures parity { result.parity.now
+            ≡ map (parity_at self.now.streams.now h) (positions self.now.shape t) }
     {
         let width = self.width();
         let from = t * width;
