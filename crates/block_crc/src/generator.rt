@@ -45,7 +45,7 @@ impl Generator {
     {
         let mut rest = start;
         for bit in bits {
-            rest = self.reduced(2 * rest + digit(*bit));
+            rest = self.reduced(2 * rest + u32::from(*bit));
         }
         rest
     }
@@ -64,17 +64,6 @@ impl Generator {
         ensures { IsTrue result ↔ IsMultiple self.coefficients bits.now }
     {
         self.remainder(0, bits) == 0
-    }
-}
-
-/// A bit as a number.
-fn digit(bit: Bit) -> u32
-    ensures value { result ≡ digit bit }
-    ensures small { result < 2 }
-{
-    match bit {
-        Bit::Zero => 0,
-        Bit::One => 1,
     }
 }
 

@@ -1,6 +1,6 @@
 //! Bits, and the cells of coded streams.
 ghost use Rattle.lte_bits.specs.Bits.{digit, cell_of};
-ghost use Rattle.std.specs.Prelude.{◌≡◌};
+ghost use Rattle.std.specs.Prelude.{◌≡◌, ◌≤◌};
 
 /// A bit.
 #[derive(Clone, Copy, Debug, PartialEq, Eq, Hash)]
@@ -31,7 +31,10 @@ impl From<Bit> for Cell {
 impl From<Bit> for u8 {
     ghost from_gives = { λ bit number. number ≡ digit bit };
 
-    fn from(bit: Bit) -> u8 {
+    fn from(bit: Bit) -> u8
+        ensures value { result ≡ digit bit }
+        ensures small { result ≤ 1 }
+    {
         match bit {
             Bit::Zero => 0,
             Bit::One => 1,
@@ -42,7 +45,10 @@ impl From<Bit> for u8 {
 impl From<Bit> for u32 {
     ghost from_gives = { λ bit number. number ≡ digit bit };
 
-    fn from(bit: Bit) -> u32 {
+    fn from(bit: Bit) -> u32
+        ensures value { result ≡ digit bit }
+        ensures small { result ≤ 1 }
+    {
         u32::from(u8::from(bit))
     }
 }

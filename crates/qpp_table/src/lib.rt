@@ -11,6 +11,3 @@ pub use banks::{bank_row, windows_stay_apart};
 pub use interleaver::Interleaver;
 pub use table::{addresses, qpp};
 pub use windows::win;
-
-#[cfg(test)]
-mod tests;

@@ -8,8 +8,6 @@ pub mod planning;
 pub mod plans;
 pub mod round_trip;
 mod sizes;
-#[cfg(test)]
-mod tests;
 
 pub use cutting::cut;
 pub use joining::uncut;

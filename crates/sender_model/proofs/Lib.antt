@@ -5,6 +5,9 @@ pub mod Coder
 pub mod TailSteps
 pub mod RowLaws
 pub mod SelectionLaws
+pub mod StreamNulls
+pub mod PaddedStreams
+pub mod BufferLaws
 pub mod Extremes
 pub mod SizeTable
 pub mod RangeSums

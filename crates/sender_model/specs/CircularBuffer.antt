@@ -1,10 +1,11 @@
 -- The sub-block interleaver (36.212 5.1.4.1.1), and the circular buffer with its numbers (5.1.4.1.2).
-use Rattle.std.specs.Prelude.{ℕ, ◌+◌, ◌-◌, ◌*◌, ◌/◌, ◌%◌, ◌≤◌, nat_lt, ◌==◌, if◌then◌else◌, min, List, [], ◌∷◌, ◌++◌, length, replicate, slice_index, slice_index_or, Option, None, Some}
+use Rattle.std.specs.Prelude.{◌≡◌, ◌↔◌, ℕ, ◌+◌, ◌-◌, ◌*◌, ◌/◌, ◌%◌, ◌<◌, ◌≤◌, nat_lt, ◌==◌, if◌then◌else◌, min, List, [], ◌∷◌, ◌++◌, length, replicate, slice_index, slice_index_or, Option, None, Some}
 use Rattle.lte_bits.specs.declared.bit.Cell.{Cell}
 use Rattle.lte_bits.specs.declared.bit.Cell.TheVariants.{Null}
 use Rattle.lte_bits.specs.declared.block.Streams.{Streams}
 use Rattle.std.specs.Int.{div_ceil}
 use Rattle.sender_model.specs.Segmentation.{Plan}
+use Rattle.sender_model.specs.declared.spot.Spot.{Spot}
 
 -- P, the order in which the 32 columns are read
 abbrev pub column_order : List ℕ
@@ -16,28 +17,67 @@ column_order =
 abbrev pub rows_of : ℕ → ℕ
 rows_of k = div_ceil (k + 4) 32
 
--- y, the cells of a stream behind the NULLs that fill R rows
-abbrev pub padded : ℕ → List Cell → List Cell
-padded r stream = replicate (32 * r - length stream) Null ++ stream
+-- N_D, the NULLs that stand before a stream of k + 4 cells and fill its rows
+abbrev pub padding : ℕ → ℕ
+padding k = 32 * rows_of k - (k + 4)
 
 -- where place k, read by columns, stands by rows
 abbrev pub read_place : ℕ → ℕ → ℕ
 read_place r k = slice_index column_order (k / r) + 32 * (k % r)
 
--- v(k) of d0 and d1, and of d2
-abbrev pub sub_block : ℕ → List Cell → ℕ → Cell
-sub_block r stream k = slice_index_or (padded r stream) (read_place r k) Null
+-- a stream of a block of k bits: 0, 1 or 2 of the three, with so many NULLs in front
+pub record Stream : Type 0 where
+  pub k : ℕ
+  pub number : ℕ
+  pub nulls : ℕ
 
-abbrev pub sub_block_2 : ℕ → List Cell → ℕ → Cell
-sub_block_2 r stream k = slice_index_or (padded r stream) ((read_place r k + 1) % (32 * r)) Null
+-- the bit at place p of y, which is the stream behind its padding; none at a NULL
+abbrev pub padded : Stream → ℕ → Option Spot
+padded d p =
+    if nat_lt p (padding d.k + d.nulls) then None
+    else Some (record { stream = d.number; index = p - padding d.k })
 
--- the second part of the buffer: v1 and v2 by turns
-abbrev pub interlaced : ℕ → Streams → ℕ → Cell
-interlaced r s n = if n % 2 == 0 then sub_block r s.d1 (n / 2) else sub_block_2 r s.d2 (n / 2)
+-- the bit at place n of w, by index and fillers alone: v0 of d0 first, then v1 of d1 and v2 of d2 by turns
+abbrev pub spot : ℕ → ℕ → ℕ → Option Spot
+spot k fill n =
+    let r = rows_of k in
+    let m = n - 32 * r in
+    let place = read_place r (m / 2) in
+    if nat_lt n (32 * r) then padded (record { k = k; number = 0; nulls = fill }) (read_place r n)
+    else if m % 2 == 0 then padded (record { k = k; number = 1; nulls = fill }) place
+    else padded (record { k = k; number = 2; nulls = 0 }) ((place + 1) % (32 * r))
 
--- w(n) of the streams of a block of k bits
-abbrev pub w : ℕ → Streams → ℕ → Cell
-w k s n = let r = rows_of k in if nat_lt n (32 * r) then sub_block r s.d0 n else interlaced r s (n - 32 * r)
+abbrev pub stream_of : Streams → ℕ → List Cell
+stream_of s number = if number == 0 then s.d0 else if number == 1 then s.d1 else s.d2
+
+abbrev pub cell_at : Streams → Option Spot → Cell
+cell_at s None = Null
+cell_at s (Some p) = slice_index_or (stream_of s p.stream) p.index Null
+
+-- w(n) of the streams of a block of k bits, whose first `fill` are fillers
+abbrev pub w : ℕ → ℕ → Streams → ℕ → Cell
+w k fill s n = cell_at s (spot k fill n)
+
+-- ---- The same in the standard's words, which the law `buffer_is_read_by_columns` ties to `w`.
+
+-- y, a stream behind the NULLs that fill its rows
+abbrev pub y : ℕ → List Cell → List Cell
+y k stream = replicate (padding k) Null ++ stream
+
+-- NULL stands at exactly the first places of a stream, which are so many
+abbrev pub HasNulls : ℕ → List Cell → Type 0
+HasNulls nulls stream = (i : ℕ) → i < length stream → (slice_index_or stream i Null ≡ Null) ↔ (i < nulls)
+
+-- the streams of a block of k bits: NULL stands at the fillers of d0 and d1, and nowhere in d2
+pub record AreStreams (k fill : ℕ) (s : Streams) : Type 0 where
+  pub d0_long : length s.d0 ≡ k + 4
+  pub d1_long : length s.d1 ≡ k + 4
+  pub d2_long : length s.d2 ≡ k + 4
+  pub d0_nulls : HasNulls fill s.d0
+  pub d1_nulls : HasNulls fill s.d1
+  pub d2_nulls : HasNulls 0 s.d2
+
+-- ---- The numbers of the buffer.
 
 -- K_w, the places of the buffer
 abbrev pub buffer_size : ℕ → ℕ

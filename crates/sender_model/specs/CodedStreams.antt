@@ -1,19 +1,15 @@
 -- The three coded streams of a code block (36.212 5.1.3.2).
-use Rattle.std.specs.Prelude.{ℕ, ◌+◌, List, [], ◌∷◌, ◌++◌, length, map, drop, replicate}
+use Rattle.std.specs.Prelude.{ℕ, ◌+◌, List, [], ◌∷◌, ◌++◌, length, map, nat_lt, if◌then◌else◌}
 use Rattle.std.specs.List.{range_with_len}
+use Rattle.lte_bits.specs.Bits.{cell_of}
 use Rattle.lte_bits.specs.declared.bit.Bit.{Bit}
-use Rattle.lte_bits.specs.declared.bit.Bit.TheVariants as bit
 use Rattle.lte_bits.specs.declared.bit.Cell.{Cell}
-use Rattle.lte_bits.specs.declared.bit.Cell.TheVariants.{Zero, One, Null}
+use Rattle.lte_bits.specs.declared.bit.Cell.TheVariants.{Null}
 use Rattle.lte_bits.specs.declared.block.Block.{Block}
 use Rattle.lte_bits.specs.declared.block.Streams.{Streams}
 use Rattle.sender_model.specs.Bits.{at}
 use Rattle.sender_model.specs.Interleaver.{place}
 use Rattle.sender_model.specs.ConstituentCoder.{values, parities, tail_x, tail_z}
-
-abbrev pub cell_of : Bit → Cell
-cell_of bit.Zero = Zero
-cell_of bit.One = One
 
 abbrev pub cells_of : List Bit → List Cell
 cells_of bits = map cell_of bits
@@ -22,9 +18,13 @@ cells_of bits = map cell_of bits
 abbrev pub interleaved : List Bit → List Bit
 interleaved c = map (λ i. at c (place (length c) i)) (range_with_len 0 (length c))
 
--- the bits of a stream, NULL at the fillers
+-- the cell of a bit at place i, NULL at a filler
+abbrev pub filled_cell : ℕ → ℕ → Bit → Cell
+filled_cell fill i bit = if nat_lt i fill then Null else cell_of bit
+
+-- the cells of bits, NULL at the fillers
 abbrev pub null_filled : ℕ → List Bit → List Cell
-null_filled fill bits = replicate fill Null ++ cells_of (drop fill bits)
+null_filled fill bits = map (λ i. filled_cell fill i (at bits i)) (range_with_len 0 (length bits))
 
 -- the tails of the two coders, of inner lists a and b (5.1.3.2.2)
 abbrev pub tail_0 : ℕ → List Bit → List Bit → List Bit

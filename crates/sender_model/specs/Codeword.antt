@@ -10,7 +10,8 @@ use Rattle.sender_model.specs.Selection.{sent}
 
 -- what is sent of block 0, then of block 1, and so on
 abbrev pub codeword_of : Plan → List ℕ → Match → ℕ → List Bit
-codeword_of plan payload m rv = flat_map (λ r. sent plan m (streams (block plan payload r)) r rv) (range_with_len 0 plan.c)
+codeword_of plan payload m rv =
+    flat_map (λ r. sent plan m (streams (block plan payload r)) r rv) (range_with_len 0 plan.c)
 
 unfoldable pub codeword : List ℕ → Match → ℕ → List Bit
 codeword payload m rv = codeword_of (plan_of (length payload)) payload m rv

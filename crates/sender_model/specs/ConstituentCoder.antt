@@ -21,8 +21,10 @@ past s a = s.a3 ∷ s.a2 ∷ s.a1 ∷ a
 pub record IsCoderFrom (s : State) (c a z : List Bit) : Type 0 where
   pub a_long : length a ≡ length c
   pub z_long : length z ≡ length c
-  pub a_is : (k : ℕ) → k < length c → at a k ≡ plus (plus (at c k) (at (past s a) (suc k))) (at (past s a) k)
-  pub z_is : (k : ℕ) → k < length c → at z k ≡ plus (plus (at a k) (at (past s a) (suc (suc k)))) (at (past s a) k)
+  pub a_is : (k : ℕ) → k < length c →
+      at a k ≡ plus (plus (at c k) (at (past s a) (suc k))) (at (past s a) k)
+  pub z_is : (k : ℕ) → k < length c →
+      at z k ≡ plus (plus (at a k) (at (past s a) (suc (suc k)))) (at (past s a) k)
 
 -- the same from nothing: a(k) is 0 for negative k
 abbrev pub IsCoder : List Bit → List Bit → List Bit → Type 0

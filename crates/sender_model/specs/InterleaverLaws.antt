@@ -1,4 +1,5 @@
--- The laws of the interleaver: a lawful row permutes its places, keeps remainders, and keeps windows in banks of their own.
+-- The laws of the interleaver: a lawful row permutes its places, keeps remainders, and keeps windows in banks
+-- of their own.
 use Rattle.std.proofs.Common.{◌≡◌, ℕ, ◌+◌, ◌-◌, ◌*◌, ◌/◌, ◌%◌, ◌^◌, ◌<◌, ◌≤◌, zero, suc, sym, ap, ◌∙◌, subst, inl, inr, arith}
 use Prim.Native.Nat.{◌∣◌}
 use Rattle.std.proofs.lemmas.Nat.{mod_below, mul-pow, mul-mod}

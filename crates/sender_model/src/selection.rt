@@ -2,26 +2,25 @@
 ghost use Rattle.std.specs.Prelude.{◌≡◌, ℕ, ◌+◌, ◌*◌, ◌<◌, ◌≤◌, true, List, [], ◌∷◌, length, map, slice_index_or, sum_by};
 ghost use Rattle.std.specs.List.{range_with_len};
 ghost use Prim.Native.Nat.{◌∣◌};
-ghost use Rattle.lte_bits.specs.declared.bit.Cell.{Cell};
-ghost use Rattle.lte_bits.specs.declared.block.Block.{Block};
 ghost use Rattle.lte_bits.specs.declared.block.Streams.{Streams};
 ghost use Rattle.sender_model.specs.CheckBits.{digits};
-ghost use Rattle.sender_model.specs.Segmentation.{Plan, plan_of, size};
-ghost use Rattle.sender_model.specs.CodedStreams.{cells_of, streams};
-ghost use Rattle.sender_model.specs.CircularBuffer.{Fits, Match, buffer_length, piece_length, rows_of, start, w};
-ghost use Rattle.sender_model.specs.Selection.{is_bit, bits_from, sent};
+ghost use Rattle.sender_model.specs.Segmentation.{Plan, plan_of, size, fill};
+ghost use Rattle.sender_model.specs.CodedStreams.{cells_of};
+ghost use Rattle.sender_model.specs.CircularBuffer.{Fits, Match, buffer_length, piece_length, rows_of, start};
+ghost use Rattle.sender_model.specs.Selection.{holds_bit, bits_from, sent};
 
-/// A buffer that keeps all of v0, of a code block's streams, has a bit to send: V isn't empty.
+/// A buffer that keeps all of v0 has a bit to send: V isn't empty.
 pub fn some_bit_is_kept()
-    ensures { (b : Block) (n start : ℕ) → b.fill ≤ length b.bits → 32 * rows_of (length b.bits) ≤ n →
-        0 < length (bits_from (w (length b.bits) (streams b)) start n) }
+    ensures { (k fill n start : ℕ) → fill ≤ k → 32 * rows_of k ≤ n →
+        0 < length (bits_from (holds_bit k fill) start n) }
 {}
 
 /// The same under `Fits`, for each block of a plan, from any place on.
 pub fn some_bit_is_kept_where_it_fits()
-    ensures { (plan : Plan) (m : Match) (r start : ℕ) (b : Block) →
-        b.fill ≤ length b.bits → length b.bits ≡ size plan r → size plan r ≤ plan.k_plus → Fits m plan →
-        0 < length (bits_from (w (size plan r) (streams b)) start (buffer_length m.limit plan.c (size plan r))) }
+    ensures { (plan : Plan) (m : Match) (r start : ℕ) →
+        fill plan r ≤ size plan r → size plan r ≤ plan.k_plus → Fits m plan →
+        0 < length (bits_from (holds_bit (size plan r) (fill plan r)) start
+        (buffer_length m.limit plan.c (size plan r))) }
 {}
 
 /// The blocks of a transport block send G bits together.

@@ -3,6 +3,16 @@
 #![tactic(auto)]
 
 #[cfg(test)]
+mod check_bits;
+#[cfg(test)]
+mod code_blocks;
+#[cfg(test)]
+mod interleaver;
+#[cfg(test)]
 mod lists;
 #[cfg(test)]
+mod streams;
+#[cfg(test)]
 mod trellis;
+#[cfg(test)]
+mod vectors;

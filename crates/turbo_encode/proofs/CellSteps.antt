@@ -1,74 +1,71 @@
--- One cell more of a stream, and the end of one.
-use Rattle.std.proofs.Common.{◌≡◌, ℕ, suc, ◌+◌, ◌-◌, ◌<◌, ◌≤◌, Bool, true, false, List, [], ◌∷◌, ◌++◌, length, drop, get_or, refl, ap, sym, ◌∙◌, append_assoc, inl, inr, arith}
-use Rattle.std.specs.Prelude.{nat_lt, if◌then◌else◌}
-use Rattle.std.proofs.lemmas.Bool.{cases_lt, lt-ltb, le-ltb}
-use Rattle.std.proofs.lemmas.List.{drop_more, at_drop_all, append-nil}
+-- One cell more of a stream: the coder has read the inputs before it, and the parity bit is that of its place.
+use Rattle.std.proofs.Common.{◌≡◌, ℕ, zero, suc, ◌+◌, ◌<◌, ◌≤◌, List, [], ◌∷◌, ◌++◌, length, take, get_or, map, refl, ap, sym, ◌∙◌, arith}
+use Rattle.std.specs.List.{range_with_len}
+use Rattle.std.proofs.lemmas.List.{take_all}
+use Rattle.std.proofs.lemmas.List.FromFn.{map-range_with_len_more}
 use Rattle.lte_bits.specs.declared.bit.Bit.{Bit}
 use Rattle.lte_bits.specs.declared.bit.Bit.TheVariants.{Zero}
 use Rattle.lte_bits.specs.declared.bit.Cell.{Cell}
-use Rattle.lte_bits.specs.declared.bit.Cell.TheVariants.{Null}
-use Rattle.sender_model.specs.ConstituentCoder.{State, next, parity, parities_from}
-use Rattle.sender_model.specs.CodedStreams.{cell_of, null_filled}
+use Rattle.sender_model.specs.Bits.{at}
+use Rattle.sender_model.specs.ConstituentCoder.{State, zero_state, next, parity, parities, parities_from}
+use Rattle.sender_model.specs.CodedStreams.{filled_cell}
 use Rattle.sender_model.specs.Tail.{reached}
-use Rattle.turbo_encode.specs.Order.{cell_at}
 
-null_filled-more : (fill i : ℕ) (b : Bit) (bs : List Bit) → null_filled (fill - i) (b ∷ bs) ≡ cell_at fill i b ∷ null_filled (fill - (i + 1)) bs
-null_filled-more fill i b bs =
-    elim (cases_lt i fill) [
-      | inl lt ↦ filler (nat_lt i fill) (fill - i) (fill - (i + 1)) (lt-ltb i fill lt) (omega (arith, lt))
-      | inr le ↦ coded (nat_lt i fill) (fill - i) (fill - (i + 1)) (le-ltb i fill le) (omega (arith, le)) (omega (arith, le))
-    ]
-  where
-    filler : (is_filler : Bool) (n m : ℕ) → is_filler ≡ true → n ≡ suc m → null_filled n (b ∷ bs) ≡ (if is_filler then Null else cell_of b) ∷ null_filled m bs
-    filler is_filler n m t e = rw (t, e) refl
-
-    coded : (is_filler : Bool) (n m : ℕ) → is_filler ≡ false → n ≡ 0 → m ≡ 0 → null_filled n (b ∷ bs) ≡ (if is_filler then Null else cell_of b) ∷ null_filled m bs
-    coded is_filler n m t e z = rw (t, e, z) refl
+-- the first n cells of a stream of these bits, of which so many are fillers
+abbrev pub cells_before : ℕ → List Bit → ℕ → List Cell
+cells_before fill bits n = map (λ i. filled_cell fill i (at bits i)) (range_with_len 0 n)
 
 -- a cell more
-pub cell_more : (out : List Cell) (fill i : ℕ) (b : Bit) (bs : List Bit) (all : List Cell)
-    → out ++ null_filled (fill - i) (b ∷ bs) ≡ all → (out ++ cell_at fill i b ∷ []) ++ null_filled (fill - (i + 1)) bs ≡ all
-cell_more out fill i b bs all e =
-    append_assoc out (cell_at fill i b ∷ []) (null_filled (fill - (i + 1)) bs) ∙ (ap (λ cs. out ++ cs) (sym (null_filled-more fill i b bs)) ∙ e)
+pub cell_more : (fill : ℕ) (bits : List Bit) (i : ℕ) (out longer : List Cell) (cell : Cell)
+    → out ≡ cells_before fill bits i → longer ≡ out ++ cell ∷ [] → cell ≡ filled_cell fill i (at bits i) → longer ≡ cells_before fill bits (i + 1)
+cell_more fill bits i out longer cell before pushed is =
+    pushed
+    ∙ ap (λ cells. cells ++ cell ∷ []) before
+    ∙ ap (λ c. cells_before fill bits i ++ c ∷ []) is
+    ∙ sym (map-range_with_len_more (λ j. filled_cell fill j (at bits j)) 0 i i (omega arith))
 
--- no cell more
-pub cells_end : (out : List Cell) (fill i : ℕ) (all : List Cell) → fill ≤ i → out ++ null_filled (fill - i) [] ≡ all → out ≡ all
-cells_end out fill i all le e = sym (append-nil out) ∙ (ap (λ n. out ++ null_filled n []) (let z : 0 ≡ fill - i = omega arith in z) ∙ e)
+-- the state after the inputs up to a place, and the parity bit there
+state-suc : (s : State) (inputs : List Bit) (i : ℕ) → i < length inputs → reached s (take (suc i) inputs) ≡ next (reached s (take i inputs)) (at inputs i)
+state-suc s [] i below = absurd (omega (arith, below))
+state-suc s (u ∷ us) zero below = refl
+state-suc s (u ∷ us) (suc i) below = state-suc (next s u) us i (omega (arith, below))
 
-split : (inputs : List Bit) (i : ℕ) (u : Bit) → i < length inputs → get_or inputs i Zero ≡ u → drop i inputs ≡ u ∷ drop (i + 1) inputs
-split inputs i u lt e = drop_more inputs i Zero lt ∙ ap (λ b. b ∷ drop (i + 1) inputs) e
+parity-at : (s : State) (inputs : List Bit) (i : ℕ) → i < length inputs → at (parities_from s inputs) i ≡ parity (reached s (take i inputs)) (at inputs i)
+parity-at s [] i below = absurd (omega (arith, below))
+parity-at s (u ∷ us) zero below = refl
+parity-at s (u ∷ us) (suc i) below = parity-at (next s u) us i (omega (arith, below))
 
 -- the step of a coder at place i: the parity cell and the next state
 pub record Step (fill i : ℕ) (s : State) (u : Bit) (out : List Cell) (t : State) (longer : List Cell) : Type 0 where
   pub parity_bit : Bit
   pub cell : Cell
   pub parity_is : parity_bit ≡ parity s u
-  pub cell_is : cell ≡ cell_at fill i parity_bit
+  pub cell_is : cell ≡ filled_cell fill i parity_bit
   pub pushed : longer ≡ out ++ cell ∷ []
   pub moved : t ≡ next s u
 
 -- a parity cell more
-pub parity_more : (fill i : ℕ) (s t : State) (inputs : List Bit) (u : Bit) (out longer all : List Cell)
-    → i < length inputs → get_or inputs i Zero ≡ u → Step fill i s u out t longer
-    → out ++ null_filled (fill - i) (parities_from s (drop i inputs)) ≡ all
-    → longer ++ null_filled (fill - (i + 1)) (parities_from t (drop (i + 1) inputs)) ≡ all
-parity_more fill i s t inputs u out longer all lt read step e =
-    rw (step.pushed, step.cell_is, step.parity_is, step.moved)
-    (cell_more out fill i (parity s u) (parities_from (next s u) (drop (i + 1) inputs)) all
-    (ap (λ bs. out ++ null_filled (fill - i) (parities_from s bs)) (sym (split inputs i u lt read)) ∙ e))
+pub parity_more : (fill i : ℕ) (s t : State) (inputs : List Bit) (u : Bit) (out longer : List Cell)
+    → i < length inputs → get_or inputs i Zero ≡ u → s ≡ reached zero_state (take i inputs) → Step fill i s u out t longer
+    → out ≡ cells_before fill (parities inputs) i → longer ≡ cells_before fill (parities inputs) (i + 1)
+parity_more fill i s t inputs u out longer below read state step before =
+    let bit : step.parity_bit ≡ at (parities inputs) i =
+        step.parity_is
+        ∙ ap (λ v. parity v u) state
+        ∙ ap (parity (reached zero_state (take i inputs))) (sym read)
+        ∙ sym (parity-at zero_state inputs i below) in
+    cell_more fill (parities inputs) i out longer step.cell before step.pushed (step.cell_is ∙ ap (filled_cell fill i) bit)
 
 -- a state more
-pub state_more : (i : ℕ) (s t : State) (inputs : List Bit) (u : Bit) (end : State)
-    → i < length inputs → get_or inputs i Zero ≡ u → t ≡ next s u → reached s (drop i inputs) ≡ end → reached t (drop (i + 1) inputs) ≡ end
-state_more i s t inputs u end lt read moved e =
-    ap (λ v. reached v (drop (i + 1) inputs)) moved ∙ (ap (λ bs. reached s bs) (sym (split inputs i u lt read)) ∙ e)
+pub state_more : (i : ℕ) (s t : State) (inputs : List Bit) (u : Bit)
+    → i < length inputs → get_or inputs i Zero ≡ u → t ≡ next s u → s ≡ reached zero_state (take i inputs) → t ≡ reached zero_state (take (i + 1) inputs)
+state_more i s t inputs u below read moved state =
+    moved
+    ∙ ap (λ v. next v u) state
+    ∙ ap (next (reached zero_state (take i inputs))) (sym read)
+    ∙ sym (state-suc zero_state inputs i below)
+    ∙ ap (λ n. reached zero_state (take n inputs)) (let e : suc i ≡ i + 1 = omega arith in e)
 
--- no parity cell more
-pub parities_end : (out : List Cell) (fill i : ℕ) (s : State) (inputs : List Bit) (all : List Cell)
-    → length inputs ≤ i → fill ≤ i → out ++ null_filled (fill - i) (parities_from s (drop i inputs)) ≡ all → out ≡ all
-parities_end out fill i s inputs all le fillers e =
-    cells_end out fill i all fillers (sym (at_drop_all (λ bs. out ++ null_filled (fill - i) (parities_from s bs)) inputs i le) ∙ e)
-
--- no state more
-pub state_end : (s : State) (inputs : List Bit) (i : ℕ) (end : State) → length inputs ≤ i → reached s (drop i inputs) ≡ end → s ≡ end
-state_end s inputs i end le e = sym (at_drop_all (λ bs. reached s bs) inputs i le) ∙ e
+-- all of the inputs were read
+pub state_end : (i : ℕ) (s : State) (inputs : List Bit) → length inputs ≤ i → s ≡ reached zero_state (take i inputs) → s ≡ reached zero_state inputs
+state_end i s inputs all state = state ∙ ap (reached zero_state) (take_all i inputs all)

@@ -1,32 +1,20 @@
 //! Cells of the coded streams.
-ghost use Rattle.std.specs.Prelude.{◌≡◌, ◌≤◌, ◌++◌, IfOk, length};
-ghost use Rattle.sender_model.specs.CodedStreams.{cell_of, cells_of, null_filled};
-ghost use Rattle.turbo_encode.specs.Order.{cell_at};
+ghost use Rattle.std.specs.Prelude.{◌≡◌, ◌++◌, IfOk};
+ghost use Rattle.sender_model.specs.CodedStreams.{cells_of, filled_cell, null_filled};
 
 use crate::tails::TAIL;
 use lte_bits::{Bit, Cell, List, NoMemory};
 use std::alloc::Global;
 
-/// The cell of a bit.
-fn cell_of(bit: Bit) -> Cell
-    ensures { result ≡ cell_of bit }
-{
-    match bit {
-        Bit::Zero => Cell::Zero,
-        Bit::One => Cell::One,
-    }
-}
-
 /// The cell of a bit at place `i`, `Null` at the first `fill` places.
 pub fn cell_at(fill: usize, i: usize, bit: Bit) -> Cell
-    ensures { result ≡ cell_at fill i bit }
+    ensures { result ≡ filled_cell fill i bit }
 {
-    if i < fill { Cell::Null } else { cell_of(bit) }
+    if i < fill { Cell::Null } else { Cell::from(bit) }
 }
 
 /// The cells of a block's own bits, `Null` at the first `fill` places, with room for the tail.
 pub fn systematic(alloc: Global, bits: &[Bit], fill: usize) -> Result<Vec<Cell>, NoMemory>
-    requires { fill ≤ length bits.now }
     ensures { IfOk result (λ cells. cells.items ≡ null_filled fill bits.now) }
 {
     let mut cells = Vec::with_capacity(alloc, bits.len() + TAIL)?;
@@ -41,7 +29,7 @@ pub fn ended(mut cells: Vec<Cell>, tail: [Bit; TAIL]) -> Result<List<Cell>, NoMe
     ensures { IfOk result (λ stream. stream ≡ cells.items ++ cells_of tail) }
 {
     for bit in tail {
-        cells.push(cell_of(bit))?;
+        cells.push(Cell::from(bit))?;
     }
     Ok(List::from_vec(cells))
 }

@@ -1,5 +1,5 @@
 //! One constituent coder over a whole block (36.212 5.1.3.2.1).
-ghost use Rattle.std.specs.Prelude.{◌≡◌, ◌≤◌, Contains, IfOk, length};
+ghost use Rattle.std.specs.Prelude.{◌≡◌, Contains, IfOk, length};
 ghost use Rattle.sender_model.specs.ConstituentCoder.{zero_state, parities};
 ghost use Rattle.sender_model.specs.CodedStreams.{null_filled};
 ghost use Rattle.sender_model.specs.Interleaver.{sizes};
@@ -23,8 +23,7 @@ pub struct Coded {
 /// Codes a block's bits in an order. The cells are `Null` at the first `fill` places, and have
 /// room for the tail.
 pub fn code(alloc: Global, bits: &[Bit], order: Order, fill: usize) -> Result<Coded, NoMemory>
-    requires size { Contains sizes (length bits.now) }
-    requires fill { fill ≤ length bits.now }
+    requires { Contains sizes (length bits.now) }
     ensures cells { IfOk result (λ coded. coded.cells.items
         ≡ null_filled fill (parities (in_order (length bits.now) order.f1 order.f2 bits.now))) }
     ensures end { IfOk result (λ coded. coded.end

@@ -1,5 +1,5 @@
 //! The coded streams of a code block.
-ghost use Rattle.std.specs.Prelude.{◌≡◌, ◌≤◌, Contains, IfOk, length};
+ghost use Rattle.std.specs.Prelude.{◌≡◌, Contains, IfOk, length};
 ghost use Rattle.sender_model.specs.CodedStreams.{streams};
 ghost use Rattle.sender_model.specs.Interleaver.{sizes};
 
@@ -13,8 +13,7 @@ use std::alloc::Global;
 /// The three coded streams of a code block of K bits, each of K + 4 cells. K is one of the 188 sizes
 /// (36.212, table 5.1.3-3). `d0` and `d1` are `Null` at the fillers, and `d2` nowhere (5.1.3.2).
 pub fn encode(alloc: Global, block: &Block) -> Result<Streams, NoMemory>
-    requires size { Contains sizes (length block.now.bits) }
-    requires fill { block.now.fill ≤ length block.now.bits }
+    requires { Contains sizes (length block.now.bits) }
     ensures { IfOk result (λ s. s ≡ streams block.now) }
 {
     let bits = block.bits.as_slice();

@@ -8,8 +8,3 @@ mod order;
 mod tails;
 
 pub use encoder::encode;
-
-#[cfg(test)]
-mod tests;
-#[cfg(test)]
-mod vectors;

@@ -2,4 +2,4 @@ use Rattle.sender_model.proofs.SelectionLaws.{fitting_bit}
 use Rattle.sender_model.proofs.selection.some_bit_is_kept_where_it_fits.Goals as goal
 
 pub returns : goal.returns
-returns c plan m r start b fills long below fits = fitting_bit plan m r start b fills long below fits
+returns c = fitting_bit

@@ -8,8 +8,9 @@ use Rattle.sender_model.specs.CodedStreams.{null_filled}
 use Rattle.sender_model.specs.Interleaver.{pi}
 use Rattle.sender_model.specs.Tail.{reached}
 use Rattle.sender_model.proofs.RowLaws.{range-of_size}
+use Rattle.sender_model.proofs.Coder.{made}
 use Rattle.turbo_encode.specs.Order.{in_order}
-use Rattle.turbo_encode.proofs.CellSteps.{Step, parity_more, state_more, parities_end, state_end}
+use Rattle.turbo_encode.proofs.CellSteps.{Step, cells_before, parity_more, state_more, state_end}
 use Rattle.turbo_encode.proofs.constituent.code.Goals as goal
 
 length-in_order : (n f1 f2 : ℕ) (bits : List Bit) → length (in_order n f1 f2 bits) ≡ n
@@ -20,10 +21,10 @@ at-in_order n f1 f2 bits i p lt e =
     get_or-map-range_with_len (λ i. at bits (pi n f1 f2 i)) 0 n i i Zero lt (let z : 0 + i ≡ i = omega arith in z) ∙ ap (λ p. get_or bits p Zero) (sym e)
 
 pub new-walk-requires-clause-some : goal.new-walk-requires-clause-some
-new-walk-requires-clause-some c = let range = range-of_size (length c.args.bits.now) c.requires.size in omega (arith, range.0)
+new-walk-requires-clause-some c = let range = range-of_size (length c.args.bits.now) c.requires in omega (arith, range.0)
 
 pub new-walk-requires-clause-small : goal.new-walk-requires-clause-small
-new-walk-requires-clause-small c = (range-of_size (length c.args.bits.now) c.requires.size).1
+new-walk-requires-clause-small c = (range-of_size (length c.args.bits.now) c.requires).1
 
 pub loop-i-preserved : goal.loop-i-preserved
 loop-i-preserved c =
@@ -43,23 +44,22 @@ loop-i-preserved c =
       moved = c.next-state.ensures;
     } in
     record {
-      cells = parity_more fill i s c.next-state.result inputs u out c.push.new.self.items (null_filled fill (parities inputs)) below read step c.loop-i.invariant.cells;
-      end = state_more i s c.next-state.result inputs u (reached zero_state inputs) below read c.next-state.ensures c.loop-i.invariant.end;
+      cells = parity_more fill i s c.next-state.result inputs u out c.push.new.self.items below read c.loop-i.invariant.end step c.loop-i.invariant.cells;
+      end = state_more i s c.next-state.result inputs u below read c.next-state.ensures c.loop-i.invariant.end;
       size = c.next-walk.ensures.size ∙ c.loop-i.invariant.size;
       at = c.next-walk.ensures.at f1 f2 i c.loop-i.invariant.at;
     }
 
 pub returns-clause-cells : goal.returns-clause-cells
 returns-clause-cells c =
-    let bits = c.args.bits.now in let i = c.loop-i.i in
+    let bits = c.args.bits.now in
     let inputs = in_order (length bits) c.args.order.f1 c.args.order.f2 bits in
-    parities_end c.loop-i.cells.items c.args.fill i c.loop-i.state inputs (null_filled c.args.fill (parities inputs))
-    (omega (arith, length-in_order (length bits) c.args.order.f1 c.args.order.f2 bits, c.loop-i-test.false))
-    (omega (arith, c.loop-i-test.false, c.requires.fill))
-    c.loop-i.invariant.cells
+    let all : c.loop-i.i ≡ length (parities inputs) =
+        omega (arith, length-in_order (length bits) c.args.order.f1 c.args.order.f2 bits, (made zero_state inputs).z_long, c.loop-i-test.false, c.loop-i.auto.i-end) in
+    c.loop-i.invariant.cells ∙ ap (cells_before c.args.fill (parities inputs)) all
 
 pub returns-clause-end : goal.returns-clause-end
 returns-clause-end c =
     let bits = c.args.bits.now in let i = c.loop-i.i in
     let inputs = in_order (length bits) c.args.order.f1 c.args.order.f2 bits in
-    state_end c.loop-i.state inputs i (reached zero_state inputs) (omega (arith, length-in_order (length bits) c.args.order.f1 c.args.order.f2 bits, c.loop-i-test.false)) c.loop-i.invariant.end
+    state_end i c.loop-i.state inputs (omega (arith, length-in_order (length bits) c.args.order.f1 c.args.order.f2 bits, c.loop-i-test.false)) c.loop-i.invariant.end

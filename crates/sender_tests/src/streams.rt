@@ -1,9 +1,9 @@
 //! Worked streams, streams of an independent library, and all sizes run through.
-use super::encode;
 use crate::vectors::*;
 use lte_bits::{Bit, Block, Cell, List, unpack};
 use qpp_table::qpp;
 use std::test::Fail;
+use turbo_encode::encode;
 
 /// The cell of a bit behind the fillers.
 fn expected(bit: Bit, is_filler: bool) -> Cell {

@@ -1,9 +1,10 @@
+//! Plans, and payloads cut into code blocks and joined again.
 ghost use Rattle.std.specs.Prelude.{◌≡◌, ◌<◌, length};
 ghost use Rattle.sender_model.specs.Segmentation.{Plan};
 ghost use Rattle.segmentation.specs.Shape.{AreBlocksOf};
 
-use super::{BadLength, cut, plan, uncut};
 use lte_bits::{Bit, Block, unpack};
+use segmentation::{BadLength, cut, plan, uncut};
 use std::alloc::Global;
 use std::process::Abort;
 use std::test::Fail;
@@ -84,6 +85,12 @@ fn cut_and_join(rt: &impl Abort, alloc: Global, payload: &[u8]) -> Result<(), Fa
     for (block, (bits, fillers)) in blocks.as_slice().iter().zip(wanted) {
         assert_eq!(rt; block.bits.as_slice().len(), bits);
         assert_eq!(rt; block.fill, fillers);
+    }
+    if payload.iter().all(|byte| *byte == 0) {
+        for block in blocks.as_slice() {
+            let zeros = vec![in alloc; Bit::Zero; block.bits.as_slice().len()]?;
+            assert_eq!(rt; block.bits.as_slice(), zeros.as_slice());
+        }
     }
     let joined = uncut(alloc, blocks.as_slice(), &p)?;
     assert_eq!(rt; joined.payload.as_slice(), payload);

@@ -1,7 +1,7 @@
 use Rattle.std.proofs.Common.{length, ◌∙◌}
 use Rattle.std.proofs.Math.Seq.{map-set_same}
 use Rattle.lte_bits.specs.declared.block.Block.{Block}
-use Rattle.segmentation.proofs.tests.turn_one.Goals as goal
+use Rattle.sender_tests.proofs.code_blocks.turn_one.Goals as goal
 
 pub returns-then-place-as_slice : goal.returns-then-place-as_slice
 returns-then-place-as_slice c p shape = record {

@@ -2,8 +2,8 @@
 ghost use Rattle.std.specs.Prelude.{◌≡◌, ◌<◌};
 ghost use Rattle.qpp_table.specs.Qpp.{size_in};
 
-use super::*;
-use crate::interleaver::Qpp;
+use qpp_table::interleaver::Qpp;
+use qpp_table::{Interleaver, addresses, bank_row, qpp, win, windows_stay_apart};
 use std::alloc::{AllocError, Global};
 use std::test::Fail;
 
