@@ -4,4 +4,6 @@
 #[cfg(test)]
 mod block;
 #[cfg(test)]
+mod values;
+#[cfg(test)]
 mod window;

@@ -1,89 +1,26 @@
-//! Worked windows, shapes and borders. The values of the mixed window, and the last cells and the borders
-//! of the widest, come from an independent program, which was compared with all paths.
-ghost use Rattle.std.specs.Prelude.{◌≡◌, ◌≤◌, length};
-ghost use Rattle.lte_bits.specs.Softs.{IsWithin};
+//! Worked windows, shapes and borders. What the widest and the mixed window leave comes from an independent
+//! program, which was compared with all paths.
+ghost use Rattle.std.specs.Prelude.{◌≤◌};
 
+use crate::values::{Values, ext, exts, softs, strip};
 use lte_bits::{NoMemory, Soft};
 use rsc_trellis::State;
 use std::alloc::Global;
+use std::process::Abort;
 use std::test::Fail;
 use window_decode::{Border, CheckKind, Ext, Shape, Strip, Work, run_window};
 
-/// A strip over lists.
-#[derive(Drop)]
-struct Values {
-    sys: Vec<Soft>,
-    par: Vec<Soft>,
-    cells: Vec<Ext>,
-    ghost sys_long: { length sys.items ≡ length cells.items },
-    ghost par_long: { length par.items ≡ length cells.items },
-}
-
-impl Strip for Values {
-    type Rest = ();
-
-    ghost systematic = { λ v. v.sys.items };
-
-    ghost parity = { λ v. v.par.items };
-
-    ghost cells = { λ v. v.cells.items };
-
-    ghost rest = { λ _. tt };
-
-    fn width(&self) -> usize {
-        self.cells.len()
-    }
-
-    fn sys(&self, j: usize) -> i16 {
-        i16::from(self.sys[j].value())
-    }
-
-    fn par(&self, j: usize) -> i16 {
-        i16::from(self.par[j].value())
-    }
-
-    fn cell(&self, j: usize) -> Ext {
-        self.cells[j]
-    }
-
-    fn set_cell(&mut self, j: usize, v: Ext) {
-        self.cells[j] = v;
-    }
-}
-
-fn strip(rt: &HostRuntime, sys: Vec<Soft>, par: Vec<Soft>, cells: Vec<Ext>) -> Values {
-    assert!(rt; sys.len() == cells.len() && par.len() == cells.len());
-    Values { sys, par, cells }
-}
-
-fn softs(alloc: Global, numbers: &[i8]) -> Result<Vec<Soft>, NoMemory> {
-    let mut values = Vec::new(alloc);
-    for number in numbers {
-        values.push(Soft::from_i8(*number))?;
-    }
-    Ok(values)
-}
-
-fn ext(value: i16, one: bool) -> Ext
-    requires { IsWithin 511 value }
-{
-    Ext { value, one }
-}
-
-fn exts(alloc: Global, numbers: &[i16]) -> Result<Vec<Ext>, NoMemory> {
-    let mut cells = Vec::new(alloc);
-    for number in numbers {
-        cells.push(ext((*number).clamp(-511, 511), false))?;
-    }
-    Ok(cells)
-}
-
 /// Decodes a window with known start and unknown end, and gives the borders that it leaves.
-fn decode(rt: &HostRuntime, values: &mut Values, room: usize) -> Result<(Border, Border), Fail>
+fn decode(
+    rt: &impl Abort,
+    alloc: Global,
+    values: &mut Values,
+    room: usize,
+) -> Result<(Border, Border), NoMemory>
     requires least { 8 ≤ room }
     requires most { room ≤ 6144 }
 {
-    let mut work = Work::new(rt.alloc(), room)?;
+    let mut work = Work::new(alloc, room)?;
     assert!(rt; values.width() >= 8 && values.width() <= room);
     let borders = run_window(&mut work, &Border::known(), &Border::unknown(), values);
     assert_eq!(rt; work.room(), room);
@@ -109,7 +46,7 @@ fn one_parity_value_makes_one_cell(rt: HostRuntime) -> Result<(), Fail> {
         softs(rt.alloc(), &[-7, 0, 0, 0, 0, 0, 0, 0])?,
         vec![in rt.alloc(); Ext::ZERO; 8]?,
     );
-    let (forward, backward) = decode(&rt, &mut values, 8)?;
+    let (forward, backward) = decode(&rt, rt.alloc(), &mut values, 8)?;
     assert!(rt; forward == Border::unknown() && backward == Border::unknown());
     for (j, cell) in values.cells.iter().enumerate() {
         let want = if j == 0 { ext(-5, true) } else { Ext::ZERO };
@@ -126,7 +63,7 @@ fn the_greatest_values_stay_within_the_cells(rt: HostRuntime) -> Result<(), Fail
         vec![in rt.alloc(); Soft::from_i8(127); 6144]?,
         vec![in rt.alloc(); ext(511, false); 6144]?,
     );
-    let (forward, backward) = decode(&rt, &mut values, 6144)?;
+    let (forward, backward) = decode(&rt, rt.alloc(), &mut values, 6144)?;
     let ending = [476, 476, 381, 381, 381, 285, 190, 95];
     for (j, cell) in values.cells.iter().enumerate() {
         let value = match j.checked_sub(6136) {
@@ -148,12 +85,9 @@ fn mixed_values_give_the_cells_of_an_independent_program(rt: HostRuntime) -> Res
         &rt,
         softs(rt.alloc(), &[-122, -74, 48, -11, 4, 93, 1, -17])?,
         softs(rt.alloc(), &[-37, 45, -22, 17, -93, -97, 5, -42])?,
-        exts(
-            rt.alloc(),
-            &[-211, -43, 327, -124, -373, -420, -265, 92],
-        )?,
+        exts(rt.alloc(), &[-211, -43, 327, -124, -373, -420, -265, 92])?,
     );
-    let (forward, backward) = decode(&rt, &mut values, 16)?;
+    let (forward, backward) = decode(&rt, rt.alloc(), &mut values, 16)?;
     let want = [-28, -42, 81, -126, -57, -37, 35, -31];
     let ones = [true, true, false, true, true, true, true, false];
     for (j, cell) in values.cells.iter().enumerate() {

@@ -43,7 +43,7 @@ fn iteration<H: HalfDecoder>(decoder: H, n: usize) -> H
 }
 
 /// The result with decided bits of an iteration.
-fn result_in(fill: usize, bits: Vec<Bit>, iterations: usize, passed: bool) -> CodeResult
+pub fn result_in(fill: usize, bits: Vec<Bit>, iterations: usize, passed: bool) -> CodeResult
     ensures { result ≡ record {
       block = record { fill = fill; bits = bits.items };
       iterations = iterations;

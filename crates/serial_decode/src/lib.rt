@@ -11,6 +11,7 @@ pub mod half;
 pub mod left;
 mod lists;
 pub mod strip;
+pub mod tail;
 pub mod views;
 pub mod window;
 

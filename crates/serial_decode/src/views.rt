@@ -6,6 +6,7 @@ ghost use Rattle.serial_decode.specs.Views.{AreStreams, AreWhole, by_position};
 
 use crate::lists::{own_order, part, picked, second_order};
 use crate::strip::ListStrip;
+use crate::tail::tail_of;
 use lte_bits::{NoMemory, Soft, SoftStreams};
 use std::alloc::Global;
 use window_decode::{Border, Ext, Shape};
@@ -92,18 +93,7 @@ impl<'a> Views<'a> {
     pub fn tail(&self, h: usize) -> Border
         ensures { result ≡ tail_border self.now.streams.now self.now.shape.k h }
     {
-        let k = self.shape.k();
-        let d0 = self.streams.d0.as_slice();
-        let d1 = self.streams.d1.as_slice();
-        let d2 = self.streams.d2.as_slice();
-        if h % 2 == 0 {
-            Border::tail([d0[k], d2[k], d1[k + 1]], [d1[k], d0[k + 1], d2[k + 1]])
-        } else {
-            Border::tail(
-                [d0[k + 2], d2[k + 2], d1[k + 3]],
-                [d1[k + 2], d0[k + 3], d2[k + 3]],
-            )
-        }
+        tail_of(self.streams, &self.shape, h)
     }
 
     /// The number of positions of a window.
