@@ -1,8 +1,7 @@
 -- The first iteration whose check holds.
-use Rattle.std.proofs.Common.{◌≡◌, ◌⊎◌, ℕ, zero, suc, ◌+◌, ◌-◌, ◌*◌, ◌==◌, ◌<◌, ◌≤◌, Bool, true, false, List, Some, None, Option, find, refl, sym, ap, ◌∙◌, arith, cond, inl, inr}
+use Rattle.std.proofs.Common.{◌≡◌, ℕ, suc, ◌+◌, ◌-◌, ◌*◌, ◌<◌, ◌≤◌, Bool, true, false, List, refl, sym, ap, ◌∙◌, arith, inl, inr}
 use Rattle.std.specs.Prelude.{◌↔◌, IsTrue}
 use Rattle.std.proofs.lemmas.Bool.{cases_eq}
-use Rattle.std.specs.List.{range_with_len}
 use Rattle.lte_bits.specs.declared.bit.Bit.{Bit}
 use Rattle.lte_bits.specs.declared.block.SoftStreams.{SoftStreams}
 use Rattle.sender_model.specs.CheckBits.{IsMultiple, IsMonic, remainder}
@@ -11,7 +10,7 @@ use Rattle.receiver_model.specs.declared.result.CheckKind.{CheckKind}
 use Rattle.receiver_model.specs.declared.result.CheckKind.TheVariants.{A, B}
 use Rattle.receiver_model.specs.declared.result.CodeResult.{CodeResult}
 use Rattle.receiver_model.specs.HalfIteration.{Shape, Before, after, opening}
-use Rattle.receiver_model.specs.Decoding.{before, decided_bits, decided_in, generator, check_holds, passing_iteration, result_in, result_of, code_result}
+use Rattle.receiver_model.specs.Decoding.{before, decided_bits, decided_in, generator, check_holds, code_result}
 use Rattle.receiver_model.proofs.DecodedOnce.{checks-true, checks-false, decoded-is, decoded_once}
 use Rattle.serial_decode.proofs.Orders.{equal, not-equal}
 

@@ -1,9 +1,6 @@
-use Rattle.std.proofs.Common.{◌≡◌, ℕ, suc, ◌+◌, ◌-◌, ◌*◌, ◌<◌, ◌≤◌, Bool, true, false, List, length, take, drop, ◌++◌, refl, sym, ap, ◌∙◌, arith, inl, inr, rules}
-use Rattle.std.proofs.lemmas.Bool.{cases_eq}
+use Rattle.std.proofs.Common.{◌≡◌, ◌+◌, ◌-◌, true, false, List, length, take, drop, ◌++◌, refl, sym, ap, ◌∙◌, arith, rules}
 use Rattle.lte_bits.specs.declared.bit.Bit.{Bit}
-use Rattle.lte_bits.specs.declared.block.SoftStreams.{SoftStreams}
-use Rattle.receiver_model.specs.HalfIteration.{Shape, Before, after}
-use Rattle.receiver_model.specs.Decoding.{before, decided_bits, decided_in, check_holds, generator}
+use Rattle.receiver_model.specs.Decoding.{decided_in, check_holds}
 use Rattle.serial_decode.proofs.Parts.{written}
 use Rattle.serial_decode.proofs.Stopping.{before-none, before-iteration, left-by_iteration, decided-by_iteration, fail-more, check-is, decode-passed, decode-failed}
 use Rattle.serial_decode.proofs.block.decode_halves.Goals as goal
