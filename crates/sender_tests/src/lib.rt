@@ -13,4 +13,6 @@ mod lists;
 #[cfg(test)]
 mod streams;
 #[cfg(test)]
+mod trellis;
+#[cfg(test)]
 mod vectors;

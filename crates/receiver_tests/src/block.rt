@@ -1,20 +1,18 @@
-//! Worked blocks.
-use super::*;
-use lte_bits::{Bit, Block, Cell, List, Soft};
+//! Worked code blocks of the serial decoder.
+use lte_bits::{Bit, Block, Cell, List, NoMemory, Soft, SoftStreams};
 use qpp_table::qpp;
+use serial_decode::decode_block;
 use std::alloc::Global;
 use std::test::Fail;
 use turbo_encode::encode;
-use window_decode::CheckKind;
+use window_decode::{CheckKind, Shape};
 
-/// Soft values of cells: `size` for a 0, its negative for a 1.
-fn softs(alloc: Global, cells: &[Cell], size: i8) -> Result<List<Soft>, NoMemory> {
+/// Soft values of cells: 20 for a 0, -20 for a 1.
+fn softs(alloc: Global, cells: &[Cell]) -> Result<List<Soft>, NoMemory> {
     let mut values = Vec::new(alloc);
     for cell in cells {
-        values.push(Soft::from_i8(match cell {
-            Cell::One => size.saturating_neg(),
-            _ => size,
-        }))?;
+        let value = if *cell == Cell::One { -20 } else { 20 };
+        values.push(Soft::from_i8(value))?;
     }
     Ok(List::from_vec(values))
 }
@@ -50,9 +48,9 @@ fn bits_that_fail_the_check_come_from_the_last_iteration(rt: HostRuntime) -> Res
     let shape = Shape::new(40, 0, CheckKind::A, 5, 3).ok_or("it is a shape")?;
     let streams = SoftStreams {
         fill: 0,
-        d0: softs(rt.alloc(), coded.d0.as_slice(), 20)?,
-        d1: softs(rt.alloc(), coded.d1.as_slice(), 20)?,
-        d2: softs(rt.alloc(), coded.d2.as_slice(), 20)?,
+        d0: softs(rt.alloc(), coded.d0.as_slice())?,
+        d1: softs(rt.alloc(), coded.d1.as_slice())?,
+        d2: softs(rt.alloc(), coded.d2.as_slice())?,
     };
     let lengths = (
         streams.d0.as_slice().len(),
