@@ -1,5 +1,4 @@
 pub mod Sizes
-pub mod Told
 pub mod Fronts
 pub mod WordSteps
 pub mod Sent

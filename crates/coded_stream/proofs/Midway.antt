@@ -12,7 +12,7 @@ use Rattle.coded_stream.specs.Takes.{TakesStep, step_due}
 use Rattle.coded_stream.specs.Shown.{sendings_of}
 use Rattle.coded_stream.specs.declared.kind.Kind.{Kind}
 use Rattle.coded_stream.specs.declared.block.Next.TheVariants as next
-use Rattle.coded_stream.proofs.Told.{told, told_all}
+use Rattle.edge_io.proofs.Told.{told_rest, told_all}
 use Rattle.coded_stream.proofs.Sent.{lengths-one, step-accepted, step-bad, step-cut, due-more, IsMidway}
 
 -- G of each transmission, as the program has it
@@ -39,7 +39,7 @@ all_taken old input bytes left more rest is split again =
 pub midway-more : (kind : Kind) (start payload g count turn : ℕ) (bytes unit input : List ℕ) (mid new : Option (List ℕ)) → IsMidway kind start payload g count turn bytes input mid → turn < count
     → Takes mid new unit → length unit ≡ transmission_size kind g → has_bad_bit kind g unit ≡ false → IsMidway kind start payload g count (turn + 1) (bytes ++ unit) input new
 midway-more kind start payload g count turn bytes unit input mid new m less took long good =
-    let t = told mid new unit m.left took m.new_is in
+    let t = told_rest mid new unit m.left took m.new_is in
     record {
       left = t.left;
       input_is = m.input_is ∙ ap (λ (xs : List ℕ). bytes ++ xs) t.input_is ∙ sym (append_assoc bytes unit t.left);
@@ -55,7 +55,7 @@ pub midway-bad : (kind : Kind) (start payload g count turn place : ℕ) (bytes u
     → old ≡ Some input → Takes mid new unit → length unit ≡ transmission_size kind g → has_bad_bit kind g unit ≡ true → place ≡ start + (4 + length bytes + transmission_size kind g - 1)
     → TakesStep (transmissions_step kind start (record { payload = payload; bytes = [] }) (replicate count g) input) 4 into old new (next.Bad 5 place)
 midway-bad kind start payload g count turn place bytes unit input into old mid new m less is took long bad at =
-    let t = told mid new unit m.left took m.new_is in (
+    let t = told_rest mid new unit m.left took m.new_is in (
       bytes ++ unit,
       t.left,
       4 + length bytes + transmission_size kind g,
@@ -89,7 +89,7 @@ pub midway-fault : (kind : Kind) (start payload g count turn : ℕ) (bytes part 
     → old ≡ Some input → Takes mid new part → length part < transmission_size kind g
     → TakesStep (transmissions_step kind start (record { payload = payload; bytes = [] }) (replicate count g) input) 4 into old new next.Fault
 midway-fault kind start payload g count turn bytes part input into old mid new m less is took few =
-    let t = told mid new part m.left took m.new_is in
+    let t = told_rest mid new part m.left took m.new_is in
     let first : Takes old mid bytes = is ∙ ap Some m.input_is ∙ sym (ap (prepend_known bytes) m.new_is) in
     let came : length part ≤ length m.left = omega (arith, ap length t.input_is, length-append part t.left) in
     let step_is = m.step_is ∙ turned kind start payload g count turn bytes m.left less in

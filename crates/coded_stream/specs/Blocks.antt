@@ -36,7 +36,8 @@ pub record IsTransmission (kind : Kind) (g : ℕ) (bytes : List ℕ) : Type 0 wh
 abbrev pub AreTransmissions : Kind → List ℕ → List ℕ → Type 0
 AreTransmissions kind [] bytes = bytes ≡ []
 AreTransmissions kind (g ∷ gs) bytes =
-    (first rest : List ℕ) × (bytes ≡ first ++ rest) × IsTransmission kind g first × AreTransmissions kind gs rest
+    (first rest : List ℕ)
+    × (bytes ≡ first ++ rest) × IsTransmission kind g first × AreTransmissions kind gs rest
 
 pub record IsBlock (h : Header) (b : Block) : Type 0 where
   pub some : 1 ≤ b.payload

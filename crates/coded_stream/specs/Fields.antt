@@ -14,13 +14,17 @@ use Rattle.coded_stream.specs.declared.fields.Versions.TheVariants as second
 -- the rate matching of a unit, where its G is accepted
 abbrev pub MatchIs : List ℕ → Option Match → Type 0
 MatchIs unit None = is_g (slice_index unit 6 * slice_index unit 5) (word unit 10) ≡ false
-MatchIs unit (Some m) = (is_g (slice_index unit 6 * slice_index unit 5) (word unit 10) ≡ true) × (m ≡ match_in unit)
+MatchIs unit (Some m) = (is_g (slice_index unit 6 * slice_index unit 5) (word unit 10) ≡ true)
+    × (m ≡ match_in unit)
 
 -- the numbers of a unit whose fields pass, or the first that doesn't
 abbrev pub AreRead : List Check → List ℕ → Fields → Type 0
-AreRead checks unit (first.Good m tb count) = (first_refusal 18 checks ≡ None) × (m ≡ match_in unit) × (tb ≡ half_word unit 8) × (count ≡ slice_index unit 7)
+AreRead checks unit (first.Good m tb count) = (first_refusal 18 checks ≡ None) × (m ≡ match_in unit)
+    × (tb ≡ half_word unit 8) × (count ≡ slice_index unit 7)
 AreRead checks unit (first.Bad number place) = first_refusal 18 checks ≡ Some (refused_at number place 18)
 
 abbrev pub VersionsAreRead : List ℕ → Versions → Type 0
-VersionsAreRead unit (second.Good rvs) = (rvs ≡ unit) × ((size : ℕ) → first_refusal size (version_fields 18 unit) ≡ None)
-VersionsAreRead unit (second.Bad index) = (index < length unit) × ((size : ℕ) → first_refusal size (version_fields 18 unit) ≡ Some (refused_at 3 (18 + index) size))
+VersionsAreRead unit (second.Good rvs) = (rvs ≡ unit)
+    × ((size : ℕ) → first_refusal size (version_fields 18 unit) ≡ None)
+VersionsAreRead unit (second.Bad index) = (index < length unit)
+    × ((size : ℕ) → first_refusal size (version_fields 18 unit) ≡ Some (refused_at 3 (18 + index) size))

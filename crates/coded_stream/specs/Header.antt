@@ -30,7 +30,9 @@ half_word_text n = to_be_bytes w16 n
 
 -- the numbers of the bytes from a place on
 unfoldable pub word : List ℕ → ℕ → ℕ
-word bytes i = from_be_bytes w32 (slice_index bytes i ∷ slice_index bytes (i + 1) ∷ slice_index bytes (i + 2) ∷ slice_index bytes (i + 3) ∷ [])
+word bytes i = from_be_bytes w32
+    (slice_index bytes i ∷ slice_index bytes (i + 1) ∷ slice_index bytes (i + 2)
+    ∷ slice_index bytes (i + 3) ∷ [])
 
 unfoldable pub half_word : List ℕ → ℕ → ℕ
 half_word bytes i = from_be_bytes w16 (slice_index bytes i ∷ slice_index bytes (i + 1) ∷ [])
@@ -72,7 +74,8 @@ versions sendings = map (λ s. s.rv) sendings
 unfoldable pub first_text : Header → List ℕ
 first_text h =
     let m = common h.sendings in
-    word_text magic ++ kind_code h.kind ∷ m.qm ∷ m.nl ∷ length h.sendings ∷ [] ++ half_word_text h.tb ++ word_text m.g ++ word_text (limit_code m.limit)
+    word_text magic ++ kind_code h.kind ∷ m.qm ∷ m.nl ∷ length h.sendings ∷ []
+    ++ half_word_text h.tb ++ word_text m.g ++ word_text (limit_code m.limit)
 
 abbrev pub header_text : Header → List ℕ
 header_text h = first_text h ++ versions h.sendings

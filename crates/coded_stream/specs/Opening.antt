@@ -1,4 +1,5 @@
--- How a stream begins: the units of its header, each read whole before its fields are checked, in order of place.
+-- How a stream begins: the units of its header, each read whole before its fields are checked, in order of
+-- place.
 use Rattle.std.specs.Prelude.{ℕ, ◌+◌, ◌*◌, Bool, ◌&&◌, nat_le, nat_lt, ◌==◌, if◌then◌else◌, List, [], ◌∷◌, length, take, drop, slice_index, Some, None}
 use Rattle.std.specs.List.{list_any}
 use Rattle.std.specs.declared.option.Option.{Option}
@@ -23,7 +24,8 @@ check passes number place = record { passes = passes; number = number; place = p
 -- the first refusal, of units that end after `size` bytes
 abbrev pub first_refusal : ℕ → List Check → Option Refusal
 first_refusal size [] = None
-first_refusal size (c ∷ cs) = if c.passes then first_refusal size cs else Some (refused_at c.number c.place size)
+first_refusal size (c ∷ cs) =
+    if c.passes then first_refusal size cs else Some (refused_at c.number c.place size)
 
 -- the kinds that are wanted have this code among theirs
 abbrev pub is_wanted : List Kind → ℕ → Bool
@@ -67,7 +69,12 @@ unless None opening = opening
 unless (Some refusal) opening = refuses refusal
 
 abbrev pub match_in : List ℕ → Match
-match_in unit = record { qm = slice_index unit 5; nl = slice_index unit 6; g = word unit 10; limit = limit_of_code (word unit 14) }
+match_in unit = record {
+  qm = slice_index unit 5;
+  nl = slice_index unit 6;
+  g = word unit 10;
+  limit = limit_of_code (word unit 14);
+}
 
 -- the header of these two units
 abbrev pub header_in : List ℕ → List ℕ → Header
@@ -81,10 +88,12 @@ header_in unit rvs = record {
 abbrev pub second_opening : ℕ → List ℕ → List ℕ → Opening
 second_opening count unit left = if nat_lt (length left) count
     then refuses (truncated 0 (18 + length left))
-    else unless (first_refusal (18 + count) (version_fields 18 (take count left))) (opens (header_in unit (take count left)) (drop count left))
+    else unless (first_refusal (18 + count) (version_fields 18 (take count left)))
+    (opens (header_in unit (take count left)) (drop count left))
 
 -- of a stream of a kind that is wanted
 abbrev pub opening : List Kind → List ℕ → Opening
 opening wanted input = if nat_lt (length input) 18
     then refuses (truncated 0 (length input))
-    else unless (first_refusal 18 (fields wanted (take 18 input))) (second_opening (slice_index (take 18 input) 7) (take 18 input) (drop 18 input))
+    else unless (first_refusal 18 (fields wanted (take 18 input)))
+    (second_opening (slice_index (take 18 input) 7) (take 18 input) (drop 18 input))

@@ -12,7 +12,8 @@ use Rattle.coded_stream.specs.declared.kind.Kind.{Kind}
 use Rattle.coded_stream.specs.declared.stop.StreamStop.{StreamStop}
 use Rattle.coded_stream.specs.declared.stop.StreamStop.TheVariants.{Bad, Fault, NoMemory}
 
--- the header that was read, the place of the stream that was reached, the blocks that came, and whether it goes on
+-- the header that was read, the place of the stream that was reached, the blocks that came, and whether it
+-- goes on
 pub record Reading : Type 0 where
   pub header : Header
   pub place : ℕ
@@ -23,7 +24,8 @@ pub record Reading : Type 0 where
 abbrev pub remaining : Reading → List ℕ → Body
 remaining r left = body r.header (most_blocks - r.blocks) r.place left
 
--- how many bytes must have come before the first thing of a body is known, where the end of the input counts as one
+-- how many bytes must have come before the first thing of a body is known, where the end of the input counts
+-- as one
 abbrev pub due_of : List Block → Ending → ℕ
 due_of (b ∷ blocks) ending = 4 + length b.bytes
 due_of [] whole = 5
@@ -40,20 +42,28 @@ opening_due (refuses refusal) = refusal.due
 
 -- the beginning of a stream was read
 abbrev pub Begins : Opening → Option (List ℕ) → Option (List ℕ) → Result Reading StreamStop → Type 0
-Begins all old new (Ok r) = (bytes left : List ℕ) × (old ≡ Some (bytes ++ left)) × (new ≡ Some left) × (length bytes ≡ r.place) × (all ≡ opens r.header left)
-Begins all old new (Err (Bad number place)) = (bytes left : List ℕ) × (due : ℕ) × (old ≡ Some (bytes ++ left)) × (new ≡ Some left)
+Begins all old new (Ok r) = (bytes left : List ℕ) × (old ≡ Some (bytes ++ left)) × (new ≡ Some left)
+    × (length bytes ≡ r.place) × (all ≡ opens r.header left)
+Begins all old new (Err (Bad number place)) = (bytes left : List ℕ) × (due : ℕ)
+    × (old ≡ Some (bytes ++ left)) × (new ≡ Some left)
     × (all ≡ refuses (record { number = number; place = place; size = length bytes; due = due }))
 Begins all old new (Err Fault) = (bytes : List ℕ) × Takes old new bytes × (length bytes < opening_due all)
 Begins all old new (Err NoMemory) = ⊥
 
--- of what a body was still to say: a block was read, its transmissions are in `into`, and `after` is still to come
-abbrev pub GoesOn : Body → (List ℕ → Body) → List ℕ → Option (List ℕ) → Option (List ℕ) → Result (Option ℕ) StreamStop → Type 0
-GoesOn all after into old new (Ok (Some n)) = (bytes left : List ℕ) × (old ≡ Some (bytes ++ left)) × (new ≡ Some left) × (length bytes ≡ 4 + length into)
+-- of what a body was still to say: a block was read, its transmissions are in `into`, and `after` is still to
+-- come
+abbrev pub GoesOn : Body → (List ℕ → Body) → List ℕ → Option (List ℕ) → Option (List ℕ)
+    → Result (Option ℕ) StreamStop → Type 0
+GoesOn all after into old new (Ok (Some n)) = (bytes left : List ℕ) × (old ≡ Some (bytes ++ left))
+    × (new ≡ Some left) × (length bytes ≡ 4 + length into)
     × (all ≡ onto (record { payload = n; bytes = into }) (after left))
-GoesOn all after into old new (Ok None) = (bytes : List ℕ) × (old ≡ Some bytes) × (new ≡ Some []) × (length bytes ≡ 4) × (all ≡ no_more whole)
-GoesOn all after into old new (Err (Bad number place)) = (bytes left : List ℕ) × (due : ℕ) × (old ≡ Some (bytes ++ left)) × (new ≡ Some left)
+GoesOn all after into old new (Ok None) = (bytes : List ℕ) × (old ≡ Some bytes) × (new ≡ Some [])
+    × (length bytes ≡ 4) × (all ≡ no_more whole)
+GoesOn all after into old new (Err (Bad number place)) = (bytes left : List ℕ) × (due : ℕ)
+    × (old ≡ Some (bytes ++ left)) × (new ≡ Some left)
     × (all ≡ no_more (bad (record { number = number; place = place; size = length bytes; due = due })))
-GoesOn all after into old new (Err Fault) = (bytes : List ℕ) × Takes old new bytes × (length bytes < body_due all)
+GoesOn all after into old new (Err Fault) = (bytes : List ℕ) × Takes old new bytes
+    × (length bytes < body_due all)
 GoesOn all after into old new (Err NoMemory) = new ≡ old
 
 -- ---- whether it tells them or not
@@ -69,7 +79,8 @@ pub record IsBegun (kind : Kind) (r : Reading) : Type 0 where
 -- how a reader changes: past an accepted block, or at an end of its life
 abbrev pub Advances : Reading → Reading → List ℕ → Result (Option ℕ) StreamStop → Type 0
 Advances old new into (Ok (Some n)) = let b : Block = record { payload = n; bytes = into } in
-    (old.blocks < most_blocks) × IsBlock old.header b × (new ≡ record old { place = next_start old.place b; blocks = old.blocks + 1 })
+    (old.blocks < most_blocks) × IsBlock old.header b
+    × (new ≡ record old { place = next_start old.place b; blocks = old.blocks + 1 })
 Advances old new into (Ok None) = new ≡ record old { live = false }
 Advances old new into (Err (Bad number place)) = new ≡ record old { live = false }
 Advances old new into (Err Fault) = new ≡ record old { live = false }

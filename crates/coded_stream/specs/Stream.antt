@@ -19,7 +19,8 @@ ended_as h blocks whole = accepted h blocks
 ended_as h blocks (bad refusal) = refused refusal.number refusal.place
 
 abbrev pub opened_as : Opening → Stream
-opened_as (opens h left) = let rest = body h most_blocks (length (header_text h)) left in ended_as h rest.blocks rest.ending
+opened_as (opens h left) =
+    let rest = body h most_blocks (length (header_text h)) left in ended_as h rest.blocks rest.ending
 opened_as (refuses refusal) = refused refusal.number refusal.place
 
 -- of an input, where streams of these kinds are wanted

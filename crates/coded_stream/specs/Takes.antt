@@ -20,19 +20,25 @@ use Rattle.coded_stream.specs.declared.block.Next.TheVariants as next
 -- ---- the header's second unit, of so many versions, where the source tells its bytes
 
 abbrev pub TakesVersions : ℕ → List ℕ → Option (List ℕ) → Option (List ℕ) → Second → Type 0
-TakesVersions count input old new (second.Good rvs) = (left : List ℕ) × (input ≡ rvs ++ left) × (new ≡ Some left) × (length rvs ≡ count)
+TakesVersions count input old new (second.Good rvs) = (left : List ℕ) × (input ≡ rvs ++ left)
+    × (new ≡ Some left) × (length rvs ≡ count)
     × (first_refusal (18 + count) (version_fields 18 rvs) ≡ None)
-TakesVersions count input old new (second.Bad number place) = (bytes left : List ℕ) × (due : ℕ) × (input ≡ bytes ++ left) × (new ≡ Some left)
-    × ((unit : List ℕ) → second_opening count unit input ≡ refuses (record { number = number; place = place; size = 18 + length bytes; due = due }))
-TakesVersions count input old new second.Fault = (bytes : List ℕ) × Takes old new bytes × (length bytes < count)
+TakesVersions count input old new (second.Bad number place) = (bytes left : List ℕ) × (due : ℕ)
+    × (input ≡ bytes ++ left) × (new ≡ Some left)
+    × ((unit : List ℕ) → second_opening count unit input
+    ≡ refuses (record { number = number; place = place; size = 18 + length bytes; due = due }))
+TakesVersions count input old new second.Fault = (bytes : List ℕ) × Takes old new bytes
+    × (length bytes < count)
 
 -- ---- one transmission
 
 abbrev pub TakesTransmission : Kind → ℕ → Option (List ℕ) → Option (List ℕ) → List ℕ → Transmission → Type 0
 TakesTransmission kind g old new bytes one.Whole = Takes old new bytes × (has_bad_bit kind g bytes ≡ false)
 TakesTransmission kind g old new bytes one.BadBit = Takes old new bytes × (has_bad_bit kind g bytes ≡ true)
-TakesTransmission kind g old new bytes (one.Short got) = (got < length bytes) × Takes old new (take got bytes) × IsAtEnd new
-TakesTransmission kind g old new bytes one.Fault = (part : List ℕ) × (length part < length bytes) × Takes old new part
+TakesTransmission kind g old new bytes (one.Short got) = (got < length bytes)
+    × Takes old new (take got bytes) × IsAtEnd new
+TakesTransmission kind g old new bytes one.Fault = (part : List ℕ) × (length part < length bytes)
+    × Takes old new part
 
 -- ---- steps of the body, where the source tells its bytes
 
@@ -43,25 +49,35 @@ step_due ended = 5
 step_due (refused refusal) = refusal.due
 
 -- a length word was read: `s` is the step from it on
-abbrev pub TakesWord : (s : Step) (transmissions : ℕ → List ℕ → Step) (start : ℕ) (old new : Option (List ℕ)) → Word → Type 0
-TakesWord s transmissions start old new (word.Payload n) = (bytes left : List ℕ) × (old ≡ Some (bytes ++ left)) × (new ≡ Some left) × (length bytes ≡ 4) × (s ≡ transmissions n left)
-TakesWord s transmissions start old new word.End = (bytes left : List ℕ) × (old ≡ Some (bytes ++ left)) × (new ≡ Some left) × (length bytes ≡ 4) × (s ≡ end_step start left)
-TakesWord s transmissions start old new (word.Bad number place) = (bytes left : List ℕ) × (due : ℕ) × (old ≡ Some (bytes ++ left)) × (new ≡ Some left)
+abbrev pub TakesWord : (s : Step) (transmissions : ℕ → List ℕ → Step) (start : ℕ) (old new : Option (List ℕ))
+    → Word → Type 0
+TakesWord s transmissions start old new (word.Payload n) = (bytes left : List ℕ)
+    × (old ≡ Some (bytes ++ left)) × (new ≡ Some left) × (length bytes ≡ 4) × (s ≡ transmissions n left)
+TakesWord s transmissions start old new word.End = (bytes left : List ℕ) × (old ≡ Some (bytes ++ left))
+    × (new ≡ Some left) × (length bytes ≡ 4) × (s ≡ end_step start left)
+TakesWord s transmissions start old new (word.Bad number place) = (bytes left : List ℕ) × (due : ℕ)
+    × (old ≡ Some (bytes ++ left)) × (new ≡ Some left)
     × (s ≡ refused (record { number = number; place = place; size = length bytes; due = due }))
-TakesWord s transmissions start old new word.Fault = (bytes : List ℕ) × Takes old new bytes × (length bytes < 4)
+TakesWord s transmissions start old new word.Fault = (bytes : List ℕ) × Takes old new bytes
+    × (length bytes < 4)
 
 -- a step was read on, behind `read` of its bytes
 abbrev pub TakesStep : (s : Step) (read : ℕ) (into : List ℕ) (old new : Option (List ℕ)) → Next → Type 0
-TakesStep s read into old new (next.Block payload) = (bytes left : List ℕ) × (old ≡ Some (bytes ++ left)) × (new ≡ Some left) × (read + length bytes ≡ 4 + length into)
+TakesStep s read into old new (next.Block payload) = (bytes left : List ℕ) × (old ≡ Some (bytes ++ left))
+    × (new ≡ Some left) × (read + length bytes ≡ 4 + length into)
     × (s ≡ block (record { payload = payload; bytes = into }) left)
-TakesStep s read into old new next.End = (bytes : List ℕ) × (old ≡ Some bytes) × (new ≡ Some []) × (read + length bytes ≡ 4) × (s ≡ ended)
-TakesStep s read into old new (next.Bad number place) = (bytes left : List ℕ) × (due : ℕ) × (old ≡ Some (bytes ++ left)) × (new ≡ Some left)
+TakesStep s read into old new next.End = (bytes : List ℕ) × (old ≡ Some bytes) × (new ≡ Some [])
+    × (read + length bytes ≡ 4) × (s ≡ ended)
+TakesStep s read into old new (next.Bad number place) = (bytes left : List ℕ) × (due : ℕ)
+    × (old ≡ Some (bytes ++ left)) × (new ≡ Some left)
     × (s ≡ refused (record { number = number; place = place; size = read + length bytes; due = due }))
-TakesStep s read into old new next.Fault = (bytes : List ℕ) × Takes old new bytes × (read + length bytes < step_due s)
+TakesStep s read into old new next.Fault = (bytes : List ℕ) × Takes old new bytes
+    × (read + length bytes < step_due s)
 
 -- a block that was read is accepted, and came where one may come
 abbrev pub IsAccepted : Header → ℕ → List ℕ → Next → Type 0
-IsAccepted h more into (next.Block payload) = (0 < more) × IsBlock h (record { payload = payload; bytes = into })
+IsAccepted h more into (next.Block payload) = (0 < more)
+    × IsBlock h (record { payload = payload; bytes = into })
 IsAccepted h more into _ = Unit {0}
 
 -- where a block was read, it has this payload, and its transmissions are accepted

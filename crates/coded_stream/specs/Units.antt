@@ -6,8 +6,10 @@ use Rattle.edge_io.specs.Edge.{Takes}
 use Rattle.coded_stream.specs.declared.unit.Unit.{Unit}
 use Rattle.coded_stream.specs.declared.unit.Unit.TheVariants.{Whole, Short, Fault}
 
--- A refusal: its number, and its byte of the stream. Of what is read from some place of the stream on, `size` bytes
--- are read up to the end of the refused unit, and `due` must have come before the refusal is known, where the end
+-- A refusal: its number, and its byte of the stream. Of what is read from some place of the stream on, `size`
+-- bytes
+-- are read up to the end of the refused unit, and `due` must have come before the refusal is known, where the
+-- end
 -- of the input counts as one.
 pub record Refusal : Type 0 where
   pub number : ℕ

@@ -21,6 +21,3 @@ pub use kind::Kind;
 pub use reader::StreamReader;
 pub use stop::StreamStop;
 pub use writing::{write_header, write_length};
-
-#[cfg(test)]
-mod tests;

@@ -10,7 +10,7 @@ use Rattle.run_loop.specs.Reply.{Reply, unopened, begun, EndsReply}
 use Rattle.run_loop.specs.declared.status.Status.{Status}
 use Rattle.run_loop.specs.declared.status.Status.TheVariants as status
 use Rattle.run_loop.proofs.Headers.{behind_header}
-use Rattle.run_loop.proofs.Told.{told_rest}
+use Rattle.edge_io.proofs.Told.{told_rest}
 use Rattle.loop_example.specs.Pairs.{pairs, answer_of}
 
 abbrev replied : Bool → List ℕ → Reply
@@ -25,9 +25,9 @@ accepted_head old new left (h ∷ t ∷ more) input d ending one took told seven
 accepted_head old new left (h ∷ []) input d ending one took told seven ended =
     let rest = told_rest old.left left (h ∷ []) input took told in
     let P : List ℕ → Type 0 = λ i. EndsReply (answer_of i) old new ending in
-    let Q : Bool → Type 0 = λ b. EndsReply (replied b rest.0) old new ending in
-    subst P (sym rest.2) (subst Q (sym (ap (λ (k : ℕ). k == 7) seven))
-    (behind_header 1 2 (opened (7 ∷ []) (pairs 1000 rest.0)) old new left (h ∷ []) rest.0 ending refl (told ∙ ap Some rest.2) rest.1 (ended rest.0 rest.1)))
+    let Q : Bool → Type 0 = λ b. EndsReply (replied b rest.left) old new ending in
+    subst P (sym rest.input_is) (subst Q (sym (ap (λ (k : ℕ). k == 7) seven))
+    (behind_header 1 2 (opened (7 ∷ []) (pairs 1000 rest.left)) old new left (h ∷ []) rest.left ending refl (told ∙ ap Some rest.input_is) rest.new_is (ended rest.left rest.new_is)))
 
 pub refused_head : (old new : Held) (head : List ℕ) (input : List ℕ) (d : ℕ) →
     length head ≡ 1 → Takes old.left new.left head → old.left ≡ Some input → (slice_index_or head 0 d ≡ 7 → ⊥) →
@@ -37,6 +37,6 @@ refused_head old new (h ∷ t ∷ more) input d one took told other out report =
 refused_head old new (h ∷ []) input d one took told other out report =
     let rest = told_rest old.left new.left (h ∷ []) input took told in
     let P : List ℕ → Type 0 = λ i. EndsReply (answer_of i) old new (status.BadStream 1 0) in
-    let Q : Bool → Type 0 = λ b. EndsReply (replied b rest.0) old new (status.BadStream 1 0) in
+    let Q : Bool → Type 0 = λ b. EndsReply (replied b rest.left) old new (status.BadStream 1 0) in
     let differs : (h == 7) ≡ false = grind (arith, common_steps, other) in
-    subst P (sym rest.2) (subst Q (sym differs) (refl, refl, (h ∷ [], took, refl, out, report)))
+    subst P (sym rest.input_is) (subst Q (sym differs) (refl, refl, (h ∷ [], took, refl, out, report)))

@@ -14,7 +14,7 @@ use Rattle.run_loop.specs.declared.work.Round.{Round}
 use Rattle.run_loop.specs.declared.work.Stop.{Stop}
 use Rattle.run_loop.specs.declared.work.Stop.TheVariants.{Go, End, Bad, Fault, NoMemory}
 use Rattle.run_loop.proofs.Alone.{step_alone}
-use Rattle.run_loop.proofs.Told.{told_rest, told_end}
+use Rattle.edge_io.proofs.Told.{told_rest, told_all}
 use Rattle.loop_example.specs.Pairs.{copied, ending, pairs}
 use Rattle.loop_example.specs.Making.{copies, MakesGoing, MakesEnd}
 
@@ -63,17 +63,17 @@ within_last (suc more) (a ∷ []) some short = (omega arith, λ none. cc)
 within_last (suc more) (a ∷ b ∷ bytes) some short = absurd (omega (arith, short))
 
 pub step_of_none : (more : ℕ) (input : List ℕ) (after : List ℕ → Answer) (fits : List ℕ → Type 0) (old : Option (List ℕ)) (round : Round) →
-    round.blocks.items ≡ [] → round.stop ≡ Bad 8 2000 → more ≡ 0 → Steps 2 (pairs more input) after fits old old round
+    round.blocks.items ≡ [] → round.stop ≡ Bad 8 2001 → more ≡ 0 → Steps 2 (pairs more input) after fits old old round
 step_of_none more input after fits old round none is zero_more =
     let P : ℕ → Type 0 = λ m. Steps 2 (pairs m input) after fits old old round in
-    subst P (sym zero_more) (step_alone 2 (refusal 8 2000 0 0) after fits old old round (Bad 8 2000) none is ([], takes_none old, refl, refl, refl))
+    subst P (sym zero_more) (step_alone 2 (refusal 8 2001 0 0) after fits old old round (Bad 8 2001) none is ([], takes_none old, refl, refl, refl))
 
 pub step_of_fault : (more : ℕ) (input bytes : List ℕ) (after : List ℕ → Answer) (fits : List ℕ → Type 0) (old new : Option (List ℕ)) (round : Round) →
     round.blocks.items ≡ [] → round.stop ≡ Fault → 0 < more → length bytes < 2 → Takes old new bytes → old ≡ Some input → Steps 2 (pairs more input) after fits old new round
 step_of_fault more input bytes after fits old new round none is some short took told =
     let rest = told_rest old new bytes input took told in
     step_alone 2 (pairs more input) after fits old new round Fault none is
-    (bytes, took, due_in_pair more (length bytes) input some short (omega (arith, ap length rest.2, length-append bytes rest.0)))
+    (bytes, took, due_in_pair more (length bytes) input some short (omega (arith, ap length rest.input_is, length-append bytes rest.left)))
 
 -- a round, of its blocks and its stop
 abbrev Rounds : Answer → (List ℕ → Answer) → (List ℕ → Type 0) → Option (List ℕ) → Option (List ℕ) → List Block → Stop → Type 0
@@ -111,7 +111,7 @@ pub step_of_going : (more : ℕ) (input bytes : List ℕ) (old new : Option (Lis
 step_of_going more input bytes old new round is some two took told =
     let rest = told_rest old new bytes input took told in
     let P : List ℕ → Type 0 = λ i. Rounds (pairs more i) (λ j. pairs (more - 1) j) (λ _. Unit {0}) old new round.blocks.items round.stop in
-    subst P (sym rest.2) (going_at more bytes rest.0 old new round.blocks.items round.stop is some two took rest.1)
+    subst P (sym rest.input_is) (going_at more bytes rest.left old new round.blocks.items round.stop is some two took rest.new_is)
 
 last_at : (more : ℕ) (bytes : List ℕ) (after : List ℕ → Answer) (fits : List ℕ → Type 0) (old new : Option (List ℕ)) (blocks : List Block) (stop : Stop) →
     MakesEnd bytes blocks stop → 0 < more → length bytes < 2 → Takes old new bytes → new ≡ Some [] → Rounds (pairs more bytes) after fits old new blocks stop
@@ -141,6 +141,6 @@ pub step_of_last : (more : ℕ) (input bytes : List ℕ) (after : List ℕ → A
     MakesEnd bytes round.blocks.items round.stop → 0 < more → length bytes < 2 → Takes old new bytes → IsAtEnd new → old ≡ Some input →
     Steps 2 (pairs more input) after fits old new round
 step_of_last more input bytes after fits old new round is some short took ended told =
-    let end = told_end old new bytes input took ended told in
+    let end = told_all old new bytes input took ended told in
     let P : List ℕ → Type 0 = λ i. Rounds (pairs more i) after fits old new round.blocks.items round.stop in
-    subst P (sym end.1) (last_at more bytes after fits old new round.blocks.items round.stop is some short took end.0)
+    subst P (sym end.input_is) (last_at more bytes after fits old new round.blocks.items round.stop is some short took end.new_is)

@@ -101,7 +101,7 @@ impl Work for Pairs {
                 alloc,
                 Stop::Bad {
                     number: 8,
-                    place: 2000,
+                    place: 2001,
                 },
             );
         }

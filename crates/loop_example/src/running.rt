@@ -9,7 +9,9 @@ use edge_io::{ReadStop, Sink, Source, read_exactly};
 use run_loop::{Status, drive};
 use std::alloc::Global;
 
-/// Copies bytes behind a header.
+/// Copies the bytes behind a header, a 7, to `out`, and closes with a 0. It answers `BadStream` 1 at
+/// byte 0 where the header is another byte, 6 at byte 0 where there is none, and 8 at byte 2001
+/// behind 1,000 pairs.
 pub fn copy_pairs<S: Source, D: Sink, R: Sink>(
     alloc: Global,
     source: &mut S,

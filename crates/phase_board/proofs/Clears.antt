@@ -1,7 +1,6 @@
 -- The seat that turns resets the mask.
-use Rattle.std.proofs.Common.{◌≡◌, ◌≢◌, ℕ, ◌+◌, ◌*◌, ◌^◌, ◌<◌, List, [], ◌∷◌, set, sym, subst, refl, ap, ◌∙◌, arith, Some}
-use mathlib.Core.Option.{some, none}
-use lib.ListN.{get_elem?}
+use Rattle.std.proofs.Common.{◌≡◌, ℕ, ◌*◌, List, set, sym, subst, refl, ap, ◌∙◌, arith, Some}
+use mathlib.Core.Option.{none}
 use Rattle.std.proofs.Math.Pow.{pow_pos}
 use Rattle.atomic_table.specs.Table.{Me, step, keeps, Allows}
 use Rattle.phase_board.specs.declared.view.View.{View}

@@ -1,16 +1,14 @@
 -- A seat is cut in two, and two are made one.
-use Rattle.std.proofs.Common.{◌≡◌, ◌≢◌, ℕ, ◌+◌, ◌*◌, ◌%◌, ◌^◌, ◌≤◌, List, [], ◌∷◌, ◌++◌, set, sym, subst, refl, ap, ◌∙◌, ⊎_elim, arith, Some}
+use Rattle.std.proofs.Common.{◌≡◌, ℕ, ◌+◌, ◌≤◌, List, [], ◌∷◌, ◌++◌, set, sym, subst, refl, ap, ◌∙◌, ⊎_elim, arith, Some}
 use mathlib.Core.Option.{some}
 use lib.ListN.{get_elem?}
 use Rattle.atomic_table.specs.Table.{Splits, Joins}
 use Rattle.atomic_table.proofs.Lists.{at_snoc, at_longer, set_again, set_else}
 use Rattle.phase_board.specs.declared.view.View.{View}
-use Rattle.phase_board.specs.declared.view.Slot.{Slot}
-use Rattle.phase_board.specs.declared.view.Stage.{Stage}
 use Rattle.phase_board.specs.declared.view.Stage.TheVariants.{Idle}
 use Rattle.phase_board.specs.ClaimWord.{drawn_of, next_number, NotNewer}
 use Rattle.phase_board.specs.Numbers.{times, total}
-use Rattle.phase_board.specs.Lawful.{spent_view, IsAt, HasJob, Knows, Seated}
+use Rattle.phase_board.specs.Lawful.{spent_view, HasJob, Knows, Seated}
 use Rattle.phase_board.specs.Steps.{twin, merged}
 use Rattle.phase_board.proofs.Totals.{total_set, total_snoc, times_append}
 use Rattle.phase_board.proofs.Views.{set_each, at_kept, not_idle}

@@ -1,7 +1,6 @@
 -- The exchange of a claim keeps the rule, whatever word it finds.
-use Rattle.std.proofs.Common.{◌≡◌, ◌≢◌, ℕ, ◌+◌, ◌%◌, ◌^◌, ◌<◌, [], slice_index, eqb, sym, subst, refl, ap, ◌∙◌, arith, Some}
-use mathlib.Core.Option.{some, none}
-use lib.ListN.{get_elem?}
+use Rattle.std.proofs.Common.{◌≡◌, ◌≢◌, ℕ, ◌+◌, ◌^◌, ◌<◌, [], slice_index, eqb, sym, subst, refl, ap, ◌∙◌, arith, Some}
+use mathlib.Core.Option.{none}
 use prog.Atomic.{either}
 use Rattle.atomic_table.specs.Table.{Me, Act, step, keeps, Allows, Valid, carried_after, stepped}
 use Rattle.atomic_table.proofs.Lists.{exchanged}

@@ -1,5 +1,5 @@
 -- A step that marks a window done keeps the rule. The last one takes all slots.
-use Rattle.std.proofs.Common.{◌≡◌, ◌≢◌, ℕ, suc, ◌+◌, ◌-◌, ◌*◌, ◌^◌, ◌<◌, ◌≤◌, List, [], ◌∷◌, ◌++◌, map, Bool, length, slice_index, set, sym, subst, refl, ap, ◌∙◌, arith, Some, length-set, append-nil}
+use Rattle.std.proofs.Common.{◌≡◌, ◌≢◌, ℕ, suc, ◌+◌, ◌-◌, ◌^◌, ◌<◌, List, [], ◌∷◌, map, length, slice_index, set, sym, subst, refl, ap, ◌∙◌, arith, Some, length-set, append-nil}
 use Rattle.std.proofs.lemmas.List.{length-map}
 use mathlib.Core.Option.{some, none}
 use mathlib.Core.Option as maybe
@@ -13,21 +13,19 @@ use Rattle.atomic_table.proofs.Lists.{set_here, set_else}
 use Rattle.phase_board.specs.declared.view.View.{View}
 use Rattle.phase_board.specs.declared.view.Slot.{Slot}
 use Rattle.phase_board.specs.declared.view.Slot.TheVariants.{Piece, Common}
-use Rattle.phase_board.specs.declared.view.Stage.TheVariants.{Idle, Working, Turning}
-use Rattle.phase_board.specs.ClaimWord.{half_of, drawn_of, next_number, word_of, NotNewer}
-use Rattle.phase_board.specs.Numbers.{times, total, once_below}
+use Rattle.phase_board.specs.declared.view.Stage.TheVariants.{Working, Turning}
+use Rattle.phase_board.specs.ClaimWord.{half_of}
 use Rattle.phase_board.specs.Slots.{numbered}
-use Rattle.phase_board.specs.Lawful.{Where, out, home, Phase, running, turning, Stands, InPhase, InHands, IsAt, HasJob, Knows, Seated, done_once}
+use Rattle.phase_board.specs.Lawful.{Where, out, home, running, turning, Stands, InPhase, InHands, IsAt, Knows}
 use Rattle.phase_board.specs.Steps.{IsFor, after_finish, finished}
 use Rattle.phase_board.proofs.Acts.{take_from, carried, emptied, valid, nones}
 use Rattle.phase_board.proofs.Homes.{all_home, nones_at}
-use Rattle.phase_board.proofs.Dones.{by_mask, marked}
-use Rattle.phase_board.proofs.Totals.{total_set, times_append}
 use Rattle.phase_board.proofs.Masks.{or_same, or_other, or_small, zero_there}
 use Rattle.phase_board.proofs.Moves.{moved_to, moved_case, up_ne}
 use Rattle.phase_board.proofs.Stays.{stands, is_home, work_on, none_works}
-use Rattle.phase_board.proofs.Views.{set_each, at_here, at_kept}
-use Rattle.phase_board.proofs.Rule.{St, Law, claim}
+use Rattle.phase_board.proofs.Views.{at_here, at_kept}
+use Rattle.phase_board.proofs.Marks.{step_to}
+use Rattle.phase_board.proofs.Rule.{St, Law}
 
 plus_one : (a b : ℕ) → a ≡ b → suc a ≡ b + 1
 plus_one a b e = omega arith
@@ -97,51 +95,6 @@ module _ {J P C : Type 0} (windows : J → ℕ) (ready done : J → ℕ → ℕ 
     did' : done job r.half t p
     did' = subst (λ (z : ℕ). done job z t p) kn.2 did
 
-    seated : (w : V) (ph : Phase) (pl : ℕ → Where) → w.found ≡ v.found → w.loaded ≡ v.loaded → w.drawn ≡ v.drawn → w.job ≡ Some job → Knows windows job r.half pl ph id w w.stage → Seated windows job (claim windows ready done common ended job s r) r.half pl ph id w
-    seated w ph pl f l d j know = let old = r.each_seat id v at in
-        record {
-          found_is = subst (λ (z : ℕ). NotNewer z (claim windows ready done common ended job s r)) (sym f) old.found_is;
-          found_drawn = subst (λ (z : ℕ). drawn_of z ≤ m) (sym f) old.found_drawn;
-          loaded_is = subst (λ (z : ℕ × ℕ). NotNewer z.0 z.1) (λ i. (sym l i, sym f i)) old.loaded_is;
-          loaded_drawn = subst (λ (z : ℕ). drawn_of z ≤ m) (sym l) old.loaded_drawn;
-          below = subst (λ (z : ℕ × List ℕ). (x : ℕ) → next_number m z.0 ≤ x → times x z.1 ≡ 0) (λ i. (sym f i, sym d i)) old.below;
-          job_is = subst (HasJob job w) (sym j) refl;
-          knows = know;
-        }
-
-    -- what the step makes of the rule, for the view and the phase that follow
-    step_to : (w : V) (ph : Phase) (pl : ℕ → Where) (homes : List (maybe.Option S)) → w.found ≡ v.found → w.loaded ≡ v.loaded → w.drawn ≡ v.drawn → w.done ≡ after.done → w.job ≡ Some job → length homes ≡ m + 1
-        → ((x : ℕ) → done_once m r.half mask' ph x ≡ by_mask (r.half * m) mask' x) → InPhase windows ready done common ended job homes r.half r.n mask' r.stop pl ph → InHands (set s.views id w) m pl ph
-        → Knows windows job r.half pl ph id w w.stage → ((j : ℕ) (u : V) → j ≢ id → Knows windows job r.half r.at r.phase j u u.stage → Knows windows job r.half pl ph j u u.stage)
-        → L record { words = set s.words 1 mask'; homes = homes; views = set s.views id w }
-    step_to w ph pl homes f l d e j long by_it phase_is hands know others =
-        record {
-          half = r.half;
-          n = r.n;
-          stop = r.stop;
-          mask = mask';
-          at = pl;
-          phase = ph;
-          words = ap (λ (l : List ℕ). set l 1 mask') r.words;
-          mask_small = low;
-          small = r.small;
-          most = r.most;
-          size = r.size;
-          slots = long;
-          draws = λ x. let q = total_set (λ (u : V). times x u.drawn) s.views id v w at in let o = r.draws x in let g : times x w.drawn ≡ times x v.drawn = ap (times x) d in omega arith;
-          dones = λ x.
-              let q = total_set (λ (u : V). times x u.done) s.views id v w at in
-              let o : total (λ (u : V). times x u.done) s.views ≡ by_mask (r.half * m) r.mask x = r.dones x ∙ ap (λ (z : Phase). done_once m r.half r.mask z x) kn.0 in
-              let g : times x w.done ≡ times x v.done + times x ((r.half * m + t) ∷ []) = ap (times x) e ∙ times_append x v.done ((half_of v.loaded * m + t) ∷ []) ∙ ap (λ (z : ℕ). times x v.done + times x ((z * m + t) ∷ [])) kn.2 in
-              let b : by_mask (r.half * m) mask' x ≡ by_mask (r.half * m) r.mask x + times x ((r.half * m + t) ∷ []) = ap (λ (z : ℕ). by_mask (r.half * m) z x) mask_is ∙ marked (r.half * m) r.mask t x mine_out.1 in
-              (let sum : total (λ (u : V). times x u.done) (set s.views id w) ≡ by_mask (r.half * m) mask' x = omega arith in sum) ∙ sym (by_it x);
-          in_phase = phase_is;
-          in_hands = hands;
-          each_seat = set_each (Seated windows job (claim windows ready done common ended job s r) r.half pl ph) s.views id w (seated w ph pl f l d j know)
-              (λ i u ne q. let old = r.each_seat i u q in
-              record { found_is = old.found_is; found_drawn = old.found_drawn; loaded_is = old.loaded_is; loaded_drawn = old.loaded_drawn; below = old.below; job_is = old.job_is; knows = others i u ne old.knows });
-        }
-
     given : mask' ≢ 2 ^ m - 1 → Gone s id (v, (suc t, Piece p) ∷ []) Finished mask'
     given ne =
         let at' : ℕ → Where = moved_to r.at t home in
@@ -151,7 +104,7 @@ module _ {J P C : Type 0} (windows : J → ℕ) (ready done : J → ℕ → ℕ 
           after,
           gives,
           tt,
-          step_to after running at' homes' refl refl refl refl is (length-set s.homes (suc t) (some (Piece p)) ∙ r.slots) (λ x. refl) (
+          step_to windows ready done common ended job s r id v at t mask' kn.0 kn.2 low mask_is mine_out.1 after running at' homes' refl refl refl refl is (length-set s.homes (suc t) (some (Piece p)) ∙ r.slots) (λ x. refl) (
             runs.0,
             λ i l. moved_case r.at t home (Stands (ready job r.half) (done job r.half) homes' r.n mask' i) i
                 (λ e. subst (λ (z : ℕ). Stands (ready job r.half) (done job r.half) homes' r.n mask' z home) (sym e) here)
@@ -190,7 +143,7 @@ module _ {J P C : Type 0} (windows : J → ℕ) (ready done : J → ℕ → ℕ 
           w,
           chain gives (take_from 0 xs),
           (tt, subst (λ (h : List (maybe.Option S)). Valid h [] (take_from 0 xs)) (sym got.3) (valid [] 0 xs [] refl)),
-          step_to w (turning id) r.at (homes_after homes' [] (take_from 0 xs)) refl refl refl refl is (ap length left ∙ (length-map xs _ ∙ size)) (λ x. refl)
+          step_to windows ready done common ended job s r id v at t mask' kn.0 kn.2 low mask_is mine_out.1 w (turning id) r.at (homes_after homes' [] (take_from 0 xs)) refl refl refl refl is (ap length left ∙ (length-map xs _ ∙ size)) (λ x. refl)
               (runs.0, full, all, λ i l. ap (λ (h : List (maybe.Option S)). get_elem? h i) left ∙ nones_at xs i (omega arith)) (at_here s.views id v w Turning at refl) (refl, kn.2)
               (λ j u d q. none_works windows job r.half id t r.at r.phase kn.0 kn.1 none_out j u u.stage d q),
           subst (IsFor _) (sym is) (

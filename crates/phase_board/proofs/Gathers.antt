@@ -1,13 +1,11 @@
 -- The pieces come out of the slots that a seat has, one after another.
-use Rattle.std.proofs.Common.{◌≡◌, ℕ, zero, suc, ◌+◌, ◌<◌, ◌≤◌, List, [], ◌∷◌, ◌++◌, map, length, take, drop, replicate, sym, subst, refl, ap, ◌∙◌, arith, append_assoc}
-use Rattle.std.specs.Prelude.{Vec}
-use Rattle.std.specs.declared.alloc.Global.{Global}
+use Rattle.std.proofs.Common.{◌≡◌, ℕ, zero, suc, ◌+◌, ◌<◌, List, [], ◌∷◌, ◌++◌, map, length, take, drop, replicate, sym, refl, ap, ◌∙◌, arith, append_assoc}
 use mathlib.Core.Option.{some}
 use lib.ListN.{get_elem?}
 use Rattle.atomic_table.specs.Table.{rest}
 use Rattle.phase_board.specs.declared.view.Slot.{Slot}
 use Rattle.phase_board.specs.declared.view.Slot.TheVariants.{Empty, Piece, Common}
-use Rattle.phase_board.specs.Slots.{numbered, emptied}
+use Rattle.phase_board.specs.Slots.{numbered}
 
 pub next_left : {P : Type 0} (ps : List P) (i : ℕ) → i < length ps → (p : P) × (get_elem? ps i ≡ some p) × (drop i ps ≡ p ∷ drop (suc i) ps) × (take (suc i) ps ≡ take i ps ++ p ∷ [])
 next_left [] i l = absurd (omega arith)

@@ -11,6 +11,7 @@ pub mod Gathers
 pub mod Homes
 pub mod Laid
 pub mod Looks
+pub mod Marks
 pub mod Masks
 pub mod Moves
 pub mod Newer

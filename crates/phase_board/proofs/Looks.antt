@@ -1,5 +1,5 @@
 -- A look keeps the rule, and so does an exchange that found another word.
-use Rattle.std.proofs.Common.{◌≡◌, ◌≢◌, ℕ, ◌+◌, ◌*◌, ◌%◌, ◌^◌, ◌<◌, ◌≤◌, List, [], ◌∷◌, slice_index, set, sym, subst, refl, ap, ◌∙◌, arith, Some}
+use Rattle.std.proofs.Common.{◌≡◌, ℕ, ◌≤◌, List, slice_index, set, sym, subst, refl, ap, ◌∙◌, arith, Some}
 use mathlib.Core.Option.{some, none}
 use lib.ListN.{get_elem?}
 use Rattle.atomic_table.specs.Table.{Me, step, keeps, Allows}
@@ -7,7 +7,7 @@ use Rattle.phase_board.specs.declared.view.View.{View}
 use Rattle.phase_board.specs.declared.view.Slot.{Slot}
 use Rattle.phase_board.specs.declared.view.Stage.TheVariants.{Idle}
 use Rattle.phase_board.specs.ClaimWord.{half_of, drawn_of, next_number, NotNewer}
-use Rattle.phase_board.specs.Numbers.{times, total}
+use Rattle.phase_board.specs.Numbers.{times}
 use Rattle.phase_board.specs.Lawful.{Knows, Seated, HasJob}
 use Rattle.phase_board.specs.Steps.{IsFor, DrawnOnce, after_look, looked}
 use Rattle.phase_board.proofs.Totals.{total_set}

@@ -1,5 +1,5 @@
 -- Of two words that are not newer than a third, the greater is the newer.
-use Rattle.std.proofs.Common.{◌≡◌, ℕ, max, ◌%◌, ◌^◌, ◌<◌, ◌≤◌, sym, refl, subst, ap, ◌∙◌, arith}
+use Rattle.std.proofs.Common.{◌≡◌, ℕ, max, ◌%◌, ◌^◌, ◌≤◌, sym, refl, subst, ap, ◌∙◌, arith}
 use native.Mathlib.Decide.{dec_le}
 use Rattle.phase_board.specs.ClaimWord.{NotNewer}
 

@@ -1,5 +1,5 @@
 -- The rule holds of a new board.
-use Rattle.std.proofs.Common.{◌≡◌, ◌≢◌, ℕ, zero, suc, ◌+◌, ◌*◌, ◌^◌, ◌<◌, ◌≤◌, List, [], ◌∷◌, map, length, get_or, Bool, false, sym, subst, refl, ap, ◌∙◌, arith, Some}
+use Rattle.std.proofs.Common.{◌≡◌, ℕ, zero, suc, ◌+◌, ◌*◌, List, [], ◌∷◌, map, length, get_or, false, sym, subst, refl, ◌∙◌, arith}
 use Rattle.std.specs.Prelude.{Vec, IsSomeAnd}
 use Rattle.std.specs.declared.alloc.Global.{Global}
 use Rattle.std.proofs.lemmas.List.{length-map}
@@ -12,12 +12,12 @@ use Rattle.atomic_table.proofs.Lists.{at_map}
 use Rattle.phase_board.specs.declared.view.View.{View}
 use Rattle.phase_board.specs.declared.view.Slot.{Slot}
 use Rattle.phase_board.specs.declared.view.Slot.TheVariants.{Piece, Common}
-use Rattle.phase_board.specs.Slots.{HasRoom, AllPieces}
-use Rattle.phase_board.specs.Lawful.{Where, waits, running, opening_view, Seated}
+use Rattle.phase_board.specs.Slots.{HasRoom}
+use Rattle.phase_board.specs.Lawful.{waits, running, opening_view, Seated}
 use Rattle.phase_board.specs.Openings.{job_of, Opens}
 use Rattle.phase_board.proofs.Dones.{none_marked, beyond_is}
 use Rattle.phase_board.proofs.Turns.{there}
-use Rattle.phase_board.proofs.Rule.{St, Law}
+use Rattle.phase_board.proofs.Rule.{Law}
 
 one_more : (a b : ℕ) → a ≡ b → suc a ≡ b + 1
 one_more a b e = omega arith

@@ -1,5 +1,5 @@
 -- A seat that turns or stops changes the claim word to a later one, and all slots come home.
-use Rattle.std.proofs.Common.{◌≡◌, ◌≢◌, ℕ, ◌+◌, ◌*◌, ◌/◌, ◌%◌, ◌^◌, ◌<◌, ◌≤◌, List, [], ◌∷◌, Bool, false, length, set, sym, subst, refl, ap, ◌∙◌, arith, Some}
+use Rattle.std.proofs.Common.{◌≡◌, ◌≢◌, ℕ, ◌+◌, ◌*◌, ◌%◌, ◌^◌, ◌<◌, ◌≤◌, List, [], ◌∷◌, Bool, false, length, set, sym, subst, refl, ap, ◌∙◌, arith, Some}
 use mathlib.Core.Option.{some}
 use mathlib.Core.Option as maybe
 use lib.ListN.{get_elem?}
@@ -7,7 +7,7 @@ use Rattle.phase_board.specs.declared.view.View.{View}
 use Rattle.phase_board.specs.declared.view.Slot.{Slot}
 use Rattle.phase_board.specs.declared.view.Stage.{Stage}
 use Rattle.phase_board.specs.declared.view.Stage.TheVariants.{Idle, Working, Turning, Reset}
-use Rattle.phase_board.specs.ClaimWord.{half_of, drawn_of, next_number, word_of, NotNewer}
+use Rattle.phase_board.specs.ClaimWord.{drawn_of, word_of, NotNewer}
 use Rattle.phase_board.specs.Numbers.{times, total, once_below}
 use Rattle.phase_board.specs.Lawful.{Where, Phase, running, turning, resetting, InPhase, InHands, HasJob, Knows, Seated, done_once}
 use Rattle.phase_board.proofs.Totals.{total_set}

@@ -1,5 +1,5 @@
 -- The seat that turns gives all slots back, and the next half begins.
-use Rattle.std.proofs.Common.{◌≡◌, ◌≢◌, ℕ, zero, suc, ◌+◌, ◌*◌, ◌/◌, ◌%◌, ◌^◌, ◌<◌, ◌≤◌, List, [], ◌∷◌, map, replicate, Bool, false, true, length, set, sym, subst, refl, ap, ◌∙◌, arith, Some}
+use Rattle.std.proofs.Common.{◌≡◌, ℕ, zero, suc, ◌+◌, ◌*◌, ◌%◌, ◌^◌, ◌<◌, ◌≤◌, List, [], ◌∷◌, map, false, length, sym, subst, refl, ap, ◌∙◌, arith, Some}
 use Rattle.std.specs.Prelude.{Vec}
 use Rattle.std.specs.declared.alloc.Global.{Global}
 use Rattle.std.proofs.lemmas.List.{length-map}
@@ -15,9 +15,8 @@ use Rattle.phase_board.specs.declared.view.Slot.{Slot}
 use Rattle.phase_board.specs.declared.view.Slot.TheVariants.{Piece, Common}
 use Rattle.phase_board.specs.declared.view.Stage.TheVariants.{Idle, Reset}
 use Rattle.phase_board.specs.ClaimWord.{half_of, word_of}
-use Rattle.phase_board.specs.Numbers.{once_below}
 use Rattle.phase_board.specs.Slots.{numbered, HasRoom, AllPieces}
-use Rattle.phase_board.specs.Lawful.{Where, waits, out, Phase, running, turning, resetting, InPhase, Knows, done_once}
+use Rattle.phase_board.specs.Lawful.{waits, Phase, running, turning, resetting, InPhase, Knows, done_once}
 use Rattle.phase_board.specs.Steps.{IsFor, settled}
 use Rattle.phase_board.proofs.Acts.{give_all, none_left, given_valid, filled}
 use Rattle.phase_board.proofs.Dones.{none_marked, next_half}

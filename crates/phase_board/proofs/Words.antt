@@ -1,5 +1,5 @@
 -- What a claim word says.
-use Rattle.std.proofs.Common.{◌≡◌, ◌≢◌, ℕ, zero, suc, ◌+◌, ◌*◌, ◌/◌, ◌%◌, ◌^◌, ◌<◌, ◌≤◌, ◌⊎◌, Bool, true, false, if◌then◌else◌, sym, refl, subst, ap, ◌∙◌, inl, inr, ⊎_elim, mul-le-mul_right, lt_of_not-le, suc-mul, arith}
+use Rattle.std.proofs.Common.{◌≡◌, ℕ, suc, ◌+◌, ◌*◌, ◌%◌, ◌^◌, ◌<◌, ◌≤◌, Bool, true, false, refl, subst, ap, ◌∙◌, mul-le-mul_right, lt_of_not-le, suc-mul, arith}
 use native.Mathlib.Decide.{dec_le}
 use Rattle.phase_board.specs.ClaimWord.{half_of, drawn_of, next_number, word_of, NotNewer}
 

@@ -1,4 +1,5 @@
--- The claim word: the half times 256, and how many of its windows were drawn. Bit 63 is set once the board is stopped.
+-- The claim word: the half times 256, and how many of its windows were drawn. Bit 63 is set once the board is
+-- stopped.
 use Rattle.std.specs.Prelude.{◌≡◌, ℕ, ◌+◌, ◌*◌, ◌/◌, ◌%◌, ◌<◌, ◌≤◌, ◌^◌, Bool, if◌then◌else◌}
 
 abbrev pub word_of : Bool → ℕ → ℕ → ℕ
@@ -20,6 +21,7 @@ drawn_of w = w % 256
 abbrev pub next_number : ℕ → ℕ → ℕ
 next_number windows w = half_of w * windows + drawn_of w
 
--- a isn't newer than b: its half, and then its number drawn, is at most as great, and no word follows one that says stopped
+-- a isn't newer than b: its half, and then its number drawn, is at most as great, and no word follows one
+-- that says stopped
 abbrev pub NotNewer : ℕ → ℕ → Type 0
 NotNewer a b = (a % 2 ^ 63 ≤ b % 2 ^ 63) × (IsStopped a → a ≡ b)

@@ -1,8 +1,7 @@
 -- What a finish answers, and what the seat that turns is owed.
-use Rattle.std.specs.Prelude.{◌≡◌, ℕ, ◌+◌, ◌∷◌, [], List}
+use Rattle.std.specs.Prelude.{◌≡◌, ℕ}
 use Rattle.phase_board.specs.declared.board.Board.{Board}
 use Rattle.phase_board.specs.declared.seats.Working.{Working}
-use Rattle.phase_board.specs.declared.seats.Turning.{Turning}
 use Rattle.phase_board.specs.declared.seats.Finish.{Finish}
 use Rattle.phase_board.specs.declared.seats.Finish.TheVariants.{Given, Last}
 use Rattle.phase_board.specs.declared.view.Stage.TheVariants.{Turning as Turns}
@@ -17,8 +16,16 @@ module _ {P C J : Type 0} {G : Ghosts P C J} where
   IsFinishOf b (Given s) = IsIdleOf b s
   IsFinishOf b (Last s) = IsTurningOf b s
 
+  -- the seat's view after its window was marked in the mask
+  abbrev pub finished_view : J → Working P C J G → ℕ → View J
+  finished_view job w mask = after_finish (G.windows job) w.window mask (working_view w)
+
   -- the mask that the finish found is the one in the seat's view
   abbrev pub FinishIs : J → Working P C J G → Finish P C J G → Type 0
-  FinishIs job w (Given s) = (idle_view s ≡ after_finish (G.windows job) w.window (idle_view s).mask (working_view w)) × LacksAnother (G.windows job) w.window (idle_view s).mask
-  FinishIs job w (Last s) = (turning_view s ≡ record (after_finish (G.windows job) w.window (turning_view s).mask (working_view w)) { stage = Turns }) × HasOthers (G.windows job) w.window (turning_view s).mask
-      × (s.half ≡ w.half) × AllPieces (G.windows job) (G.done job s.half) s.pieces.items × G.common job s.half s.common
+  FinishIs job w (Given s) = (idle_view s ≡ finished_view job w (idle_view s).mask)
+      × LacksAnother (G.windows job) w.window (idle_view s).mask
+  FinishIs job w (Last s) = (turning_view s
+      ≡ record (finished_view job w (turning_view s).mask) { stage = Turns })
+      × HasOthers (G.windows job) w.window (turning_view s).mask
+      × (s.half ≡ w.half) × AllPieces (G.windows job) (G.done job s.half) s.pieces.items
+      × G.common job s.half s.common

@@ -31,11 +31,29 @@ pub data Phase : Type 0 where
 module _ {J : Type 0} where
   -- the first seat's view
   abbrev pub opening_view : J → View J
-  opening_view j = record { job = Some j; stage = Idle; drawn = []; done = []; loaded = 0; found = 0; looks = 0; mask = 0 }
+  opening_view j = record {
+    job = Some j;
+    stage = Idle;
+    drawn = [];
+    done = [];
+    loaded = 0;
+    found = 0;
+    looks = 0;
+    mask = 0;
+  }
 
   -- what a seat is left with that another took in
   abbrev pub spent_view : View J
-  spent_view = record { job = None; stage = Idle; drawn = []; done = []; loaded = 0; found = 0; looks = 0; mask = 0 }
+  spent_view = record {
+    job = None;
+    stage = Idle;
+    drawn = [];
+    done = [];
+    loaded = 0;
+    found = 0;
+    looks = 0;
+    mask = 0;
+  }
 
   -- each view that isn't spent has the job
   abbrev pub HasJob : J → View J → Option J → Type 0
@@ -52,21 +70,29 @@ module _ {J : Type 0} where
   InHands views windows at (resetting j) = IsAt views j Reset
   InHands views windows at stopped = Unit {0}
 
--- how often a number stands in all done lists: those below half * windows once, and half * windows + t once where window t is done
+-- how often a number stands in all done lists: those below half * windows once, and half * windows + t once
+-- where window t is done
 abbrev pub done_once : ℕ → ℕ → ℕ → Phase → ℕ → ℕ
-done_once windows half mask running x = if ltb x (half * windows) then 1 else bit_at mask (x - half * windows)
-done_once windows half mask (turning j) x = if ltb x (half * windows) then 1 else bit_at mask (x - half * windows)
+done_once windows half mask running x =
+    if ltb x (half * windows) then 1 else bit_at mask (x - half * windows)
+done_once windows half mask (turning j) x =
+    if ltb x (half * windows) then 1 else bit_at mask (x - half * windows)
 done_once windows half mask (resetting j) x = once_below x ((half + 1) * windows)
-done_once windows half mask stopped x = if ltb x (half * windows) then 1 else bit_at mask (x - half * windows)
+done_once windows half mask stopped x =
+    if ltb x (half * windows) then 1 else bit_at mask (x - half * windows)
 
 -- where the piece of window t stands, and what it is
-module _ {P C : Type 0} (ready done : ℕ → P → Type 0) (homes : List (maybe.Option (Slot P C))) (n mask t : ℕ) where
+module _ {P C : Type 0} (ready done : ℕ → P → Type 0) (homes : List (maybe.Option (Slot P C)))
+    (n mask t : ℕ) where
   abbrev pub Stands : Where → Type 0
-  Stands waits = (n ≤ t) × (bit_at mask t ≡ 0) × ((p : P) × (get_elem? homes (suc t) ≡ some (some (Piece p))) × ready t p)
+  Stands waits = (n ≤ t) × (bit_at mask t ≡ 0)
+      × ((p : P) × (get_elem? homes (suc t) ≡ some (some (Piece p))) × ready t p)
   Stands (out j) = (t < n) × (bit_at mask t ≡ 0) × (get_elem? homes (suc t) ≡ some none)
-  Stands home = (t < n) × (bit_at mask t ≡ 1) × ((p : P) × (get_elem? homes (suc t) ≡ some (some (Piece p))) × done t p)
+  Stands home = (t < n) × (bit_at mask t ≡ 1)
+      × ((p : P) × (get_elem? homes (suc t) ≡ some (some (Piece p))) × done t p)
 
-module _ {J P C : Type 0} (windows : J → ℕ) (ready done : J → ℕ → ℕ → P → Type 0) (common ended : J → ℕ → C → Type 0) (job : J) (homes : List (maybe.Option (Slot P C))) where
+module _ {J P C : Type 0} (windows : J → ℕ) (ready done : J → ℕ → ℕ → P → Type 0)
+    (common ended : J → ℕ → C → Type 0) (job : J) (homes : List (maybe.Option (Slot P C))) where
   abbrev pub IsHome : (C → Vec P Global → Type 0) → Type 0
   IsHome F = (c : C) × (room : Vec P Global) × (get_elem? homes 0 ≡ some (some (Common c room))) × F c room
 
@@ -77,18 +103,22 @@ module _ {J P C : Type 0} (windows : J → ℕ) (ready done : J → ℕ → ℕ 
   AllMarked mask = (t : ℕ) → t < windows job → bit_at mask t ≡ 1
 
   abbrev pub InPhase : ℕ → ℕ → ℕ → Bool → (ℕ → Where) → Phase → Type 0
-  InPhase half n mask stop at running = (stop ≡ false) × ((t : ℕ) → t < windows job → Stands (ready job half) (done job half) homes n mask t (at t)) × ((t : ℕ) × (t < windows job) × (bit_at mask t ≡ 0))
+  InPhase half n mask stop at running = (stop ≡ false)
+      × ((t : ℕ) → t < windows job → Stands (ready job half) (done job half) homes n mask t (at t))
+      × ((t : ℕ) × (t < windows job) × (bit_at mask t ≡ 0))
       × IsHome (λ c room. common job half c × HasRoom (windows job) room)
   InPhase half n mask stop at (turning j) = (stop ≡ false) × (n ≡ windows job) × AllMarked mask × AllSlotsOut
   InPhase half n mask stop at (resetting j) = (stop ≡ false) × (n ≡ windows job) × (mask ≡ 0) × AllSlotsOut
-  InPhase half n mask stop at stopped = (stop ≡ true) × (n ≡ windows job) × AllMarked mask × ((t : ℕ) → t < windows job → get_elem? homes (suc t) ≡ some (some Empty))
+  InPhase half n mask stop at stopped = (stop ≡ true) × (n ≡ windows job) × AllMarked mask
+      × ((t : ℕ) → t < windows job → get_elem? homes (suc t) ≡ some (some Empty))
       × IsHome (λ c room. ended job half c × (room.items ≡ []))
 
 module _ {J : Type 0} (windows : J → ℕ) (job : J) where
   -- what the seat j knows by its stage
   abbrev pub Knows : ℕ → (ℕ → Where) → Phase → ℕ → View J → Stage → Type 0
   Knows half at ph j v Idle = Unit {0}
-  Knows half at ph j v (Working t) = (ph ≡ running) × (at t ≡ out j) × (half_of v.loaded ≡ half) × (t < windows job)
+  Knows half at ph j v (Working t) = (ph ≡ running) × (at t ≡ out j) × (half_of v.loaded ≡ half)
+      × (t < windows job)
   Knows half at ph j v Turning = (ph ≡ turning j) × (half_of v.loaded ≡ half)
   Knows half at ph j v Reset = (ph ≡ resetting j) × (half_of v.loaded ≡ half)
 
@@ -101,7 +131,8 @@ module _ {J : Type 0} (windows : J → ℕ) (job : J) where
     pub job_is : HasJob job v v.job
     pub knows : Knows half at ph j v v.stage
 
-module _ {J P C : Type 0} (windows : J → ℕ) (ready done : J → ℕ → ℕ → P → Type 0) (common ended : J → ℕ → C → Type 0) (job : J) (s : State (Slot P C) (View J)) where
+module _ {J P C : Type 0} (windows : J → ℕ) (ready done : J → ℕ → ℕ → P → Type 0)
+    (common ended : J → ℕ → C → Type 0) (job : J) (s : State (Slot P C) (View J)) where
   pub record Lawful : Type 0 where
     pub half : ℕ
     pub n : ℕ
@@ -119,4 +150,5 @@ module _ {J P C : Type 0} (windows : J → ℕ) (ready done : J → ℕ → ℕ 
     pub dones : (x : ℕ) → total (λ v. times x v.done) s.views ≡ done_once (windows job) half mask phase x
     pub in_phase : InPhase windows ready done common ended job s.homes half n mask stop at phase
     pub in_hands : InHands s.views (windows job) at phase
-    pub each_seat : (j : ℕ) (v : View J) → get_elem? s.views j ≡ some v → Seated windows job (word_of stop half n) half at phase j v
+    pub each_seat : (j : ℕ) (v : View J) → get_elem? s.views j ≡ some v
+        → Seated windows job (word_of stop half n) half at phase j v

@@ -26,8 +26,12 @@ emptied windows = (0, Empty) ∷ numbered 1 (replicate windows Empty)
 module _ {P C : Type 0} (windows : ℕ) where
   -- a seat has all slots: a common value, and pieces
   abbrev pub AllOut : (C → Type 0) → (ℕ → P → Type 0) → List (ℕ × Slot P C) → Type 0
-  AllOut F G c = (x : C) × (room : Vec P Global) × (ps : List P) × (c ≡ (0, Common x room) ∷ numbered 1 (map Piece ps)) × HasRoom windows room × F x × AllPieces windows G ps
+  AllOut F G c = (x : C) × (room : Vec P Global) × (ps : List P)
+      × (c ≡ (0, Common x room) ∷ numbered 1 (map Piece ps)) × HasRoom windows room × F x
+      × AllPieces windows G ps
 
   -- the first i of the pieces are in the vector, and the others in the slots that a seat has
   abbrev pub Gathering : (ℕ → P → Type 0) → ℕ → List (ℕ × Slot P C) → Vec P Global → Type 0
-  Gathering G i c v = (ps : List P) × AllPieces windows G ps × (c ≡ numbered (i + 1) (map Piece (drop i ps)) ++ (0, Empty) ∷ numbered 1 (replicate i Empty)) × (v.items ≡ take i ps) × (windows ≤ vec_capacity v)
+  Gathering G i c v = (ps : List P) × AllPieces windows G ps
+      × (c ≡ numbered (i + 1) (map Piece (drop i ps)) ++ (0, Empty) ∷ numbered 1 (replicate i Empty))
+      × (v.items ≡ take i ps) × (windows ≤ vec_capacity v)

@@ -1,5 +1,5 @@
 -- What each step tells its seat: of the seat m before, the word r that was found, and the seat k after.
-use Rattle.std.specs.Prelude.{◌≡◌, ◌≢◌, ℕ, max, ◌+◌, ◌-◌, ◌*◌, ◌<◌, ◌≤◌, ◌^◌, List, [], ◌∷◌, ◌++◌, Option, Some, None}
+use Rattle.std.specs.Prelude.{◌≡◌, ◌≢◌, ℕ, max, ◌+◌, ◌-◌, ◌*◌, ◌<◌, ◌≤◌, ◌^◌, [], ◌∷◌, ◌++◌, Option, Some, None}
 use Rattle.std.specs.Int.{bit_at}
 use Rattle.std.specs.Int.Bits.{bit_or}
 use Rattle.atomic_table.specs.Table.{Me, Step, rest}
@@ -35,45 +35,74 @@ module _ {J : Type 0} where
 
   -- the view after a draw of the window that the loaded word gives
   abbrev pub after_draw : ℕ → View J → View J
-  after_draw windows v = record v { stage = Working (drawn_of v.loaded); drawn = v.drawn ++ next_number windows v.loaded ∷ []; found = v.loaded + 1 }
+  after_draw windows v = record v {
+    stage = Working (drawn_of v.loaded);
+    drawn = v.drawn ++ next_number windows v.loaded ∷ [];
+    found = v.loaded + 1;
+  }
 
   -- the view after window t was marked in the mask r
   abbrev pub after_finish : ℕ → ℕ → ℕ → View J → View J
-  after_finish windows t r v = record v { stage = Idle; done = v.done ++ (half_of v.loaded * windows + t) ∷ []; mask = r }
+  after_finish windows t r v = record v {
+    stage = Idle;
+    done = v.done ++ (half_of v.loaded * windows + t) ∷ [];
+    mask = r;
+  }
 
   -- a look: nothing but the words seen and the number of looks
   abbrev pub looked : {S : Type 0} → (J → ℕ) → Step S → Me S (View J) → ℕ → Me S (View J) → Type 0
   looked windows st m r k = (k ≡ (after_look m.0 r, m.1)) × NotNewer m.0.found r
-      × IsFor (λ j. (windows j + 1 ≡ st.slots) × (windows j ≤ 64) × (drawn_of r ≤ windows j) × (half_of r ≤ 1000000) × DrawnOnce (windows j) (after_look m.0 r)) m.0.job
+      × IsFor (λ j. (windows j + 1 ≡ st.slots) × (windows j ≤ 64) × (drawn_of r ≤ windows j)
+      × (half_of r ≤ 1000000) × DrawnOnce (windows j) (after_look m.0 r)) m.0.job
 
-  abbrev pub Draws : {P C : Type 0} → (J → ℕ) → (J → ℕ → ℕ → P → Type 0) → J → Me (Slot P C) (View J) → Me (Slot P C) (View J) → Type 0
-  Draws {P} {C} windows ready j m k = (p : P) × (k ≡ (after_draw (windows j) m.0, (drawn_of m.0.loaded + 1, Piece p) ∷ m.1)) × ready j (half_of m.0.loaded) (drawn_of m.0.loaded) p
-      × AllBelow (next_number (windows j) m.0.loaded) m.0.drawn × DrawnOnce (windows j) (after_draw (windows j) m.0)
+  abbrev pub Draws : {P C : Type 0} → (J → ℕ) → (J → ℕ → ℕ → P → Type 0) → J → Me (Slot P C) (View J)
+      → Me (Slot P C) (View J) → Type 0
+  Draws {P} {C} windows ready j m k = (p : P)
+      × (k ≡ (after_draw (windows j) m.0, (drawn_of m.0.loaded + 1, Piece p) ∷ m.1))
+      × ready j (half_of m.0.loaded) (drawn_of m.0.loaded) p
+      × AllBelow (next_number (windows j) m.0.loaded) m.0.drawn
+      × DrawnOnce (windows j) (after_draw (windows j) m.0)
 
   -- a claim: where the exchange found the loaded word, the piece of the next window comes out
-  abbrev pub drew : {P C : Type 0} → (J → ℕ) → (J → ℕ → ℕ → P → Type 0) → Step (Slot P C) → Me (Slot P C) (View J) → ℕ → Me (Slot P C) (View J) → Type 0
+  abbrev pub drew : {P C : Type 0} → (J → ℕ) → (J → ℕ → ℕ → P → Type 0) → Step (Slot P C)
+      → Me (Slot P C) (View J) → ℕ → Me (Slot P C) (View J) → Type 0
   drew windows ready st m r k = IsFor (λ j. (r ≡ st.first → Draws windows ready j m k)
-      × (r ≢ st.first → (k ≡ (record m.0 { found = r }, m.1)) × DrawnOnce (windows j) (record m.0 { found = r }))) m.0.job
+      × (r ≢ st.first → (k ≡ (record m.0 { found = r }, m.1))
+      × DrawnOnce (windows j) (record m.0 { found = r }))) m.0.job
 
   -- a finish of window t: where its bit was the last, all pieces and the common value come out
-  abbrev pub finished : {P C : Type 0} → (J → ℕ) → (J → ℕ → ℕ → P → Type 0) → (J → ℕ → C → Type 0) → Step (Slot P C) → Me (Slot P C) (View J) → ℕ → Me (Slot P C) (View J) → Type 0
+  abbrev pub finished : {P C : Type 0} → (J → ℕ) → (J → ℕ → ℕ → P → Type 0) → (J → ℕ → C → Type 0)
+      → Step (Slot P C) → Me (Slot P C) (View J) → ℕ → Me (Slot P C) (View J) → Type 0
   finished windows done common st m r k = IsFor (λ j. (windows j + 1 ≡ st.slots)
       × ((t : ℕ) → m.0.stage ≡ Working t →
-      (bit_or r st.first ≢ 2 ^ windows j - 1 → (k ≡ (after_finish (windows j) t r m.0, rest m.1)) × LacksAnother (windows j) t r)
-      × (bit_or r st.first ≡ 2 ^ windows j - 1 → (k.0 ≡ record (after_finish (windows j) t r m.0) { stage = Turning }) × HasOthers (windows j) t r
+      (bit_or r st.first ≢ 2 ^ windows j - 1 → (k ≡ (after_finish (windows j) t r m.0, rest m.1))
+      × LacksAnother (windows j) t r)
+      × (bit_or r st.first ≡ 2 ^ windows j - 1
+      → (k.0 ≡ record (after_finish (windows j) t r m.0) { stage = Turning }) × HasOthers (windows j) t r
       × AllOut (windows j) (common j (half_of m.0.loaded)) (done j (half_of m.0.loaded)) k.1))) m.0.job
 
   -- a reset of the mask, before a turn
   abbrev pub cleared : {S : Type 0} → (J → ℕ) → Step S → Me S (View J) → ℕ → Me S (View J) → Type 0
-  cleared windows st m r k = (k ≡ (record m.0 { stage = Reset }, m.1)) × IsFor (λ j. windows j + 1 ≡ st.slots) m.0.job
+  cleared windows st m r k = (k ≡ (record m.0 { stage = Reset }, m.1))
+      × IsFor (λ j. windows j + 1 ≡ st.slots) m.0.job
 
   -- a turn or a stop: all slots come home
   abbrev pub settled : {S : Type 0} → (J → ℕ) → Step S → Me S (View J) → ℕ → Me S (View J) → Type 0
-  settled windows st m r k = (k ≡ (record m.0 { stage = Idle; found = st.first }, [])) × IsFor (λ j. windows j + 1 ≡ st.slots) m.0.job
+  settled windows st m r k = (k ≡ (record m.0 { stage = Idle; found = st.first }, []))
+      × IsFor (λ j. windows j + 1 ≡ st.slots) m.0.job
 
   -- what a new seat starts with that is split off
   abbrev pub twin : View J → View J
-  twin v = record { job = v.job; stage = Idle; drawn = []; done = []; loaded = v.loaded; found = v.found; looks = 0; mask = 0 }
+  twin v = record {
+    job = v.job;
+    stage = Idle;
+    drawn = [];
+    done = [];
+    loaded = v.loaded;
+    found = v.found;
+    looks = 0;
+    mask = 0;
+  }
 
   -- a seat that took in another's lists and the newer of the two words
   abbrev pub merged : View J → View J → View J

@@ -15,8 +15,6 @@ mod plays;
 mod scattering;
 mod seating;
 mod seats;
-#[cfg(test)]
-mod tests;
 mod turning;
 mod view;
 

@@ -67,9 +67,11 @@ pub enum Finish<P: Piece> {
 }
 
 impl<P: Piece> Idle<P> {
+    ghost use Rattle.phase_board.specs.Seats.{idle_view};
+
     /// Whether the word that the seat found says that the board is stopped.
     pub fn saw_over(&self) -> bool
-        ensures { IsTrue result ↔ IsStopped self.now.seat.me.0.found }
+        ensures { IsTrue result ↔ IsStopped (idle_view self.now).found }
     {
         self.found >= STOPPED
     }

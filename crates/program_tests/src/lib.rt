@@ -2,4 +2,12 @@
 #![tactic(auto)]
 
 #[cfg(test)]
+mod container;
+#[cfg(test)]
+mod edges;
+#[cfg(test)]
+mod lists;
+#[cfg(test)]
+mod pairs;
+#[cfg(test)]
 mod runs;

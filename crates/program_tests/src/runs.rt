@@ -1,18 +1,11 @@
 //! Runs of the command `codeword` over memory, against worked codewords.
-ghost use Rattle.std.specs.Prelude.{◌≡◌, ◌≤◌, IfOk};
+ghost use Rattle.std.specs.Prelude.{◌≤◌};
 
+use crate::lists::list_of;
 use edge_io::{MemSink, MemSource, SteadySource};
-use lte_bits::List;
-use std::alloc::{AllocError, Global};
 use std::process::Abort;
 use std::test::Fail;
 use turbo_run::{SinkName, Status, run, run_alone};
-
-fn list_of<T: Copy>(alloc: Global, items: &[T]) -> Result<List<T>, AllocError>
-    ensures { IfOk result (λ list. list ≡ items.now) }
-{
-    Ok(List::from_vec(Vec::from_slice(alloc, items)?))
-}
 
 /// A run over a source that gives `piece` bytes at a time and an `out` whose writes in `failing`
 /// fail: its status, and what `out` and the report hold.

@@ -1,4 +1,3 @@
-pub mod Told
 pub mod Rises
 mod Lines
 mod Reached

@@ -28,12 +28,15 @@ pub record Answer : Type 0 where
   pub tail : ℕ
   pub due : ℕ
 
+-- what blocks add to `out`, one after the other
 abbrev pub texts : List Part → List ℕ
 texts parts = flat_map (λ p. p.text) parts
 
+-- what they add to the report
 abbrev pub lines : List Part → List ℕ
 lines parts = flat_map (λ p. p.line) parts
 
+-- how many bytes of input they take
 abbrev pub size_of : List Part → ℕ
 size_of parts = sum_by (λ p. p.size) parts
 
@@ -48,9 +51,25 @@ opened text a = record a { opening = text }
 -- nothing more, and a refusal
 abbrev pub refusal : (number place tail due : ℕ) → Answer
 refusal number place tail due =
-    record { opening = []; parts = []; closing = []; last = []; ending = bad number place; tail = tail; due = due }
+    record {
+      opening = [];
+      parts = [];
+      closing = [];
+      last = [];
+      ending = bad number place;
+      tail = tail;
+      due = due;
+    }
 
 -- nothing more but the closing and the last line
 abbrev pub closed : (closing last : List ℕ) → Ending → (tail due : ℕ) → Answer
 closed closing last ending tail due =
-    record { opening = []; parts = []; closing = closing; last = last; ending = ending; tail = tail; due = due }
+    record {
+      opening = [];
+      parts = [];
+      closing = closing;
+      last = last;
+      ending = ending;
+      tail = tail;
+      due = due;
+    }

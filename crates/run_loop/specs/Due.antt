@@ -11,7 +11,8 @@ IsDue due (p ∷ parts) n = n < p.wants
 -- is written: those of the next blocks. Where several are read ahead and fewer are left, those of the ending
 -- too.
 abbrev pub most_ahead : (ahead : ℕ) → Answer → ℕ
-most_ahead ahead a = size_of (take ahead a.parts) + (if nat_lt 1 ahead && nat_lt (length a.parts) ahead then a.tail else 0)
+most_ahead ahead a = size_of (take ahead a.parts)
+    + (if nat_lt 1 ahead && nat_lt (length a.parts) ahead then a.tail else 0)
 
 -- n bytes may have been read when memory is wanting: never once the ending is known
 abbrev pub IsWithin : (ahead : ℕ) → Answer → ℕ → Type 0

@@ -24,7 +24,7 @@ pub record Counts : Type 0 where
 abbrev pub counts : (reads outs reports : ℕ) → Counts
 counts reads outs reports = record { reads = reads; outs = outs; reports = reports }
 
--- which count rose, where the ending is a fault; the words are never refused
+-- which count rose, where the ending is a fault; the loop never refuses the words
 abbrev pub Causes : Counts → Counts → Status → Type 0
 Causes before now ReadFault = Rose before.reads now.reads
 Causes before now (WriteFault Out) = Rose before.outs now.outs

@@ -29,6 +29,7 @@ abbrev pub next_text : Answer → List Part → List ℕ
 next_text a [] = a.closing
 next_text a (p ∷ parts) = p.text
 
+-- the line that goes with it
 abbrev pub next_line : Answer → List Part → List ℕ
 next_line a [] = a.last
 next_line a (p ∷ parts) = p.line
@@ -44,7 +45,8 @@ Ended ahead a old new (status.BadStream number place) = (a.ending ≡ bad number
     × ((more : List ℕ) × (length more ≡ a.tail) × TookPast old new a.parts more)
 Ended ahead a old new status.ReadFault = (front after : List Part) × Stands a old new front after
     × ((more : List ℕ) × IsDue a.due after (length more) × TookPast old new front more)
-Ended ahead a old new (status.WriteFault Out) = ((n : ℕ) × Adds old.out new.out (take n a.opening) × (new.report ≡ old.report))
+Ended ahead a old new (status.WriteFault Out) = ((n : ℕ) × Adds old.out new.out (take n a.opening)
+    × (new.report ≡ old.report))
     ⊎ ((front after : List Part) × (n : ℕ) × (a.parts ≡ front ++ after)
     × Adds old.out new.out (a.opening ++ texts front ++ take n (next_text a after))
     × Adds old.report new.report (lines front))
@@ -53,4 +55,5 @@ Ended ahead a old new (status.WriteFault Report) = (front after : List Part) × 
     × Adds old.out new.out (a.opening ++ texts front ++ next_text a after)
     × Adds old.report new.report (lines front ++ take n (next_line a after))
 Ended ahead a old new status.NoMemory = (front after : List Part) × Stands a old new front after
-    × ((more : List ℕ) × IsWithin ahead (record a { parts = after }) (length more) × TookPast old new front more)
+    × ((more : List ℕ) × IsWithin ahead (record a { parts = after }) (length more)
+    × TookPast old new front more)

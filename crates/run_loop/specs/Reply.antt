@@ -16,6 +16,7 @@ pub data Reply : Type 0 where
   begun : (head ahead : ℕ) → Answer → Reply
   unread : (line : List ℕ) → Ending → Reply
 
+-- the ending that the input alone settles
 abbrev pub ending_of_reply : Reply → Ending
 ending_of_reply (unopened number place taken due) = bad number place
 ending_of_reply (begun head ahead a) = a.ending

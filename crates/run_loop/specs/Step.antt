@@ -9,12 +9,15 @@ use Rattle.run_loop.specs.declared.work.Round.{Round}
 use Rattle.run_loop.specs.declared.work.Stop.{Stop}
 use Rattle.run_loop.specs.declared.work.Stop.TheVariants.{Go, End, Bad, Fault, NoMemory}
 
+-- the block of an answer that a block of a round is
 abbrev pub part_of : Block → Part
-part_of block = record { text = block.text.items; line = block.line.items; size = block.size; wants = block.wants }
+part_of block =
+    record { text = block.text.items; line = block.line.items; size = block.size; wants = block.wants }
 
 abbrev pub parts_of : List Block → List Part
 parts_of blocks = map part_of blocks
 
+-- the ending of a command that was done
 abbrev pub ending_of : (failed : Bool) → Ending
 ending_of false = finished
 ending_of true = some_failed

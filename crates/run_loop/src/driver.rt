@@ -11,7 +11,13 @@ use edge_io::{Sink, SinkFault, Source};
 use std::alloc::Global;
 
 /// Writes the opening, and then does the work round by round: the blocks of each are written before
-/// the next is begun.
+/// the next is begun, for each its text to `out` and then its line to the report. Behind the last
+/// block comes what closes `out`, and then the report's last line.
+///
+/// It ends `Done`, or `SomeFailed` where the work says so, with the whole answer written;
+/// `BadStream` behind the blocks before the refused byte; `ReadFault`, `WriteFault` or `NoMemory`
+/// behind those that were finished. After a failed write, a front of the text or line that was
+/// being written stands.
 pub fn drive<W: Work, S: Source, D: Sink, R: Sink>(
     alloc: Global,
     work: &mut W,

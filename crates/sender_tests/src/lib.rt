@@ -15,4 +15,6 @@ mod matching;
 #[cfg(test)]
 mod streams;
 #[cfg(test)]
+mod trellis;
+#[cfg(test)]
 mod vectors;

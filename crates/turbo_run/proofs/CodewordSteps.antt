@@ -14,7 +14,7 @@ use Rattle.run_loop.specs.declared.work.Round.{Round}
 use Rattle.run_loop.specs.declared.work.Stop.{Stop}
 use Rattle.run_loop.specs.declared.work.Stop.TheVariants.{Go, End, Bad, Fault, NoMemory}
 use Rattle.run_loop.proofs.Alone.{step_alone}
-use Rattle.run_loop.proofs.Told.{told_rest, told_end}
+use Rattle.edge_io.proofs.Told.{told_rest, told_all}
 use Rattle.turbo_run.specs.Codeword.{codeword_answer, codeword_part, end_line}
 use Rattle.turbo_run.specs.Coding.{IsCoded}
 
@@ -60,7 +60,7 @@ pub step_of_empty : (g : ℕ) (input : List ℕ) (after : List ℕ → Answer) (
     Steps 1 (codeword_answer g input) after fits old new round
 step_of_empty g input after fits old new round none is took ended told =
     let P : List ℕ → Type 0 = λ bytes. Steps 1 (codeword_answer g bytes) after fits old new round in
-    subst P (sym (told_end old new [] input took ended told).1)
+    subst P (sym (told_all old new [] input took ended told).input_is)
     (step_alone 1 (codeword_answer g []) after fits old new round (Bad 4 0) none is ([], took, refl, refl, refl))
 
 pub step_of_long : (g : ℕ) (input bytes : List ℕ) (after : List ℕ → Answer) (fits : List ℕ → Type 0) (old new : Option (List ℕ)) (round : Round) →
@@ -68,7 +68,7 @@ pub step_of_long : (g : ℕ) (input bytes : List ℕ) (after : List ℕ → Answ
     Steps 1 (codeword_answer g input) after fits old new round
 step_of_long g input bytes after fits old new round none is three took told =
     let rest = told_rest old new bytes input took told in
-    let same : codeword_answer g input ≡ refusal 9 2 3 3 = ap (codeword_answer g) rest.2 ∙ too_long g bytes rest.0 three in
+    let same : codeword_answer g input ≡ refusal 9 2 3 3 = ap (codeword_answer g) rest.input_is ∙ too_long g bytes rest.left three in
     let P : Answer → Type 0 = λ a. Steps 1 a after fits old new round in
     subst P (sym same) (step_alone 1 (refusal 9 2 3 3) after fits old new round (Bad 9 2) none is (bytes, took, three, refl, refl))
 
@@ -78,7 +78,7 @@ pub step_of_fault : (g : ℕ) (input bytes : List ℕ) (after : List ℕ → Ans
 step_of_fault g input bytes after fits old new round none is few took told =
     let rest = told_rest old new bytes input took told in
     step_alone 1 (codeword_answer g input) after fits old new round Fault none is
-    (bytes, took, not_whole g (length bytes) input few (omega (arith, ap length rest.2, length-append bytes rest.0)))
+    (bytes, took, not_whole g (length bytes) input few (omega (arith, ap length rest.input_is, length-append bytes rest.left)))
 
 pub step_of_none : (g : ℕ) (input : List ℕ) (after : List ℕ → Answer) (fits : List ℕ → Type 0) (old new : Option (List ℕ)) (round : Round) →
     round.blocks.items ≡ [] → round.stop ≡ NoMemory → new ≡ old → Steps 1 (codeword_answer g input) after fits old new round
@@ -91,7 +91,7 @@ pub step_of_starved : (g : ℕ) (input payload : List ℕ) (after : List ℕ →
     Steps 1 (codeword_answer g input) after fits old new round
 step_of_starved g input payload after fits old new round none is some few took ended told =
     let P : List ℕ → Type 0 = λ bytes. Steps 1 (codeword_answer g bytes) after fits old new round in
-    subst P (sym (told_end old new payload input took ended told).1)
+    subst P (sym (told_all old new payload input took ended told).input_is)
     (step_alone 1 (codeword_answer g payload) after fits old new round NoMemory none is (payload, took, all_read g payload some few))
 
 coded_stop : (g : ℕ) (payload : List ℕ) (after : List ℕ → Answer) (fits : List ℕ → Type 0) (new : Option (List ℕ)) (blocks : List Block) (stop : Stop) →
@@ -108,14 +108,14 @@ pub step_of_coded : (g : ℕ) (input payload : List ℕ) (after : List ℕ → A
     IsCoded g payload round.blocks.items round.stop → 0 < length payload → length payload ≤ 2 → Takes old new payload → IsAtEnd new → old ≡ Some input →
     Steps 1 (codeword_answer g input) after fits old new round
 step_of_coded g input payload after fits old new round is some few took ended told =
-    let end = told_end old new payload input took ended told in
-    let coded = coded_stop g payload after fits new round.blocks.items round.stop is end.0 in
+    let end = told_all old new payload input took ended told in
+    let coded = coded_stop g payload after fits new round.blocks.items round.stop is end.new_is in
     let one : length payload ≡ size_of (codeword_part g payload ∷ []) = omega arith in
     let b = closed [] (end_line g) finished 0 0 in (
       b,
       payload,
       new,
-      ap (codeword_answer g) end.1 ∙ accepted g payload some few ∙ ap (λ (ps : List Part). behind ps b) (sym coded.0),
+      ap (codeword_answer g) end.input_is ∙ accepted g payload some few ∙ ap (λ (ps : List Part). behind ps b) (sym coded.0),
       one ∙ sym (ap size_of coded.0),
       took,
       coded.1,

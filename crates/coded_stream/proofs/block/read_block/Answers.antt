@@ -1,6 +1,6 @@
 use Rattle.std.proofs.Common.{◌≤◌, length, ap, arith}
 use Rattle.std.proofs.lemmas.List.{length-append}
-use Rattle.coded_stream.proofs.Told.{told}
+use Rattle.edge_io.proofs.Told.{told_rest}
 use Rattle.coded_stream.specs.Shown.{header_of}
 use Rattle.coded_stream.proofs.BlockSteps.{word-then, payload-accepted, none-accepted, step-due}
 use Rattle.coded_stream.proofs.block.read_block.Goals as goal
@@ -25,6 +25,6 @@ returns-in-End-clause-accepted g c = none-accepted (header_of c.args.header.now)
 pub returns-in-Fault-clause-told : goal.returns-in-Fault-clause-told
 returns-in-Fault-clause-told g c input is =
     let w = c.in-Fault.ensures.told input is in
-    let t = told _ _ w.0 input w.1 is in
+    let t = told_rest _ _ w.0 input w.1 is in
     let came : length w.0 ≤ length input = omega (arith, ap length t.input_is, length-append w.0 t.left) in
     (w.0, w.1, omega (arith, step-due (header_of c.args.header.now) c.args.more c.args.start input (length w.0) w.2 came))

@@ -1,7 +1,7 @@
 use Rattle.std.proofs.Common.{◌≡◌, ℕ, ◌+◌, ◌<◌, ◌≤◌, List, [], ◌∷◌, length, take, refl, ap, sym, ◌∙◌, arith}
 use Rattle.std.proofs.lemmas.List.{append-nil, length-take-le}
 use Rattle.coded_stream.specs.Opening.{second_opening, unless, opens, header_in}
-use Rattle.coded_stream.proofs.Told.{told, told_all}
+use Rattle.edge_io.proofs.Told.{told_rest, told_all}
 use Rattle.coded_stream.proofs.OpeningSteps.{same_refuses, second-short, second-whole}
 use Rattle.coded_stream.proofs.opening.read_second.Goals as goal
 
@@ -16,7 +16,7 @@ pub returns-in-Bad-clause-told : goal.returns-in-Bad-clause-told
 returns-in-Bad-clause-told g c input is =
     let bytes = c.read_unit.new.unit in
     let count : ℕ = c.args.count in
-    let t = told _ _ bytes input c.in-Whole.ensures.bytes is in
+    let t = told_rest _ _ bytes input c.in-Whole.ensures.bytes is in
     let long : length bytes ≡ count = c.read_unit.auto.unit ∙ lent count c.requires.few in (
       bytes,
       t.left,

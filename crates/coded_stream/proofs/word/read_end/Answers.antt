@@ -1,11 +1,11 @@
 use Rattle.std.proofs.Common.{ap, ◌∙◌}
 use Rattle.coded_stream.specs.Body.{end_step}
-use Rattle.coded_stream.proofs.Told.{told}
+use Rattle.edge_io.proofs.Told.{told_rest}
 use Rattle.coded_stream.proofs.WordSteps.{end-followed}
 use Rattle.coded_stream.proofs.word.read_end.Goals as goal
 
 pub returns-in-Whole-clause-told : goal.returns-in-Whole-clause-told
 returns-in-Whole-clause-told g c input into is =
     let unit = c.read_unit.new.unit in
-    let t = told _ _ unit input c.in-Whole.ensures.bytes is in
+    let t = told_rest _ _ unit input c.in-Whole.ensures.bytes is in
     (unit, t.left, 5, t.old_is, t.new_is, ap (end_step c.args.start) t.input_is ∙ end-followed c.args.start unit t.left c.read_unit.auto.unit)

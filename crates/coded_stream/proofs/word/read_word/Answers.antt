@@ -4,7 +4,7 @@ use Rattle.coded_stream.specs.Header.{Header, word}
 use Rattle.coded_stream.specs.Shown.{header_of}
 use Rattle.coded_stream.specs.Units.{refused_at}
 use Rattle.coded_stream.specs.Body.{refused, word_step, step}
-use Rattle.coded_stream.proofs.Told.{told, told_all}
+use Rattle.edge_io.proofs.Told.{told_rest, told_all}
 use Rattle.coded_stream.proofs.WordSteps.{step-short, step-word, word-end, word-many, word-large, word-block}
 use Rattle.coded_stream.proofs.word.read_word.Goals as goal
 
@@ -43,7 +43,7 @@ pub returns-then-more-eq0-clause-told : goal.returns-then-more-eq0-clause-told
 returns-then-more-eq0-clause-told g c input is =
     let unit = c.read_unit.new.unit in
     let h = header_of c.args.header.now in
-    let t = told _ _ unit input c.in-Whole.ensures.bytes is in
+    let t = told_rest _ _ unit input c.in-Whole.ensures.bytes is in
     let s = from_word h c.args.more c.args.start c.word-bytes.result unit t.left input c.read_unit.auto.unit c.word-bytes.ensures t.input_is in
     (unit, t.left, 4, t.old_is, t.new_is, s ∙ word-many h c.args.more c.args.start c.word-bytes.result t.left c.if-bytes-eq0.false c.if-more-eq0.true ∙ sized 8 c.args.start unit c.read_unit.auto.unit)
 
@@ -51,7 +51,7 @@ pub returns-then-bytes-header-clause-told : goal.returns-then-bytes-header-claus
 returns-then-bytes-header-clause-told g c input is =
     let unit = c.read_unit.new.unit in
     let h = header_of c.args.header.now in
-    let t = told _ _ unit input c.in-Whole.ensures.bytes is in
+    let t = told_rest _ _ unit input c.in-Whole.ensures.bytes is in
     let s = from_word h c.args.more c.args.start c.word-bytes.result unit t.left input c.read_unit.auto.unit c.word-bytes.ensures t.input_is in
     (unit, t.left, 4, t.old_is, t.new_is, s ∙ word-large h c.args.more c.args.start c.word-bytes.result t.left c.if-bytes-eq0.false c.if-more-eq0.false c.if-bytes-header.true ∙ sized 4 c.args.start unit c.read_unit.auto.unit)
 
@@ -59,7 +59,7 @@ pub returns-else-bytes-header-clause-told : goal.returns-else-bytes-header-claus
 returns-else-bytes-header-clause-told g c input is =
     let unit = c.read_unit.new.unit in
     let h = header_of c.args.header.now in
-    let t = told _ _ unit input c.in-Whole.ensures.bytes is in
+    let t = told_rest _ _ unit input c.in-Whole.ensures.bytes is in
     let s = from_word h c.args.more c.args.start c.word-bytes.result unit t.left input c.read_unit.auto.unit c.word-bytes.ensures t.input_is in
     (unit, t.left, t.old_is, t.new_is, c.read_unit.auto.unit, s ∙ word-block h c.args.more c.args.start c.word-bytes.result t.left c.if-bytes-eq0.false c.if-more-eq0.false c.if-bytes-header.false)
 
@@ -67,6 +67,6 @@ pub returns-then-bytes-eq0-clause-told : goal.returns-then-bytes-eq0-clause-told
 returns-then-bytes-eq0-clause-told g c input is =
     let unit = c.read_unit.new.unit in
     let h = header_of c.args.header.now in
-    let t = told _ _ unit input c.in-Whole.ensures.bytes is in
+    let t = told_rest _ _ unit input c.in-Whole.ensures.bytes is in
     let s = from_word h c.args.more c.args.start c.word-bytes.result unit t.left input c.read_unit.auto.unit c.word-bytes.ensures t.input_is in
     (unit, t.left, t.old_is, t.new_is, c.read_unit.auto.unit, s ∙ word-end h c.args.more c.args.start c.word-bytes.result t.left c.if-bytes-eq0.true)

@@ -1,5 +1,4 @@
-use Rattle.std.proofs.Common.{rules, ◌≡◌, ◌+◌, ◌<◌, ◌≤◌, ◌∷◌, [], ◌++◌, length, map, List, Vec, reverse, ℕ, sym, refl, subst, ap, ◌∙◌, arith, append-nil, length-append}
-use Rattle.std.specs.Prelude.{vec_capacity}
+use Rattle.std.proofs.Common.{◌≡◌, ◌+◌, ◌∷◌, [], ◌++◌, length, reverse, sym, subst, ap, ◌∙◌, arith, append-nil, length-append}
 use Rattle.std.proofs.lemmas.List.{length-map, length-reverse}
 use Rattle.phase_board.specs.Slots.{HasRoom}
 use Rattle.phase_board.specs.declared.view.Slot.TheVariants.{Piece as Holds}

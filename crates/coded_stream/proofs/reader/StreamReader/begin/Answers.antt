@@ -9,7 +9,7 @@ use Rattle.coded_stream.specs.Header.{half_word}
 use Rattle.coded_stream.specs.Opening.{fields, match_in, second_opening, opening, first_refusal, unless, opens, header_in}
 use Rattle.coded_stream.specs.Steps.{opening_due}
 use Rattle.coded_stream.specs.declared.kind.Kind.{Kind}
-use Rattle.coded_stream.proofs.Told.{told, told_all}
+use Rattle.edge_io.proofs.Told.{told_rest, told_all}
 use Rattle.coded_stream.proofs.Passed.{ArePassed, wanted-one, fields-passed}
 use Rattle.coded_stream.proofs.OpeningSteps.{same_refuses, second-whole, second-due, opening-short, opening-whole, opening-due, header-is, header-accepted, text-long}
 use Rattle.coded_stream.proofs.reader.StreamReader.begin.Goals as goal
@@ -33,7 +33,7 @@ returns-in-Short-clause-begins g c input is =
 pub returns-in-Fault-clause-begins : goal.returns-in-Fault-clause-begins
 returns-in-Fault-clause-begins g c input is =
     let w = c.in-Fault.ensures.bytes in
-    let t = told _ _ w.0 input w.2 is in
+    let t = told_rest _ _ w.0 input w.2 is in
     let came : length w.0 ≤ length input = omega (arith, ap length t.input_is, length-append w.0 t.left) in
     let few : length w.0 < 18 = (let less = w.1 in omega (arith, less, c.read_unit.auto.unit)) in
     (w.0, w.2, opening-due (c.args.want ∷ []) input (length w.0) few came)
@@ -46,7 +46,7 @@ by_unit want unit left input long is = ap (opening (want ∷ [])) is ∙ opening
 pub returns-in-Bad-clause-begins : goal.returns-in-Bad-clause-begins
 returns-in-Bad-clause-begins g c input is =
     let unit = c.read_unit.new.unit in
-    let t = told _ _ unit input c.in-Whole.ensures.bytes is in
+    let t = told_rest _ _ unit input c.in-Whole.ensures.bytes is in
     let long : length unit ≡ 18 = c.read_unit.auto.unit in (
       unit,
       t.left,
@@ -69,7 +69,7 @@ by_second want unit left input count long is pass count_is =
 pub returns-in-Bad-read_second-clause-begins : goal.returns-in-Bad-read_second-clause-begins
 returns-in-Bad-read_second-clause-begins g c input is =
     let unit = c.read_unit.new.unit in
-    let t = told _ _ unit input c.in-Whole.ensures.bytes is in
+    let t = told_rest _ _ unit input c.in-Whole.ensures.bytes is in
     let good = c.in-Good.ensures in
     let w = c.in-Bad-read_second.ensures.told t.left t.new_is in
     let long : length unit ≡ 18 = c.read_unit.auto.unit in (
@@ -86,11 +86,11 @@ returns-in-Bad-read_second-clause-begins g c input is =
 pub returns-in-Fault-read_second-clause-begins : goal.returns-in-Fault-read_second-clause-begins
 returns-in-Fault-read_second-clause-begins g c input is =
     let unit = c.read_unit.new.unit in
-    let t = told _ _ unit input c.in-Whole.ensures.bytes is in
+    let t = told_rest _ _ unit input c.in-Whole.ensures.bytes is in
     let good = c.in-Good.ensures in
     let w = c.in-Fault-read_second.ensures.told t.left t.new_is in
     let long : length unit ≡ 18 = c.read_unit.auto.unit in
-    let u = told _ _ w.0 t.left w.1 t.new_is in
+    let u = told_rest _ _ w.0 t.left w.1 t.new_is in
     let came : length w.0 ≤ length t.left = omega (arith, ap length u.input_is, length-append w.0 u.left) in
     let less : length w.0 < c.in-Good.count = w.2 in
     let all : length (unit ++ w.0) ≡ 18 + length w.0 = omega (arith, length-append unit w.0, long) in
@@ -103,7 +103,7 @@ returns-in-Fault-read_second-clause-begins g c input is =
 pub returns-in-Good-read_second-clause-begins : goal.returns-in-Good-read_second-clause-begins
 returns-in-Good-read_second-clause-begins g c input is =
     let unit = c.read_unit.new.unit in
-    let t = told _ _ unit input c.in-Whole.ensures.bytes is in
+    let t = told_rest _ _ unit input c.in-Whole.ensures.bytes is in
     let good = c.in-Good.ensures in
     let count : ℕ = c.in-Good.count in
     let rvs = c.in-Good-read_second.rvs in

@@ -1,4 +1,4 @@
-use Rattle.std.proofs.Common.{rules, arith, refl, sym, ap, subst, ◌∙◌, ℕ, ◌+◌, ◌≡◌}
+use Rattle.std.proofs.Common.{rules, arith, refl, ap, subst, ◌∙◌, ◌+◌}
 use Rattle.phase_board.specs.ClaimWord.{drawn_of}
 use Rattle.phase_board.specs.Steps.{IsFor}
 use Rattle.phase_board.proofs.Carried.{front}

@@ -1,4 +1,4 @@
-use Rattle.std.proofs.Common.{rules, ◌≡◌, ◌+◌, ◌*◌, ℕ, ◌-◌, ◌<◌, ◌≤◌, List, Bool, true, false, length, set, get_or, suc, sym, refl, subst, ap, ◌∙◌, arith}
+use Rattle.std.proofs.Common.{◌≡◌, ◌+◌, ℕ, ◌<◌, ◌≤◌, List, Bool, true, false, length, set, get_or, suc, sym, refl, subst, ap, ◌∙◌, arith}
 use Rattle.std.specs.Slots.{slots_filled, slots_len}
 use Rattle.std.proofs.lemmas.List.{get_or-set_same, get_or-set_other}
 use native.Mathlib.Decide.{ℕ_discrete}

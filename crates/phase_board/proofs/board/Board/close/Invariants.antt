@@ -1,4 +1,4 @@
-use Rattle.std.proofs.Common.{◌≡◌, ℕ, ◌+◌, ◌<◌, ◌≤◌, true, false, get_or}
+use Rattle.std.proofs.Common.{◌≡◌, ℕ, ◌<◌, ◌≤◌, true, false, get_or}
 use Rattle.std.specs.Slots.{slots_items, slots_filled, slots_len}
 use Rattle.phase_board.proofs.board.Board.close.Given as goal
 

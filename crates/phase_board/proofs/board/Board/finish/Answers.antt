@@ -1,4 +1,4 @@
-use Rattle.std.proofs.Common.{rules, arith, refl, sym, ap, subst, ◌∙◌, ℕ, ◌+◌, ◌-◌, ◌*◌, ◌%◌, ◌^◌, ◌<◌, ◌≡◌, ◌∷◌, [], List, suc}
+use Rattle.std.proofs.Common.{rules, arith, sym, ap, subst, ◌∙◌, ℕ, ◌+◌, ◌*◌, ◌%◌, ◌^◌, ◌<◌, ◌≡◌, ◌∷◌, [], List, suc}
 use Rattle.std.proofs.Math.Pow.{pow-lt}
 use Rattle.atomic_table.specs.Table.{rest}
 use Rattle.phase_board.specs.ClaimWord.{half_of}

@@ -1,4 +1,4 @@
-use Rattle.std.proofs.Common.{rules, arith, refl, sym, ap, subst, ◌∙◌, ℕ, ◌+◌, ◌-◌, ◌≡◌, ◌<◌, ◌++◌, [], ◌∷◌}
+use Rattle.std.proofs.Common.{arith, refl, sym, subst, ◌∙◌, ℕ, ◌<◌, ◌++◌, [], ◌∷◌}
 use Rattle.phase_board.proofs.Carried.{front}
 use Rattle.phase_board.proofs.Gathers.{pulled, same_head, piece_same}
 use Rattle.phase_board.proofs.board.Board.gather.Goals as goal

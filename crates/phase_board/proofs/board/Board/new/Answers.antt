@@ -1,5 +1,5 @@
-use Rattle.std.proofs.Common.{rules, ◌≡◌, ◌<◌, ◌∷◌, ℕ, List, length, sym, refl, subst, ap, ◌∙◌, arith, Some}
-use Rattle.phase_board.specs.Openings.{job_of, Opens}
+use Rattle.std.proofs.Common.{sym, ◌∙◌}
+use Rattle.phase_board.specs.Openings.{Opens}
 use Rattle.phase_board.proofs.Opens.{opens, of_first}
 use Rattle.phase_board.proofs.Laid.{same_laid}
 use Rattle.phase_board.proofs.board.Board.new.Goals as goal

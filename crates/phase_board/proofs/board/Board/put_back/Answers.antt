@@ -1,4 +1,4 @@
-use Rattle.std.proofs.Common.{rules, ◌≡◌, ◌∷◌, ◌++◌, [], map, length, Vec, ℕ, ◌+◌, ◌-◌, ◌*◌, ◌<◌, ◌≤◌, List, reverse, drop, sym, refl, subst, ap, ◌∙◌, arith}
+use Rattle.std.proofs.Common.{◌≡◌, ◌∷◌, ◌++◌, [], length, ◌+◌, ◌<◌, sym, refl, ap, ◌∙◌, arith}
 use Rattle.atomic_table.specs.Table.{rest}
 use Rattle.phase_board.specs.declared.view.Slot.TheVariants.{Piece as Holds}
 use Rattle.phase_board.specs.declared.view.Slot.TheVariants.{Common as Keeps}

@@ -1,9 +1,8 @@
-use Rattle.std.proofs.Common.{rules, arith, refl, sym, ap, subst, ◌∙◌, ℕ, ◌+◌, ◌-◌, ◌*◌, ◌^◌, ◌≡◌, ◌∷◌}
+use Rattle.std.proofs.Common.{rules, arith, sym, ap, ◌∙◌, ℕ, ◌+◌, ◌-◌, ◌*◌, ◌^◌, ◌≡◌, ◌∷◌}
 use Rattle.atomic_table.specs.Table.{rest}
 use Rattle.phase_board.specs.declared.view.Slot.TheVariants.{Common}
 use Rattle.phase_board.specs.Slots.{emptied}
 use Rattle.phase_board.specs.ClaimWord.{half_of}
-use Rattle.phase_board.specs.Steps.{IsFor}
 use Rattle.phase_board.proofs.Stops.{stops}
 use Rattle.phase_board.proofs.board.Board.stop.Goals as goal
 

@@ -1,4 +1,4 @@
-use Rattle.std.proofs.Common.{rules, arith, refl, sym, ap, subst, ◌∙◌, ℕ, ◌+◌, ◌*◌, ◌<◌, ◌≡◌}
+use Rattle.std.proofs.Common.{rules, arith, sym, ap, subst, ◌∙◌, ℕ, ◌+◌, ◌*◌, ◌<◌, ◌≡◌}
 use Rattle.phase_board.specs.ClaimWord.{half_of}
 use Rattle.phase_board.specs.Slots.{HasRoom}
 use Rattle.phase_board.specs.Steps.{IsFor}
