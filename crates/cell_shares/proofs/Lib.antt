@@ -1,11 +1,13 @@
 mod Changed
 mod Dealing
+pub mod Dealt
 mod FreeRights
 mod Gathering
+pub mod Labels
 mod Lent
 mod Names
-mod Nones
-mod Numbers
+pub mod Nones
+pub mod Numbers
 mod OneCell
 mod Owns
 mod Parts
@@ -14,4 +16,4 @@ mod Positions
 mod Rows
 mod Shuffles
 mod Told
-mod Undone
+pub mod Undone

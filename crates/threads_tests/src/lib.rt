@@ -1,3 +1,5 @@
 //! Tests of what several threads share.
 #![tactic(auto)]
 
+#[cfg(test)]
+mod shares;
