@@ -1,9 +1,10 @@
+mod Alone
 mod Changed
 mod Dealing
 pub mod Dealt
-mod FreeRights
 mod Gathering
 pub mod Labels
+mod Leases
 mod Lent
 mod Names
 pub mod Nones
@@ -13,7 +14,9 @@ mod Owns
 mod Parts
 mod Placed
 mod Positions
+mod Reach
 mod Rows
+mod Sites
 mod Shuffles
 mod Told
 pub mod Undone
