@@ -11,11 +11,10 @@ pub mod Nones
 pub mod Numbers
 mod OneCell
 mod Owns
-mod Parts
 mod Placed
 mod Positions
+mod RawRows
 mod Reach
-mod Rows
 mod Sites
 mod Shuffles
 mod Told
