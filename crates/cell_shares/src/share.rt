@@ -55,7 +55,8 @@ impl<T: Copy> Share<T> {
         requires counted { split.count ≡ part.count }
         requires numbered { number < split.windows }
         requires frees { HoldsRight right part.ptr split.count split.heap number }
-        ensures { (result.part ≡ part) × (result.right ≡ right) × (result.split ≡ split) × (result.number ≡ number) }
+        ensures { (result.part ≡ part) × (result.right ≡ right) × (result.split ≡ split)
+            × (result.number ≡ number) }
     {
         Share {
             part,
