@@ -33,7 +33,7 @@ module _ {X : Type 0} (s : Share X) where
         subst (λ (n : ℕ). s.first + j < n) (sym w) (subst (λ (n : ℕ). n + j < s.split.windows * s.split.width) (sym f) b)
 
     -- cell j stands at the place of position first + j
-    pub cell_here : (x : X) × IsCell s.part.cells j (place_in s.split.order (s.first + j)) x
+    cell_here : (x : X) × IsCell s.part.cells j (place_in s.split.order (s.first + j)) x
     cell_here =
         subst (λ (n : ℕ). (x : X) × IsCell s.part.cells j (place_in s.split.order (n + j)) x) (sym s.begins)
         (cell_of (λ i. place_in s.split.order i) (s.number * s.split.width) s.split.width j s.part.cells s.dealt in_width)
@@ -41,5 +41,11 @@ module _ {X : Type 0} (s : Share X) where
     pub place_is : share_place s j ≡ place_in s.split.order (s.first + j)
     place_is = ap (λ (n : ℕ). place_in s.split.order (n + j)) (ap (λ (w : ℕ). s.number * w) width-long ∙ sym s.begins)
 
-    pub place_below : place_in s.split.order (s.first + j) < s.split.count
-    place_below = place-below s.split.order s.split.count (s.first + j) s.split.fits position_below
+    -- a number that is cell j's place
+    pub at_place : (n : ℕ) → n ≡ share_place s j → (n < s.part.count) × ((x : X) × IsCell s.part.cells j n x)
+    at_place n is =
+        let order = s.split.order in let here : place_in order (s.first + j) ≡ n = sym (is ∙ place_is) in
+        let below = place-below order s.split.count (s.first + j) s.split.fits position_below in (
+          subst (λ (k : ℕ). n < k) s.counted (subst (λ (k : ℕ). k < s.split.count) here below),
+          subst (λ (k : ℕ). (x : X) × IsCell s.part.cells j k x) here cell_here,
+        )

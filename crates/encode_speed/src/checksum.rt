@@ -1,8 +1,9 @@
 //! Checksums of coded streams.
 ghost use Rattle.std.specs.Prelude.{◌≡◌, ◌≤◌, fold};
+ghost use Rattle.lte_bits.specs.Bits.{cell_of};
 ghost use Rattle.encode_speed.specs.Checksum.{basis, digit, mixed};
 
-use lte_bits::Cell;
+use lte_bits::{Bit, Cell};
 
 /// The byte that stands for a cell.
 fn digit(cell: Cell) -> u32
@@ -29,4 +30,12 @@ pub fn checksum(cells: &[Cell]) -> u32
     cells
         .iter()
         .fold(2_166_136_261, |sum, cell| mixed(sum, *cell))
+}
+
+/// That of bits, as cells.
+pub fn bit_checksum(bits: &[Bit]) -> u32
+    ensures { result ≡ fold (λ sum bit. mixed sum (cell_of bit)) basis bits.now }
+{
+    bits.iter()
+        .fold(2_166_136_261, |sum, bit| mixed(sum, Cell::from(*bit)))
 }

@@ -1,5 +1,6 @@
-//! Encodes one block of 6,144 bits and prints checksums of its streams. With the word `seconds=N` it
-//! encodes the block again and again for N seconds, and reports the rate on standard error.
+//! Encodes a code block of 6,144 bits and prints checksums of its streams, and then that of the codeword
+//! of a transport block of 9,422 bytes. With the word `seconds=N` it encodes each again and again for N
+//! seconds, and reports the rates on standard error.
 #![tactic(auto)]
 
 mod checksum;
@@ -7,9 +8,9 @@ mod fault;
 mod measure;
 mod sample;
 
-use checksum::checksum;
+use checksum::{bit_checksum, checksum};
 use fault::Fault;
-use measure::encode_for;
+use measure::{encode_for, send_for};
 use std::process::ExitCode;
 use std::time::Duration;
 use std::{env, io};
@@ -42,8 +43,11 @@ fn main(rt: HostRuntime) -> Result<ExitCode, Fault> {
     println!(rt; "d0 {:08x}", checksum(run.streams.d0.as_slice()))?;
     println!(rt; "d1 {:08x}", checksum(run.streams.d1.as_slice()))?;
     println!(rt; "d2 {:08x}", checksum(run.streams.d2.as_slice()))?;
+    let sent = send_for(&rt, time)?;
+    println!(rt; "codeword {:08x}", bit_checksum(sent.bits.as_slice()))?;
     if !time.is_zero() {
-        eprintln!(rt; "{run}")?;
+        eprintln!(rt; "code block: {}", run.timing)?;
+        eprintln!(rt; "transport block: {}", sent.timing)?;
     }
     Ok(ExitCode::SUCCESS)
 }

@@ -9,26 +9,26 @@ use Rattle.receiver_model.specs.declared.result.CheckKind.{CheckKind}
 use Rattle.receiver_model.specs.declared.result.CheckKind.TheVariants.{A, B}
 use Rattle.receiver_model.specs.declared.result.CodeResult.{CodeResult}
 use Rattle.receiver_model.specs.HalfIteration.{Shape}
-use Rattle.receiver_model.specs.Decoding.{decided_in, generator, IsDecoded, checks, passing, result_in, result_of, decode}
+use Rattle.receiver_model.specs.Decoding.{decided_in, generator, IsDecoded, check_holds, passing_iteration, result_in, result_of, code_result}
 use Rattle.receiver_model.proofs.FirstOfRange.{first}
 
 generator-monic : (kind : CheckKind) → IsMonic (generator kind)
 generator-monic A = crc24a-monic
 generator-monic B = crc24b-monic
 
-pub checks-true : (kind : CheckKind) (bits : List Bit) → checks kind bits ≡ true → IsMultiple (generator kind) bits
+pub checks-true : (kind : CheckKind) (bits : List Bit) → check_holds kind bits ≡ true → IsMultiple (generator kind) bits
 checks-true kind bits e = (multiple-remainder (generator kind) bits (generator-monic kind)).1 (eqb-true (remainder (generator kind) 0 bits) 0 e)
 
-pub checks-false : (kind : CheckKind) (bits : List Bit) → checks kind bits ≡ false → IsMultiple (generator kind) bits → ⊥
+pub checks-false : (kind : CheckKind) (bits : List Bit) → check_holds kind bits ≡ false → IsMultiple (generator kind) bits → ⊥
 checks-false kind bits e m = eqb-false (remainder (generator kind) 0 bits) 0 e ((multiple-remainder (generator kind) bits (generator-monic kind)).0 m)
 
-pub decoded-is : (soft : SoftStreams) (shape : Shape) → 1 ≤ shape.limit → IsDecoded soft shape (decode soft shape)
-unfolding decode
+pub decoded-is : (soft : SoftStreams) (shape : Shape) → 1 ≤ shape.limit → IsDecoded soft shape (code_result soft shape)
+unfolding code_result
 decoded-is soft shape some_limit =
-    let test : ℕ → Bool = λ n. checks shape.kind (decided_in soft shape n) in
+    let test : ℕ → Bool = λ n. check_holds shape.kind (decided_in soft shape n) in
     elim (first test 1 shape.limit) [
       | inr found ↦ (
-          let is : result_of soft shape (passing soft shape) ≡ result_in soft shape found.at true = ap (result_of soft shape) found.is in
+          let is : result_of soft shape (passing_iteration soft shape) ≡ result_in soft shape found.at true = ap (result_of soft shape) found.is in
           let high = found.high in
           subst (IsDecoded soft shape) (sym is) (record {
             fill = refl;
@@ -40,7 +40,7 @@ decoded-is soft shape some_limit =
             last = λ h. absurd (not_false h);
           }))
       | inl none ↦ (
-          let is : result_of soft shape (passing soft shape) ≡ result_in soft shape shape.limit false = ap (result_of soft shape) none.is in
+          let is : result_of soft shape (passing_iteration soft shape) ≡ result_in soft shape shape.limit false = ap (result_of soft shape) none.is in
           subst (IsDecoded soft shape) (sym is) (record {
             fill = refl;
             bits = refl;

@@ -31,6 +31,7 @@ decided soft shape h = decided_bits shape.f (before soft shape (suc h)).cells
 abbrev pub decided_in : SoftStreams → Shape → ℕ → List Bit
 decided_in soft shape n = decided soft shape (2 * n - 1)
 
+-- the generator of a check (36.212 5.1.1)
 abbrev pub generator : CheckKind → ℕ
 generator A = crc24a
 generator B = crc24b
@@ -43,19 +44,22 @@ pub record IsDecoded (soft : SoftStreams) (shape : Shape) (r : CodeResult) : Typ
   pub from_one : 1 ≤ r.iterations
   pub to_limit : r.iterations ≤ shape.limit
   pub passed : IsTrue r.passed ↔ IsMultiple (generator shape.kind) r.block.bits
-  pub first : (n : ℕ) → 1 ≤ n → n < r.iterations → IsMultiple (generator shape.kind) (decided_in soft shape n) → ⊥
+  pub first : (n : ℕ) → 1 ≤ n → n < r.iterations
+      → IsMultiple (generator shape.kind) (decided_in soft shape n) → ⊥
   pub last : IsFalse r.passed → r.iterations ≡ shape.limit
 
 -- ---- The same as a function, which the laws of `decoding` tie to the relation.
 
 -- whether the check holds: nothing is left of the bits modulo the generator
-abbrev pub checks : CheckKind → List Bit → Bool
-checks kind bits = remainder (generator kind) 0 bits == 0
+abbrev pub check_holds : CheckKind → List Bit → Bool
+check_holds kind bits = remainder (generator kind) 0 bits == 0
 
 -- the first iteration whose check holds
-abbrev pub passing : SoftStreams → Shape → Option ℕ
-passing soft shape = find (λ n. checks shape.kind (decided_in soft shape n)) (range_with_len 1 shape.limit)
+abbrev pub passing_iteration : SoftStreams → Shape → Option ℕ
+passing_iteration soft shape =
+    find (λ n. check_holds shape.kind (decided_in soft shape n)) (range_with_len 1 shape.limit)
 
+-- the result with the decided bits of iteration n
 abbrev pub result_in : SoftStreams → Shape → ℕ → Bool → CodeResult
 result_in soft shape n passed = record {
   block = record { fill = shape.f; bits = decided_in soft shape n };
@@ -67,5 +71,6 @@ abbrev pub result_of : SoftStreams → Shape → Option ℕ → CodeResult
 result_of soft shape (Some n) = result_in soft shape n true
 result_of soft shape None = result_in soft shape shape.limit false
 
-unfoldable pub decode : SoftStreams → Shape → CodeResult
-decode soft shape = result_of soft shape (passing soft shape)
+-- what the decoding of a code block gives
+unfoldable pub code_result : SoftStreams → Shape → CodeResult
+code_result soft shape = result_of soft shape (passing_iteration soft shape)

@@ -49,7 +49,8 @@ systematic_at soft k h i = at soft.d0 (order k h i)
 abbrev pub parity_at : SoftStreams → ℕ → ℕ → ℤ
 parity_at soft h i = if h % 2 == 0 then at soft.d1 i else at soft.d2 i
 
--- the soft values of the tail's input and parity bits, those of the second coder in odd halves (36.212 5.1.3.2.2)
+-- the soft values of the tail's input bits and of its parity bits: the first coder's in even halves, the
+-- second coder's in odd ones (36.212 5.1.3.2.2)
 abbrev pub tail_inputs : SoftStreams → ℕ → ℕ → List ℤ
 tail_inputs soft k h =
     if h % 2 == 0
@@ -109,7 +110,9 @@ cells_in shape h b t = map (λ i. cell_at b.cells (order shape.k h i)) (position
 abbrev pub window : SoftStreams → Shape → ℕ → Before → ℕ → Window
 window soft shape h b t =
     window_between (start_border b t) (end_border soft shape h b t)
-    (map (systematic_at soft shape.k h) (positions shape t)) (map (parity_at soft h) (positions shape t)) (cells_in shape h b t)
+    (map (systematic_at soft shape.k h) (positions shape t))
+    (map (parity_at soft h) (positions shape t))
+    (cells_in shape h b t)
 
 -- the new cell of position i, which is position i mod W of window i / W
 abbrev pub renewed : SoftStreams → Shape → ℕ → Before → ℕ → Extrinsic

@@ -33,15 +33,15 @@ abbrev pub end_state : Path → State
 end_state p = reached p.start p.bits
 
 -- what bit b at position j earns by systematic value and cell
-abbrev pub own : Window → ℕ → Bit → ℤ
-own w j b = if_zero b (at w.sys j +ℤ at w.cells j)
+abbrev pub own_gain : Window → ℕ → Bit → ℤ
+own_gain w j b = if_zero b (at w.sys j +ℤ at w.cells j)
 
 -- what a step earns: at a position, from a state, by an input bit
 abbrev pub Gain : Type 0
 Gain = ℕ → State → Bit → ℤ
 
 abbrev pub gain : Window → Gain
-gain w j s u = own w j u +ℤ if_zero (parity s u) (at w.par j)
+gain w j s u = own_gain w j u +ℤ if_zero (parity s u) (at w.par j)
 
 -- what input bits earn from position j and state s on
 abbrev pub earned : Gain → ℕ → State → List Bit → ℤ
@@ -60,7 +60,7 @@ score w p = from_start w p +ℤ number_for w.end (end_state p)
 
 -- a path's score, less what the bit at position j earns by systematic value and cell
 abbrev pub score_without : Window → ℕ → Path → ℤ
-score_without w j p = score w p -ℤ own w j (bits.at p.bits j)
+score_without w j p = score w p -ℤ own_gain w j (bits.at p.bits j)
 
 -- m is the number of some allowed x, and no allowed x has a greater one
 pub record IsGreatest {X : Type 0} (Allowed : X → Type 0) (value : X → ℤ) (m : ℤ) : Type 0 where

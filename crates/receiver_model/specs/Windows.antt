@@ -23,7 +23,13 @@ cell_at cells n = slice_index_or cells n zero_cell
 
 -- the window of a strip's values and cells between two borders
 abbrev pub window_between : (start end : Border) (sys par : List ℤ) (cells : List Extrinsic) → Window
-window_between start end sys par cells = record { start = start; end = end; sys = sys; par = par; cells = values cells }
+window_between start end sys par cells = record {
+  start = start;
+  end = end;
+  sys = sys;
+  par = par;
+  cells = values cells;
+}
 
 -- how much better 0 is than 1 at position j, by all but its own systematic value and cell
 abbrev pub extrinsic : Window → ℕ → ℤ
@@ -33,7 +39,7 @@ extrinsic w j = best w Zero j -ℤ best w One j
 abbrev pub scaled : ℤ → ℤ
 scaled x = clamped 511 (int_div (pos 3 *ℤ x) (pos 4))
 
--- the new cell of extrinsic value x, where the systematic value and the old cell were s and c: a tie decides 0
+-- the new cell of extrinsic value x, where the systematic value was s and the old cell c: a tie decides 0
 abbrev pub cell_from : ℤ → ℤ → ℤ → Extrinsic
 cell_from x s c = record { value = scaled x; one = int_lt (x +ℤ s +ℤ c) (pos 0) }
 

@@ -6,19 +6,19 @@ ghost use Rattle.sender_model.specs.CheckBits.{IsMultiple};
 ghost use Rattle.receiver_model.specs.declared.result.CheckKind.{CheckKind};
 ghost use Rattle.receiver_model.specs.declared.result.CodeResult.{CodeResult};
 ghost use Rattle.receiver_model.specs.HalfIteration.{Shape};
-ghost use Rattle.receiver_model.specs.Decoding.{IsDecoded, checks, decode, generator};
+ghost use Rattle.receiver_model.specs.Decoding.{IsDecoded, check_holds, code_result, generator};
 
 /// The check holds exactly for multiples of its generator.
 pub fn checks_tell_multiples()
     ensures { (kind : CheckKind) (bits : List Bit)
-        → IsTrue (checks kind bits) ↔ IsMultiple (generator kind) bits }
+        → IsTrue (check_holds kind bits) ↔ IsMultiple (generator kind) bits }
 {}
 
 /// The function gives the result of the first iteration whose check holds, or else of the last, and
 /// no other result is that.
 pub fn decoding_is_the_one()
     ensures is { (soft : SoftStreams) (shape : Shape) → 1 ≤ shape.limit
-        → IsDecoded soft shape (decode soft shape) }
+        → IsDecoded soft shape (code_result soft shape) }
     ensures only { (soft : SoftStreams) (shape : Shape) (r : CodeResult) → 1 ≤ shape.limit
-        → IsDecoded soft shape r → r ≡ decode soft shape }
+        → IsDecoded soft shape r → r ≡ code_result soft shape }
 {}

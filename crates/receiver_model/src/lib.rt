@@ -5,5 +5,6 @@ pub mod decoding;
 pub mod paths;
 pub mod positions;
 pub mod result;
+pub mod windows;
 
 pub use result::{CheckKind, CodeResult};

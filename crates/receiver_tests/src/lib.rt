@@ -1,3 +1,9 @@
 //! Tests of the receiver's public calls on one thread.
 #![tactic(auto)]
 
+#[cfg(test)]
+mod block;
+#[cfg(test)]
+mod values;
+#[cfg(test)]
+mod window;

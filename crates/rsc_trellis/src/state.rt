@@ -1,6 +1,5 @@
 //! States of the constituent coder.
 ghost use Rattle.std.specs.Prelude.{◌≡◌, ◌<◌, ◌↔◌, if◌then◌else◌, IfSome, IsNone};
-ghost use Rattle.lte_bits.specs.Bits.{digit};
 
 use lte_bits::Bit;
 use std::marker::Model;
@@ -29,17 +28,6 @@ fn bit(is_one: bool) -> Bit
     ensures { result ≡ (if is_one then Bit.One else Bit.Zero) }
 {
     if is_one { Bit::One } else { Bit::Zero }
-}
-
-/// A bit as a number.
-fn digit(bit: Bit) -> u8
-    ensures value { result ≡ digit bit }
-    ensures small { result < 2 }
-{
-    match bit {
-        Bit::Zero => 0,
-        Bit::One => 1,
-    }
 }
 
 impl State {
@@ -80,6 +68,6 @@ impl State {
         ensures value { result ≡ number_of self }
         ensures small { result < 8 }
     {
-        4 * digit(self.a1) + 2 * digit(self.a2) + digit(self.a3)
+        4 * u8::from(self.a1) + 2 * u8::from(self.a2) + u8::from(self.a3)
     }
 }

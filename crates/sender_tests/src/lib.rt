@@ -11,6 +11,10 @@ mod interleaver;
 #[cfg(test)]
 mod lists;
 #[cfg(test)]
+mod matching;
+#[cfg(test)]
 mod streams;
+#[cfg(test)]
+mod trellis;
 #[cfg(test)]
 mod vectors;

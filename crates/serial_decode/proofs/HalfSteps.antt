@@ -1,5 +1,5 @@
 -- A half iteration, window after window.
-use Rattle.std.proofs.Common.{◌≡◌, ◌≢◌, ◌⊎◌, ℕ, suc, ◌+◌, ◌-◌, ◌*◌, ◌/◌, ◌%◌, ◌<◌, ◌≤◌, List, length, get_or, set, map, sym, ap, ◌∙◌, refl, subst, arith, Bool, cond, ◌==◌, [], inl, inr}
+use Rattle.std.proofs.Common.{◌≡◌, ◌⊎◌, ℕ, ◌+◌, ◌-◌, ◌*◌, ◌%◌, ◌<◌, ◌≤◌, List, length, set, map, sym, ap, ◌∙◌, refl, subst, arith, Bool, cond, ◌==◌, [], inl, inr}
 use Rattle.std.specs.List.{range_with_len}
 use Rattle.std.proofs.lemmas.Bool.{cases_eq, cases_lt}
 use Rattle.std.proofs.lemmas.List.{ext_get_or, length-set, get_or-set_same, get_or-set_other}
@@ -59,7 +59,7 @@ start_border-more b t =
     ap (λ (q : Bool). cond q known (left_by b.left_earlier (t + 1 - 1)).forward) (not-equal (t + 1) 0 (λ e. absurd (omega (arith, e))))
     ∙ ap (λ (n : ℕ). (left_by b.left_earlier n).forward) (let e : t + 1 - 1 ≡ t = omega arith in e)
 
-renewed-in_window : (soft : SoftStreams) (shape : Shape) (h : ℕ) (b : Before) (t j : ℕ) → j < window_width shape
+pub renewed-in_window : (soft : SoftStreams) (shape : Shape) (h : ℕ) (b : Before) (t j : ℕ) → j < window_width shape
     → renewed soft shape h b (t * window_width shape + j) ≡ cell_at (new_cells (window soft shape h b t)) j
 renewed-in_window soft shape h b t j lt =
     ap (λ (q : ℕ). cell_at (new_cells (window soft shape h b q)) ((t * window_width shape + j) % window_width shape)) (div-mul-add t (window_width shape) j lt)

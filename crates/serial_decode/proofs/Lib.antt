@@ -6,4 +6,5 @@ pub mod StripParts
 pub mod ViewLists
 pub mod WindowRuns
 pub mod HalfSteps
+pub mod Wholes
 pub mod Stopping

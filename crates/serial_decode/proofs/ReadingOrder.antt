@@ -1,10 +1,10 @@
 -- What the halves read, by whether they are even.
-use Rattle.std.proofs.Common.{◌≡◌, ◌≢◌, ℕ, ◌+◌, ◌%◌, ◌==◌, ◌<◌, ◌≤◌, Bool, true, false, cond, List, length, get_or, take, ap, arith, ◌∙◌, sym}
+use Rattle.std.proofs.Common.{◌≡◌, ℕ, ◌%◌, Bool, cond, take, ap, arith, sym}
 use Rattle.std.specs.Prelude.{pos}
 use Rattle.lte_bits.specs.declared.block.SoftStreams.{SoftStreams}
 use Rattle.sender_model.specs.Interleaver.{place}
 use Rattle.receiver_model.specs.Borders.{at}
-use Rattle.receiver_model.specs.HalfIteration.{Shape, systematic_at, parity_at, order}
+use Rattle.receiver_model.specs.HalfIteration.{Shape, systematic_at, parity_at}
 use Rattle.serial_decode.specs.Views.{AreStreams, by_position}
 use Rattle.serial_decode.proofs.Orders.{equal, not-equal}
 use Rattle.serial_decode.proofs.Parts.{front-by_position}

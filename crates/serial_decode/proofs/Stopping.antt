@@ -1,7 +1,7 @@
 -- The first iteration whose check holds.
-use Rattle.std.proofs.Common.{◌≡◌, ◌⊎◌, ℕ, zero, suc, ◌+◌, ◌-◌, ◌*◌, ◌==◌, ◌<◌, ◌≤◌, Bool, true, false, List, Some, None, Option, find, refl, sym, ap, ◌∙◌, arith, cond}
+use Rattle.std.proofs.Common.{◌≡◌, ℕ, suc, ◌+◌, ◌-◌, ◌*◌, ◌<◌, ◌≤◌, Bool, true, false, List, refl, sym, ap, ◌∙◌, arith, inl, inr}
 use Rattle.std.specs.Prelude.{◌↔◌, IsTrue}
-use Rattle.std.specs.List.{range_with_len}
+use Rattle.std.proofs.lemmas.Bool.{cases_eq}
 use Rattle.lte_bits.specs.declared.bit.Bit.{Bit}
 use Rattle.lte_bits.specs.declared.block.SoftStreams.{SoftStreams}
 use Rattle.sender_model.specs.CheckBits.{IsMultiple, IsMonic, remainder}
@@ -10,7 +10,7 @@ use Rattle.receiver_model.specs.declared.result.CheckKind.{CheckKind}
 use Rattle.receiver_model.specs.declared.result.CheckKind.TheVariants.{A, B}
 use Rattle.receiver_model.specs.declared.result.CodeResult.{CodeResult}
 use Rattle.receiver_model.specs.HalfIteration.{Shape, Before, after, opening}
-use Rattle.receiver_model.specs.Decoding.{before, decided_bits, decided_in, generator, checks, passing, result_in, result_of, decode}
+use Rattle.receiver_model.specs.Decoding.{before, decided_bits, decided_in, generator, check_holds, code_result}
 use Rattle.receiver_model.proofs.DecodedOnce.{checks-true, checks-false, decoded-is, decoded_once}
 use Rattle.serial_decode.proofs.Orders.{equal, not-equal}
 
@@ -19,7 +19,7 @@ generator-monic A = crc24a-monic
 generator-monic B = crc24b-monic
 
 -- the check's answer is that of the definition
-pub check-is : (b : Bool) (kind : CheckKind) (bits : List Bit) → IsTrue b ↔ IsMultiple (generator kind) bits → checks kind bits ≡ b
+pub check-is : (b : Bool) (kind : CheckKind) (bits : List Bit) → IsTrue b ↔ IsMultiple (generator kind) bits → check_holds kind bits ≡ b
 check-is true kind bits h =
     let m = multiple-remainder (generator kind) bits (generator-monic kind) in
     equal (remainder (generator kind) 0 bits) 0 (m.0 (h.0 refl))
@@ -52,20 +52,40 @@ iteration-more soft shape n b some e =
 pub before-iteration : (soft : SoftStreams) (shape : Shape) (n : ℕ) → 1 ≤ n → before soft shape (suc (2 * n - 1)) ≡ before soft shape (2 * (n + 1 - 1))
 before-iteration soft shape n some = ap (before soft shape) (let s : suc (2 * n - 1) ≡ 2 * (n + 1 - 1) = omega arith in s)
 
+-- what an iteration leaves, where the decoder's own block and shape are those of the call
+pub left-by_iteration : (own soft : SoftStreams) (numbers shape : Shape) (n : ℕ) (b r : Before) → own ≡ soft → numbers ≡ shape → 1 ≤ n
+    → b ≡ before soft shape (2 * (n - 1)) → r ≡ after own numbers (2 * n - 1) (after own numbers (2 * n - 2) b) → r ≡ before soft shape (suc (2 * n - 1))
+left-by_iteration own soft numbers shape n b r es en some eb er =
+    er ∙ (ap (λ x. after x numbers (2 * n - 1) (after x numbers (2 * n - 2) b)) es
+    ∙ (ap (λ x. after soft x (2 * n - 1) (after soft x (2 * n - 2) b)) en ∙ iteration-more soft shape n b some eb))
+
+pub decided-by_iteration : (soft : SoftStreams) (numbers shape : Shape) (n : ℕ) (r : Before) (bits : List Bit) → numbers ≡ shape
+    → r ≡ before soft shape (suc (2 * n - 1)) → bits ≡ decided_bits numbers.f r.cells → bits ≡ decided_in soft shape n
+decided-by_iteration soft numbers shape n r bits en er eb =
+    eb ∙ (ap (λ (x : Shape). decided_bits x.f r.cells) en ∙ ap (λ (x : Before). decided_bits shape.f x.cells) er)
+
 -- ---- the result
 
 -- no iteration before n has a check that holds
 abbrev pub FailBefore : SoftStreams → Shape → ℕ → Type 0
-FailBefore soft shape n = (m : ℕ) → 1 ≤ m → m < n → checks shape.kind (decided_in soft shape m) ≡ false
+FailBefore soft shape n = (m : ℕ) → 1 ≤ m → m < n → check_holds shape.kind (decided_in soft shape m) ≡ false
+
+-- nor before the next one, where that of n fails
+pub fail-more : (soft : SoftStreams) (shape : Shape) (n : ℕ) → FailBefore soft shape n → check_holds shape.kind (decided_in soft shape n) ≡ false → FailBefore soft shape (n + 1)
+fail-more soft shape n before here m some lt =
+    elim (cases_eq m n) [
+      | inl e ↦ ap (λ (k : ℕ). check_holds shape.kind (decided_in soft shape k)) e ∙ here
+      | inr ne ↦ before m some (omega (arith, ne))
+    ]
 
 abbrev pub result_with : ℕ → List Bit → ℕ → Bool → CodeResult
 result_with fill bits n passed = record { block = record { fill = fill; bits = bits }; iterations = n; passed = passed }
 
 pub decode-passed : (soft : SoftStreams) (shape : Shape) (fill n : ℕ) (bits : List Bit) → fill ≡ shape.f → 1 ≤ n → n ≤ shape.limit
-    → bits ≡ decided_in soft shape n → checks shape.kind bits ≡ true → FailBefore soft shape n
-    → result_with fill bits n true ≡ decode soft shape
+    → bits ≡ decided_in soft shape n → check_holds shape.kind bits ≡ true → FailBefore soft shape n
+    → result_with fill bits n true ≡ code_result soft shape
 decode-passed soft shape fill n bits ef some few eb passed fails =
-    decoded_once soft shape (result_with fill bits n true) (decode soft shape)
+    decoded_once soft shape (result_with fill bits n true) (code_result soft shape)
     (record {
       fill = ef;
       bits = eb;
@@ -79,10 +99,10 @@ decode-passed soft shape fill n bits ef some few eb passed fails =
 
 pub decode-failed : (soft : SoftStreams) (shape : Shape) (fill n : ℕ) (bits : List Bit) → fill ≡ shape.f → 1 ≤ n → n ≡ shape.limit
     → bits ≡ decided_in soft shape n → FailBefore soft shape (n + 1)
-    → result_with fill bits n false ≡ decode soft shape
+    → result_with fill bits n false ≡ code_result soft shape
 decode-failed soft shape fill n bits ef some en eb fails =
-    let failed : checks shape.kind bits ≡ false = ap (checks shape.kind) eb ∙ fails n some (omega arith) in
-    decoded_once soft shape (result_with fill bits n false) (decode soft shape)
+    let failed : check_holds shape.kind bits ≡ false = ap (check_holds shape.kind) eb ∙ fails n some (omega arith) in
+    decoded_once soft shape (result_with fill bits n false) (code_result soft shape)
     (record {
       fill = ef;
       bits = eb;

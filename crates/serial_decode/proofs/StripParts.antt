@@ -1,9 +1,8 @@
 -- The part of a list by position that a window takes, and the places of a window.
-use Rattle.std.proofs.Common.{◌≡◌, ℕ, suc, ◌+◌, ◌*◌, ◌<◌, ◌≤◌, List, length, get_or, map, take, drop, sym, ap, ◌∙◌, arith, Contains}
+use Rattle.std.proofs.Common.{◌≡◌, ℕ, suc, ◌+◌, ◌*◌, ◌<◌, ◌≤◌, List, length, get_or, map, take, drop, sym, ap, ◌∙◌, arith}
 use Rattle.std.specs.List.{range_with_len}
 use Rattle.std.proofs.Math.Nat.{mul-le-mul_left}
 use Rattle.std.proofs.lemmas.List.FromFn.{length-map-range_with_len, get_or-map-range_with_len}
-use Rattle.sender_model.specs.Interleaver.{sizes}
 use Rattle.receiver_model.specs.HalfIteration.{Shape, window_width, positions, order}
 use Rattle.serial_decode.specs.Views.{by_position, AreWhole}
 use Rattle.serial_decode.proofs.Orders.{order-below, order-apart}

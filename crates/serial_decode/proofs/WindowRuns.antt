@@ -1,10 +1,9 @@
 -- What a window's decoding leaves of the cells of all places.
 use Rattle.std.proofs.Common.{◌≡◌, ◌≢◌, ℕ, ℤ, ◌+◌, ◌*◌, ◌<◌, ◌≤◌, List, length, get_or, map, sym, ap, ◌∙◌, arith}
-use Rattle.std.specs.List.{range_with_len}
 use Rattle.lte_bits.specs.declared.block.SoftStreams.{SoftStreams}
 use Rattle.receiver_model.specs.Borders.{Border}
 use Rattle.receiver_model.specs.Paths.{Window}
-use Rattle.receiver_model.specs.Windows.{Extrinsic, window_between, zero_cell, cell_at, new_cells}
+use Rattle.receiver_model.specs.Windows.{Extrinsic, window_between, cell_at, new_cells}
 use Rattle.receiver_model.specs.HalfIteration.{Shape, window_width, positions, order, systematic_at, parity_at}
 use Rattle.serial_decode.specs.Runs.{window_from, IsReplaced}
 use Rattle.serial_decode.specs.Strips.{cells_at, elsewhere}

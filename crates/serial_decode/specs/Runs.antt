@@ -1,5 +1,5 @@
 -- One window of a half iteration, and a half that has come some way.
-use Rattle.std.specs.Prelude.{◌≡◌, ℕ, ◌+◌, ◌-◌, ◌*◌, ◌<◌, ◌≤◌, List, length, map}
+use Rattle.std.specs.Prelude.{◌≡◌, ℕ, ◌+◌, ◌*◌, ◌<◌, ◌≤◌, List, length, map}
 use Rattle.lte_bits.specs.declared.block.SoftStreams.{SoftStreams}
 use Rattle.receiver_model.specs.Borders.{Border}
 use Rattle.receiver_model.specs.Paths.{Window}
@@ -9,7 +9,9 @@ use Rattle.receiver_model.specs.HalfIteration.{Shape, Before, Left, window_width
 -- window t of half h between two borders, over the cells of all places
 abbrev pub window_from : SoftStreams → Shape → ℕ → ℕ → Border → Border → List Extrinsic → Window
 window_from soft shape h t start end cells =
-    window_between start end (map (systematic_at soft shape.k h) (positions shape t)) (map (parity_at soft h) (positions shape t))
+    window_between start end
+    (map (systematic_at soft shape.k h) (positions shape t))
+    (map (parity_at soft h) (positions shape t))
     (map (λ i. cell_at cells (order shape.k h i)) (positions shape t))
 
 abbrev pub left_of : Window → Left
@@ -20,20 +22,26 @@ pub record IsReplaced (shape : Shape) (h t : ℕ) (w : Window) (old new : List E
   pub long : length new ≡ shape.k
   pub replaced : (j : ℕ) → j < window_width shape
       → cell_at new (order shape.k h (t * window_width shape + j)) ≡ cell_at (new_cells w) j
-  pub before : (i : ℕ) → i < t * window_width shape → cell_at new (order shape.k h i) ≡ cell_at old (order shape.k h i)
+  pub before : (i : ℕ) → i < t * window_width shape
+      → cell_at new (order shape.k h i) ≡ cell_at old (order shape.k h i)
   pub behind : (i : ℕ) → (t + 1) * window_width shape ≤ i → i < shape.k
       → cell_at new (order shape.k h i) ≡ cell_at old (order shape.k h i)
 
--- what a half starts from, as far as it matters: the cells, and the borders that each window left two halves ago
+-- what a half starts from, as far as it matters: the cells, and the borders that each window left two halves
+-- ago
 abbrev pub start_of : List Extrinsic → List Left → Before
 start_of cells left = record { cells = cells; left = left; left_earlier = left }
 
 -- half h, begun from b, where the windows before t are done: the cells by now, and the borders by window, of
 -- which those of the windows from t on are still those of two halves ago
-pub record IsPartDone (soft : SoftStreams) (shape : Shape) (h : ℕ) (b : Before) (t : ℕ) (cells : List Extrinsic) (left : List Left) (start : Border) : Type 0 where
+pub record IsPartDone
+    (soft : SoftStreams) (shape : Shape) (h : ℕ) (b : Before)
+    (t : ℕ) (cells : List Extrinsic) (left : List Left) (start : Border) : Type 0 where
   pub long : length cells ≡ shape.k
-  pub done : (i : ℕ) → i < t * window_width shape → cell_at cells (order shape.k h i) ≡ renewed soft shape h b i
-  pub to_do : (i : ℕ) → t * window_width shape ≤ i → i < shape.k → cell_at cells (order shape.k h i) ≡ cell_at b.cells (order shape.k h i)
+  pub done : (i : ℕ) → i < t * window_width shape
+      → cell_at cells (order shape.k h i) ≡ renewed soft shape h b i
+  pub to_do : (i : ℕ) → t * window_width shape ≤ i → i < shape.k
+      → cell_at cells (order shape.k h i) ≡ cell_at b.cells (order shape.k h i)
   pub left_long : length left ≡ shape.windows
   pub left_done : (u : ℕ) → u < t → left_by left u ≡ left_after soft shape h b u
   pub left_to_do : (u : ℕ) → t ≤ u → left_by left u ≡ left_by b.left_earlier u

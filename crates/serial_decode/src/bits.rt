@@ -8,7 +8,7 @@ use lte_bits::Bit;
 use window_decode::{CheckKind, Ext};
 
 /// The bit of a place: 0 at a filler.
-fn decided(filler: bool, one: bool) -> Bit
+pub fn decided(filler: bool, one: bool) -> Bit
     ensures { result ≡ if filler then Bit.Zero else if one then Bit.One else Bit.Zero }
 {
     if one && !filler { Bit::One } else { Bit::Zero }

@@ -2,7 +2,7 @@
 ghost use Rattle.std.specs.Prelude.{◌≡◌, ◌+◌, ◌-◌, ◌*◌, ◌≤◌, ℕ, IfOk, length};
 ghost use Rattle.lte_bits.specs.declared.block.SoftStreams.{SoftStreams};
 ghost use Rattle.receiver_model.specs.HalfIteration.{Shape as Numbers, Before, after, opening};
-ghost use Rattle.receiver_model.specs.Decoding.{decided_bits, decode};
+ghost use Rattle.receiver_model.specs.Decoding.{decided_bits, code_result};
 
 use crate::bits::holds;
 use lte_bits::{Bit, Block, List, NoMemory};
@@ -43,8 +43,12 @@ fn iteration<H: HalfDecoder>(decoder: H, n: usize) -> H
 }
 
 /// The result with decided bits of an iteration.
-fn result_in(fill: usize, bits: Vec<Bit>, iterations: usize, passed: bool) -> CodeResult
-    ensures { result ≡ record { block = record { fill = fill; bits = bits.items }; iterations = iterations; passed = passed } }
+pub fn result_in(fill: usize, bits: Vec<Bit>, iterations: usize, passed: bool) -> CodeResult
+    ensures { result ≡ record {
+      block = record { fill = fill; bits = bits.items };
+      iterations = iterations;
+      passed = passed;
+    } }
 {
     CodeResult {
         block: Block {
@@ -64,7 +68,7 @@ pub fn decode_halves<H: HalfDecoder>(
 ) -> Result<CodeResult, NoMemory>
     requires opening { H.before decoder ≡ opening shape.now }
     requires shape { H.shape decoder ≡ shape.now }
-    ensures { IfOk result (λ r. r ≡ decode (H.streams decoder) shape.now) }
+    ensures { IfOk result (λ r. r ≡ code_result (H.streams decoder) shape.now) }
 {
     let fill = shape.f();
     let mut decoder = decoder;

@@ -2,15 +2,16 @@
 #![tactic(auto)]
 
 ghost use Rattle.std.specs.Prelude.{◌≡◌, ◌+◌, IfOk, length};
-ghost use Rattle.receiver_model.specs.Decoding.{decode};
+ghost use Rattle.receiver_model.specs.Decoding.{code_result};
 
-mod bits;
+pub mod bits;
 pub mod block;
 pub mod decoder;
 pub mod half;
 pub mod left;
 mod lists;
 pub mod strip;
+pub mod tail;
 pub mod views;
 pub mod window;
 
@@ -31,11 +32,8 @@ pub fn decode_block(
     requires d0 { length streams.now.d0 ≡ shape.now.k + 4 }
     requires d1 { length streams.now.d1 ≡ shape.now.k + 4 }
     requires d2 { length streams.now.d2 ≡ shape.now.k + 4 }
-    ensures { IfOk result (λ r. r ≡ decode streams.now shape.now) }
+    ensures { IfOk result (λ r. r ≡ code_result streams.now shape.now) }
 {
     let decoder = SerialDecoder::new(alloc, streams, shape)?;
     decode_halves(alloc, decoder, shape)
 }
-
-#[cfg(test)]
-mod tests;

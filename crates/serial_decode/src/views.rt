@@ -6,6 +6,7 @@ ghost use Rattle.serial_decode.specs.Views.{AreStreams, AreWhole, by_position};
 
 use crate::lists::{own_order, part, picked, second_order};
 use crate::strip::ListStrip;
+use crate::tail::tail_of;
 use lte_bits::{NoMemory, Soft, SoftStreams};
 use std::alloc::Global;
 use window_decode::{Border, Ext, Shape};
@@ -23,7 +24,8 @@ pub struct Views<'a> {
     pub ghost whole: { AreStreams streams.now shape },
     ghost in_order: { natural.items ≡ by_position shape (λ i. i) },
     ghost in_second_order: { interleaved.items ≡ by_position shape (place shape.k) },
-    ghost read_in_second_order: { systematic.items ≡ by_position shape (systematic_at streams.now shape.k 1) },
+    ghost read_in_second_order: { systematic.items
+        ≡ by_position shape (systematic_at streams.now shape.k 1) },
 }
 
 impl<'a> Views<'a> {
@@ -54,7 +56,7 @@ impl<'a> Views<'a> {
     }
 
     /// The place of each position in half `h`.
-    fn places(&self, h: usize) -> &[u16]
+    pub fn places(&self, h: usize) -> &[u16]
         ensures { result.now ≡ by_position self.now.shape (order self.now.shape.k h) }
     {
         if h % 2 == 0 {
@@ -65,7 +67,7 @@ impl<'a> Views<'a> {
     }
 
     /// The systematic value of each position in half `h`.
-    fn systematic(&self, h: usize) -> &[Soft]
+    pub fn systematic(&self, h: usize) -> &[Soft]
         ensures { result.now
             ≡ by_position self.now.shape (systematic_at self.now.streams.now self.now.shape.k h) }
     {
@@ -77,7 +79,7 @@ impl<'a> Views<'a> {
     }
 
     /// The parity value of each position in half `h`.
-    fn parity(&self, h: usize) -> &[Soft]
+    pub fn parity(&self, h: usize) -> &[Soft]
         ensures { result.now ≡ by_position self.now.shape (parity_at self.now.streams.now h) }
     {
         if h % 2 == 0 {
@@ -91,18 +93,7 @@ impl<'a> Views<'a> {
     pub fn tail(&self, h: usize) -> Border
         ensures { result ≡ tail_border self.now.streams.now self.now.shape.k h }
     {
-        let k = self.shape.k();
-        let d0 = self.streams.d0.as_slice();
-        let d1 = self.streams.d1.as_slice();
-        let d2 = self.streams.d2.as_slice();
-        if h % 2 == 0 {
-            Border::tail([d0[k], d2[k], d1[k + 1]], [d1[k], d0[k + 1], d2[k + 1]])
-        } else {
-            Border::tail(
-                [d0[k + 2], d2[k + 2], d1[k + 3]],
-                [d1[k + 2], d0[k + 3], d2[k + 3]],
-            )
-        }
+        tail_of(self.streams, &self.shape, h)
     }
 
     /// The number of positions of a window.
@@ -118,7 +109,7 @@ impl<'a> Views<'a> {
         ensures value { result ≡ self.now.shape.windows }
         ensures whole { AreWhole self.now.shape }
     {
-        self.shape.k() / self.width()
+        self.shape.windows()
     }
 
     /// Window `t` of half `h` as a strip; `t` is below the number of windows, and there are K cells.
@@ -127,9 +118,12 @@ impl<'a> Views<'a> {
         requires cells { length cells.items ≡ self.now.shape.k }
         ensures whole { AreWhole self.now.shape }
         ensures cells { result.cells.items ≡ cells.items }
-        ensures places { result.places.now ≡ map (order self.now.shape.k h) (positions self.now.shape t) }
-        ensures systematic { result.systematic.now ≡ map (systematic_at self.now.streams.now self.now.shape.k h) (positions self.now.shape t) }
-        ensures parity { result.parity.now ≡ map (parity_at self.now.streams.now h) (positions self.now.shape t) }
+        ensures places { result.places.now
+            ≡ map (order self.now.shape.k h) (positions self.now.shape t) }
+        ensures systematic { result.systematic.now
+            ≡ map (systematic_at self.now.streams.now self.now.shape.k h) (positions self.now.shape t) }
+        ensures parity { result.parity.now
+            ≡ map (parity_at self.now.streams.now h) (positions self.now.shape t) }
     {
         let width = self.width();
         let from = t * width;

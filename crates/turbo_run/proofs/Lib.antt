@@ -1,10 +1,2 @@
 mod Refused
-mod Columns
-mod Walked
-mod Selected
-mod SmallPlan
-mod SmallBlock
-mod SameBuffer
-mod SmallCodeword
-mod OkAs
 mod CodewordSteps

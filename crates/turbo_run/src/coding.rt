@@ -3,12 +3,13 @@ ghost use Rattle.std.specs.Prelude.{◌≡◌, ◌≤◌, ◌<◌, ◌%◌, ℕ,
 ghost use Rattle.edge_io.specs.Edge.{Adds, HasCause, Rose};
 ghost use Rattle.turbo_run.specs.Codeword.{end_line, codeword_text};
 ghost use Rattle.turbo_run.specs.Coding.{IsCoded};
+ghost use Rattle.turbo_run.specs.Matching.{matching};
 
-use crate::codeword::codeword;
 use crate::payload::{Payload, take_payload};
 use edge_io::{Sink, SinkFault, Source, write_all};
 use itoa::Buffer;
 use lte_bits::{List, NoMemory, pack};
+use rate_match::{Buffer as SoftBuffer, Match, codeword};
 use run_loop::{Block, Round, Stop, Work};
 use std::alloc::{AllocError, Global};
 
@@ -32,15 +33,26 @@ impl Coding {
     }
 }
 
+/// The rate matching of a codeword of `g` bits.
+fn matching(g: u32) -> Match
+    requires least { 2 ≤ g }
+    requires even { g % 2 ≡ 0 }
+    requires small { g ≤ 1000000 }
+    ensures { result ≡ matching g }
+{
+    Match::new(2, 1, g, SoftBuffer::Full).unwrap()
+}
+
 /// The codeword as bytes.
 fn codeword_text(alloc: Global, payload: &[u8], g: u32) -> Result<List<u8>, NoMemory>
     requires some { 1 ≤ length payload.now }
     requires few { length payload.now ≤ 2 }
+    requires least { 2 ≤ g }
     requires even { g % 2 ≡ 0 }
     requires small { g ≤ 1000000 }
     ensures { IfOk result (λ text. text ≡ codeword_text g payload.now) }
 {
-    let bits = codeword(alloc, payload, g as usize, 0)?;
+    let bits = codeword(alloc, payload, &matching(g), 0)?;
     pack(alloc, bits.as_slice())
 }
 
@@ -59,6 +71,7 @@ fn end_line(alloc: Global, g: u32) -> Result<Vec<u8>, AllocError>
 fn coded(alloc: Global, payload: &[u8], g: u32) -> Result<Round, NoMemory>
     requires some { 1 ≤ length payload.now }
     requires few { length payload.now ≤ 2 }
+    requires least { 2 ≤ g }
     requires even { g % 2 ≡ 0 }
     requires small { g ≤ 1000000 }
     ensures { IfOk result (λ round. IsCoded g payload.now round.blocks.items round.stop) }

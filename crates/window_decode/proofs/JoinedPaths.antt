@@ -1,12 +1,12 @@
 -- Forward and backward metrics join at a position to the best scores, and at the ends they are the borders.
-use Rattle.std.proofs.Common.{◌≡◌, ℕ, suc, ◌+◌, List, [], ◌∷◌, ◌++◌, length, ℤ, ◌+ℤ◌, ◌-ℤ◌, ◌≤ℤ◌, refl, sym, ap, ◌∙◌, subst, arith, length-append}
+use Rattle.std.proofs.Common.{◌≡◌, ℕ, suc, ◌+◌, List, ◌∷◌, ◌++◌, length, ℤ, ◌+ℤ◌, ◌-ℤ◌, ◌≤ℤ◌, refl, sym, ap, ◌∙◌, subst, arith, length-append}
 use Rattle.std.proofs.lemmas.Int.{ints}
 use Rattle.lte_bits.specs.declared.bit.Bit.{Bit}
 use Rattle.sender_model.specs.Bits as bits
 use Rattle.sender_model.specs.ConstituentCoder.{State, next, parity}
 use Rattle.sender_model.specs.Tail.{reached}
 use Rattle.receiver_model.specs.Borders.{number_for, border_of, relative, at, if_zero}
-use Rattle.receiver_model.specs.Paths.{Window, width, Path, path, end_state, own, gain, earned, from_start, score_without, greatest, IsBest, IsBestFrom, best, best_to, best_from}
+use Rattle.receiver_model.specs.Paths.{Window, width, path, end_state, own_gain, gain, earned, score_without, greatest, IsBest, IsBestFrom, best, best_to, best_from}
 use Rattle.receiver_model.specs.Windows.{forward_left, backward_left}
 use Rattle.receiver_model.proofs.Maxima.{greatest_one}
 use Rattle.receiver_model.proofs.GreatestPaths.{best-is, best_to-is, best_from-is}
@@ -26,8 +26,8 @@ score-split w j s front b rest h =
     let z : 0 + j ≡ j = omega arith in
     let e : gain w (0 + j) t b +ℤ earned (gain w) (suc (0 + j)) (next t b) rest ≡ gain w j t b +ℤ earned (gain w) (suc j) (next t b) rest = ap (λ i. gain w i t b +ℤ earned (gain w) (suc i) (next t b) rest) z in
     let l : number_for w.end (reached s (front ++ b ∷ rest)) ≡ number_for w.end (reached (next t b) rest) = ap (number_for w.end) (reached-append s front (b ∷ rest)) in
-    let o : own w j (bits.at (front ++ b ∷ rest) j) ≡ own w j b = ap (own w j) (at-middle front rest b j h) in
-    by_sum (number_for w.start s) (earned (gain w) 0 s front) (own w j b) (if_zero (parity t b) (at w.par j)) (earned (gain w) (suc j) (next t b) rest)
+    let o : own_gain w j (bits.at (front ++ b ∷ rest) j) ≡ own_gain w j b = ap (own_gain w j) (at-middle front rest b j h) in
+    by_sum (number_for w.start s) (earned (gain w) 0 s front) (own_gain w j b) (if_zero (parity t b) (at w.par j)) (earned (gain w) (suc j) (next t b) rest)
     (number_for w.end (reached (next t b) rest)) _ _ _ (a ∙ ap (λ x. earned (gain w) 0 s front +ℤ x) e) l o
   where
     by_sum : (f g o p r l whole last own : ℤ) → whole ≡ g +ℤ ((o +ℤ p) +ℤ r) → last ≡ l → own ≡ o → ((f +ℤ whole) +ℤ last) -ℤ own ≡ (f +ℤ g) +ℤ p +ℤ (r +ℤ l)

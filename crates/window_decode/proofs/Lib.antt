@@ -7,3 +7,4 @@ pub mod JoinedPaths
 pub mod Spread
 pub mod WindowSteps
 pub mod WindowSweep
+pub mod WindowSpread

@@ -13,7 +13,7 @@ use Rattle.receiver_model.proofs.Maxima.{greatest_one}
 use Rattle.window_decode.proofs.ForwardMetrics.{forward-attained, forward_none, forward_more}
 use Rattle.window_decode.proofs.BackwardMetrics.{backward-attained, backward_none, backward_more}
 use Rattle.receiver_model.specs.Borders.{if_zero}
-use Rattle.receiver_model.specs.Paths.{Path, path, end_state, Gain, earned}
+use Rattle.receiver_model.specs.Paths.{path, Gain, earned}
 use Rattle.window_decode.specs.Recursions.{AreNear, step_gain, forward, backward}
 use Rattle.window_decode.specs.Metrics.{IsForward, IsBackward}
 use Rattle.window_decode.proofs.PathSteps.{reached-append, earned-append, earned-from_zero, Cut, cut}

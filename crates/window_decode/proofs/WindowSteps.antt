@@ -1,23 +1,21 @@
 -- One step of the sweeps over a window's positions.
-use Rattle.std.proofs.Common.{◌≡◌, ℕ, zero, suc, ◌+◌, ◌*◌, ◌-◌, ◌<◌, ◌≤◌, List, [], ◌∷◌, length, map, slice_index_or, ℤ, pos, ◌+ℤ◌, ◌-ℤ◌, refl, sym, ap, ◌∙◌, subst, arith}
-use Rattle.std.specs.List.{range_with_len}
-use Rattle.std.proofs.lemmas.Int.{ints}
+use Rattle.std.proofs.Common.{◌≡◌, ℕ, zero, suc, ◌+◌, ◌*◌, ◌≤◌, List, [], ◌∷◌, length, ℤ, ◌+ℤ◌, ◌-ℤ◌, refl, sym, ap, ◌∙◌, subst, arith}
 use Rattle.lte_bits.specs.Softs.{IsWithin}
 use Rattle.lte_bits.specs.declared.bit.Bit.{Bit}
 use Rattle.lte_bits.specs.declared.bit.Bit.TheVariants.{Zero, One}
 use Rattle.sender_model.specs.ConstituentCoder.{State, parity}
 use Rattle.rsc_trellis.specs.Steps.{state_before, input_before}
 use Rattle.receiver_model.specs.Borders.{Border, number_for, border_of, at}
-use Rattle.receiver_model.specs.Paths.{Window, width, Gain, gain, best}
-use Rattle.receiver_model.specs.Windows.{Extrinsic, values, cell_at, zero_cell, window_between, cell_from, new_cell}
-use Rattle.window_decode.specs.Recursions.{IsBounded, IsMetrics, AreNear, step_gain, forward, backward, through, cell_through}
+use Rattle.receiver_model.specs.Paths.{Window, Gain, gain, best}
+use Rattle.receiver_model.specs.Windows.{Extrinsic, values, cell_at, window_between, cell_from, new_cell}
+use Rattle.window_decode.specs.Recursions.{IsBounded, IsMetrics, step_gain, forward, backward, through, cell_through}
 use Rattle.window_decode.specs.Metrics.{IsForwardRow, IsBackwardRow, IsForward, IsBackward}
 use Rattle.window_decode.proofs.Within.{within-more, within-same, within-sum, within-if_zero}
 use Rattle.window_decode.proofs.EightStates.{number-border_of}
 use Rattle.window_decode.proofs.ForwardMetrics.{forward_none, forward_more, forward-same, forward-bounded}
 use Rattle.window_decode.proofs.BackwardMetrics.{backward_none, backward_more, backward-same, backward-bounded}
 use Rattle.window_decode.proofs.JoinedPaths.{joined-best}
-use Rattle.window_decode.proofs.Spread.{IsNarrow, narrow-step, forward-near, backward-near}
+use Rattle.window_decode.proofs.Spread.{IsNarrow, narrow-step}
 
 pub at-values : (cells : List Extrinsic) (j : ℕ) → at (values cells) j ≡ (cell_at cells j).value
 at-values [] j = refl

@@ -1,5 +1,5 @@
 -- The two sweeps over a window's positions: what stands after each position, and at the end.
-use Rattle.std.proofs.Common.{◌≡◌, ◌≢◌, ℕ, zero, suc, ◌+◌, ◌-◌, ◌*◌, ◌<◌, ◌≤◌, List, [], ◌∷◌, length, map, set, get_or, ℤ, pos, ◌+ℤ◌, ◌-ℤ◌, ◌≤ℤ◌, refl, sym, ap, ◌∙◌, subst, inl, inr, arith}
+use Rattle.std.proofs.Common.{◌≡◌, ◌≢◌, ℕ, suc, ◌+◌, ◌-◌, ◌<◌, ◌≤◌, List, [], length, map, set, get_or, ℤ, pos, ◌+ℤ◌, ◌≤ℤ◌, refl, sym, ap, ◌∙◌, subst, inl, inr, arith}
 use Rattle.std.proofs.lemmas.Bool.{cases_lt}
 use Rattle.std.proofs.lemmas.Int.{ints}
 use Rattle.std.proofs.lemmas.List.{get_or-set_same, get_or-set_other, get_or_read, length-set, length-map}
@@ -8,7 +8,7 @@ use Rattle.std.specs.List.{range_with_len}
 use Rattle.lte_bits.specs.Softs.{IsWithin}
 use Rattle.receiver_model.specs.Borders.{Border, number_for, relative, at}
 use Rattle.receiver_model.specs.Paths.{Window, Gain, gain, width}
-use Rattle.receiver_model.specs.Windows.{Extrinsic, values, cell_at, zero_cell, window_between, new_cell, new_cells, forward_left, backward_left}
+use Rattle.receiver_model.specs.Windows.{Extrinsic, cell_at, zero_cell, window_between, new_cell, new_cells, forward_left, backward_left}
 use Rattle.window_decode.specs.Recursions.{AreNear, cell_through}
 use Rattle.window_decode.specs.Metrics.{IsForwardRow, IsBackwardRow, IsForward, IsBackward, row_at}
 use Rattle.window_decode.proofs.WindowSteps.{Earns, earns, cell-joined}

@@ -10,12 +10,14 @@ use Rattle.window_decode.specs.Recursions.{IsBounded}
 -- m has for each state the greatest number of a path of j bits that ends in it
 abbrev pub IsForward : (State → ℤ) → Gain → ℕ → (State → ℤ) → Type 0
 IsForward first g j m =
-    (s : State) → IsGreatest (λ (p : Path). (length p.bits ≡ j) × (end_state p ≡ s)) (λ p. first p.start +ℤ earned g 0 p.start p.bits) (m s)
+    (s : State) → IsGreatest (λ (p : Path). (length p.bits ≡ j) × (end_state p ≡ s))
+    (λ p. first p.start +ℤ earned g 0 p.start p.bits) (m s)
 
 -- m has for each state the greatest number of n bits from it, from position j on
 abbrev pub IsBackward : (State → ℤ) → Gain → ℕ → ℕ → (State → ℤ) → Type 0
 IsBackward last g j n m =
-    (s : State) → IsGreatest (λ (us : List Bit). length us ≡ n) (λ us. earned g j s us +ℤ last (reached s us)) (m s)
+    (s : State) → IsGreatest (λ (us : List Bit). length us ≡ n)
+    (λ us. earned g j s us +ℤ last (reached s us)) (m s)
 
 -- the forward metrics before position j, from a start border
 pub record IsForwardRow (start : Border) (g : Gain) (j : ℕ) (row : List ℤ) : Type 0 where

@@ -45,8 +45,8 @@ backward m g s = int_max (way_out m g s Zero) (way_out m g s One)
 abbrev pub joined : (State → ℤ) → (State → ℤ) → ℤ → Bit → State → ℤ
 joined m k p b s = m s +ℤ if_zero (parity s b) p +ℤ k (next s b)
 
--- the greatest of these, and the cell that they give at a position with systematic value s, parity value p and
--- old cell c
+-- the greatest of these, and the cell that they give at a position with systematic value s, parity value p
+-- and old cell c
 abbrev pub through : List ℤ → List ℤ → ℤ → Bit → ℤ
 through before after p b = greatest (border_of (joined (number_for before) (number_for after) p b))
 

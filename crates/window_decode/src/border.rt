@@ -7,6 +7,7 @@ ghost use Rattle.lte_bits.specs.Softs.{IsWithin};
 ghost use Rattle.window_decode.specs.Recursions.{IsMetrics, AreNear};
 
 use crate::per_state::{PerState, number_of, numbers};
+use crate::step::if_zero;
 use lte_bits::{Bit, Soft};
 use rsc_trellis::{State, tail_path};
 use std::marker::Model;
@@ -128,10 +129,7 @@ fn earned(bit: Bit, value: Soft) -> i64
     ensures value { result ≡ if_zero bit value }
     ensures range { IsWithin 127 result }
 {
-    match bit {
-        Bit::Zero => i64::from(value.value()),
-        Bit::One => 0,
-    }
+    if_zero(bit, i64::from(value.value()))
 }
 
 impl PerState for Tail {

@@ -3,6 +3,7 @@
 
 pub mod border;
 pub mod ext;
+pub mod metrics;
 mod per_state;
 mod recursion;
 pub mod shape;
@@ -18,6 +19,3 @@ pub use shape::Shape;
 pub use strip::Strip;
 pub use window::run_window;
 pub use work::Work;
-
-#[cfg(test)]
-mod tests;

@@ -73,28 +73,32 @@ impl Shape {
 
     /// The number of fillers.
     pub fn f(&self) -> usize
-        ensures { result ≡ self.now.f }
+        ensures value { result ≡ self.now.f }
+        ensures lawful { IsShape self.now }
     {
         self.f
     }
 
     /// The check that the code block carries.
     pub fn kind(&self) -> CheckKind
-        ensures { result ≡ self.now.kind }
+        ensures value { result ≡ self.now.kind }
+        ensures lawful { IsShape self.now }
     {
         self.kind
     }
 
     /// The number of windows of a half iteration.
     pub fn windows(&self) -> usize
-        ensures { result ≡ self.now.windows }
+        ensures value { result ≡ self.now.windows }
+        ensures lawful { IsShape self.now }
     {
         self.windows
     }
 
     /// The greatest number of iterations.
     pub fn limit(&self) -> usize
-        ensures { result ≡ self.now.limit }
+        ensures value { result ≡ self.now.limit }
+        ensures lawful { IsShape self.now }
     {
         self.limit
     }

@@ -8,8 +8,8 @@ ghost use Rattle.window_decode.specs.Recursions.{step_gain};
 use lte_bits::Bit;
 use rsc_trellis::{State, parity};
 
-/// A value where the bit is 0.
-fn if_zero(bit: Bit, value: i64) -> i64
+/// A value where the bit is 0, and else 0.
+pub(crate) fn if_zero(bit: Bit, value: i64) -> i64
     ensures { result ≡ if_zero bit value }
 {
     match bit {

@@ -5,8 +5,8 @@ use Rattle.sender_model.specs.Interleaver.{sizes}
 use Rattle.sender_model.proofs.SizeTable.{size_6144}
 use Rattle.encode_speed.proofs.measure.encode_for.Goals as goal
 
-pub encode-requires-clause-size : goal.encode-requires-clause-size
-encode-requires-clause-size c = subst (λ (k : ℕ). Contains sizes k) (sym c.in_ok-block.ensures.size) size_6144
+pub encode-requires : goal.encode-requires
+encode-requires c = subst (λ (k : ℕ). Contains sizes k) (sym c.in_ok-block.ensures.size) size_6144
 
 pub returns-then-ge : goal.returns-then-ge
 returns-then-ge c = c.in_ok-streams.ensures ∙ ap (λ (b : Block). streams b) c.in_ok-block.ensures.block

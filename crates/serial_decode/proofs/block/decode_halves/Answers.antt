@@ -1,37 +1,15 @@
-use Rattle.std.proofs.Common.{◌≡◌, ℕ, suc, ◌+◌, ◌-◌, ◌*◌, ◌<◌, ◌≤◌, Bool, true, false, List, length, take, drop, ◌++◌, refl, sym, ap, ◌∙◌, arith, inl, inr, rules}
-use Rattle.std.proofs.lemmas.Bool.{cases_eq}
+use Rattle.std.proofs.Common.{◌≡◌, ◌+◌, ◌-◌, true, false, List, length, take, drop, ◌++◌, refl, sym, ap, ◌∙◌, arith, rules}
 use Rattle.lte_bits.specs.declared.bit.Bit.{Bit}
-use Rattle.lte_bits.specs.declared.block.SoftStreams.{SoftStreams}
-use Rattle.receiver_model.specs.HalfIteration.{Shape, Before, after}
-use Rattle.receiver_model.specs.Decoding.{before, decided_bits, decided_in, checks, generator}
+use Rattle.receiver_model.specs.Decoding.{decided_in, check_holds}
 use Rattle.serial_decode.proofs.Parts.{written}
-use Rattle.serial_decode.proofs.Stopping.{before-none, iteration-more, before-iteration, check-is, decode-passed, decode-failed, FailBefore}
+use Rattle.serial_decode.proofs.Stopping.{before-none, before-iteration, left-by_iteration, decided-by_iteration, fail-more, check-is, decode-passed, decode-failed}
 use Rattle.serial_decode.proofs.block.decode_halves.Goals as goal
-
--- what an iteration leaves, where the decoder's own block and shape are those of the call
-left-by_iteration : (own soft : SoftStreams) (numbers shape : Shape) (n : ℕ) (b r : Before) → own ≡ soft → numbers ≡ shape → 1 ≤ n
-    → b ≡ before soft shape (2 * (n - 1)) → r ≡ after own numbers (2 * n - 1) (after own numbers (2 * n - 2) b) → r ≡ before soft shape (suc (2 * n - 1))
-left-by_iteration own soft numbers shape n b r es en some eb er =
-    er ∙ (ap (λ x. after x numbers (2 * n - 1) (after x numbers (2 * n - 2) b)) es
-    ∙ (ap (λ x. after soft x (2 * n - 1) (after soft x (2 * n - 2) b)) en ∙ iteration-more soft shape n b some eb))
-
-decided-by_iteration : (soft : SoftStreams) (numbers shape : Shape) (n : ℕ) (r : Before) (bits : List Bit) → numbers ≡ shape
-    → r ≡ before soft shape (suc (2 * n - 1)) → bits ≡ decided_bits numbers.f r.cells → bits ≡ decided_in soft shape n
-decided-by_iteration soft numbers shape n r bits en er eb =
-    eb ∙ (ap (λ (x : Shape). decided_bits x.f r.cells) en ∙ ap (λ (x : Before). decided_bits shape.f x.cells) er)
-
-fail-more : (soft : SoftStreams) (shape : Shape) (n : ℕ) → FailBefore soft shape n → checks shape.kind (decided_in soft shape n) ≡ false → FailBefore soft shape (n + 1)
-fail-more soft shape n before here m some lt =
-    elim (cases_eq m n) [
-      | inl e ↦ ap (λ (k : ℕ). checks shape.kind (decided_in soft shape k)) e ∙ here
-      | inr ne ↦ before m some (omega (arith, ne))
-    ]
 
 pub loop-n-init : goal.loop-n-init
 loop-n-init g c =
     let soft = g.H.HalfDecoder.streams c.args.decoder in let shape = c.args.shape.now in
     record {
-      end = omega (arith, c.limit-n-end.ensures);
+      end = omega (arith, c.limit-n-end.ensures.value);
       some = omega arith;
       streams = refl;
       shape = c.requires.shape;
@@ -51,9 +29,9 @@ loop-n-preserved g c =
     let decided = decided-by_iteration soft (g.H.HalfDecoder.shape r) shape l.n (g.H.HalfDecoder.before r) c.decide.new.bits (it.shape ∙ inv.shape) stands c.decide.ensures in
     let long : length c.decide.new.bits ≡ length l.bits.items = c.decide.auto.bits ∙ ap length c.as_mut_slice.ensures.value in
     let wrote = written l.bits.len c.decide.new.bits l.bits.items (long ∙ sym l.bits.ok.0) in
-    let fails : checks shape.kind (decided_in soft shape l.n) ≡ false =
-    ap (λ k. checks k (decided_in soft shape l.n)) (sym c.kind.ensures)
-    ∙ (ap (checks c.kind.result) (sym (c.as_slice.ensures.value ∙ (wrote ∙ decided)))
+    let fails : check_holds shape.kind (decided_in soft shape l.n) ≡ false =
+    ap (λ k. check_holds k (decided_in soft shape l.n)) (sym c.kind.ensures.value)
+    ∙ (ap (check_holds c.kind.result) (sym (c.as_slice.ensures.value ∙ (wrote ∙ decided)))
     ∙ (check-is c.holds.result c.kind.result c.as_slice.result.now c.holds.ensures ∙ c.if-holds.false)) in
     record {
       end = inv.end;
@@ -77,12 +55,12 @@ returns-then-holds g c =
     let long : length c.decide.new.bits ≡ length l.bits.items = c.decide.auto.bits ∙ ap length c.as_mut_slice.ensures.value in
     let wrote = written l.bits.len c.decide.new.bits l.bits.items (long ∙ sym l.bits.ok.0) in
     let bits : List Bit = take l.bits.len (c.decide.new.bits ++ drop (length c.decide.new.bits) l.bits.items) in
-    let passes : checks shape.kind bits ≡ true =
-    ap (λ k. checks k bits) (sym c.kind.ensures)
-    ∙ (ap (checks c.kind.result) (sym c.as_slice.ensures.value)
+    let passes : check_holds shape.kind bits ≡ true =
+    ap (λ k. check_holds k bits) (sym c.kind.ensures.value)
+    ∙ (ap (check_holds c.kind.result) (sym c.as_slice.ensures.value)
     ∙ (check-is c.holds.result c.kind.result c.as_slice.result.now c.holds.ensures ∙ c.if-holds.true)) in
     c.result_in.ensures
-    ∙ decode-passed soft shape c.f-fill.result l.n bits c.f-fill.ensures inv.some (omega (arith, inv.end, c.loop-n-test.true, c.limit-n-end.ensures))
+    ∙ decode-passed soft shape c.f-fill.result l.n bits c.f-fill.ensures.value inv.some (omega (arith, inv.end, c.loop-n-test.true, c.limit-n-end.ensures.value))
     (wrote ∙ decided) passes inv.failed
 
 pub returns : goal.returns
@@ -90,8 +68,8 @@ returns g c =
     let soft = g.H.HalfDecoder.streams c.args.decoder in let shape = c.args.shape.now in
     let l = c.loop-n in let inv = l.invariant in
     let some = c.k.ensures.lawful.some_iterations in
-    let past : l.n ≡ shape.limit + 1 = omega (arith, inv.end, c.loop-n-test.false, l.auto.n-end, some, c.limit-n-end.ensures) in
+    let past : l.n ≡ shape.limit + 1 = omega (arith, inv.end, c.loop-n-test.false, l.auto.n-end, some, c.limit-n-end.ensures.value) in
     c.result_in-2.ensures
-    ∙ decode-failed soft shape c.f-fill.result c.limit.result l.bits.items c.f-fill.ensures (omega (arith, some, c.limit.ensures)) c.limit.ensures
-    (inv.last (omega (arith, past, some)) ∙ ap (decided_in soft shape) (let e : l.n - 1 ≡ c.limit.result = omega (arith, past, c.limit.ensures) in e))
-    (λ m least lt. inv.failed m least (omega (arith, past, lt, c.limit.ensures)))
+    ∙ decode-failed soft shape c.f-fill.result c.limit.result l.bits.items c.f-fill.ensures.value (omega (arith, some, c.limit.ensures.value)) c.limit.ensures.value
+    (inv.last (omega (arith, past, some)) ∙ ap (decided_in soft shape) (let e : l.n - 1 ≡ c.limit.result = omega (arith, past, c.limit.ensures.value) in e))
+    (λ m least lt. inv.failed m least (omega (arith, past, lt, c.limit.ensures.value)))

@@ -1,11 +1,8 @@
-use Rattle.std.proofs.Common.{◌≡◌, ℕ, ◌*◌, ◌≤◌, ◌<◌, List, length, map, sym, ap, ◌∙◌, arith}
+use Rattle.std.proofs.Common.{ap, ◌∙◌, arith}
 use Rattle.std.proofs.lemmas.List.{length-map}
-use Rattle.receiver_model.specs.Paths.{Window}
-use Rattle.receiver_model.specs.Windows.{Extrinsic, cell_at, new_cells, forward_left, backward_left}
-use Rattle.receiver_model.specs.HalfIteration.{order, window_width}
+use Rattle.receiver_model.specs.Windows.{cell_at, new_cells, forward_left, backward_left}
+use Rattle.receiver_model.specs.HalfIteration.{order}
 use Rattle.serial_decode.specs.Strips.{elsewhere}
-use Rattle.serial_decode.specs.Runs.{left_of}
-use Rattle.serial_decode.specs.Views.{AreWhole}
 use Rattle.serial_decode.proofs.StripParts.{length-part}
 use Rattle.serial_decode.proofs.WindowRuns.{strip_window-is, replaced}
 use Rattle.serial_decode.proofs.window.decode_window.Goals as goal

@@ -2,7 +2,6 @@ use Rattle.std.proofs.Common.{◌≡◌, ℤ, pos, ◌-ℤ◌, ◌≤ℤ◌, Fit
 use Rattle.std.proofs.lemmas.Int.{ints}
 use Rattle.lte_bits.specs.Softs.{IsWithin}
 use Rattle.sender_model.specs.ConstituentCoder.{zero_state}
-use Rattle.receiver_model.specs.Borders.{number_for}
 use Rattle.window_decode.proofs.border.above_zero.Goals as goal
 
 fits : (a b u v : ℤ) → a ≡ u → b ≡ v → IsWithin 10000000 u → IsWithin 10000000 v → FitsSigned w64 (to_z w64 (of_z w64 a) -ℤ to_z w64 (of_z w64 b))

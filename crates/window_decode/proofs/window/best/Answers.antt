@@ -1,4 +1,4 @@
-use Rattle.std.proofs.Common.{◌≡◌, ◌∙◌, arith}
+use Rattle.std.proofs.Common.{arith}
 use Rattle.window_decode.proofs.Within.{within-same, within-more, passed}
 use Rattle.window_decode.proofs.EightStates.{bounded_from, greatest-within}
 use Rattle.window_decode.proofs.window.best.Goals as goal

@@ -1,9 +1,6 @@
-use Rattle.std.proofs.Common.{◌≡◌, ℕ, suc, ◌+◌, ◌-◌, ◌<◌, ◌≤◌, length, refl, sym, ap, ◌∙◌, subst, arith}
+use Rattle.std.proofs.Common.{◌≡◌, ℕ, suc, ◌+◌, ◌-◌, ◌<◌, length, refl, ◌∙◌, arith}
 use Rattle.std.proofs.lemmas.List.{length-set}
-use Rattle.receiver_model.specs.Paths.{Gain, gain}
-use Rattle.receiver_model.specs.Windows.{Extrinsic, window_between}
-use Rattle.window_decode.specs.Recursions.{IsMetrics}
-use Rattle.window_decode.proofs.WindowSteps.{Earns, earns, narrow, forward_first, forward-row, backward_first, backward-row, forward-metrics, backward-metrics}
+use Rattle.window_decode.proofs.WindowSteps.{earns, narrow, forward_first, forward-row, backward_first, backward-row, forward-metrics, backward-metrics}
 use Rattle.window_decode.proofs.WindowSweep.{narrow-more, rows-more, renewed_none, renewed_set, row_read, renewed_all, earns_still, cell_still, forward_at, backward_at, forward_row-near, backward_row-near, width-between}
 use Rattle.window_decode.proofs.window.sweep.Goals as goal
 

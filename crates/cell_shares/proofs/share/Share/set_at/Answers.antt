@@ -2,15 +2,11 @@ use Rattle.std.proofs.Common.{ℕ, ◌≡◌, ◌<◌, ◌+◌, ◌∙◌, sym, 
 use Rattle.cell_shares.specs.Orders.{place_in}
 use Rattle.cell_shares.specs.Parts.{IsCell, places, values}
 use Rattle.cell_shares.proofs.Changed.{changed-values, changed-places}
-use Rattle.cell_shares.proofs.Positions.{cell_here, place_is, place_below}
+use Rattle.cell_shares.proofs.Positions.{at_place}
 use Rattle.cell_shares.proofs.share.Share.set_at.Goals as goal
 
 pub set-requires : goal.set-requires
-set-requires g c =
-    let s = c.args.self.now in let at = c.requires.place ∙ place_is s c.args.j c.requires.cell in (
-      subst (λ (n : ℕ). n < s.part.count) (sym at) (subst (λ (n : ℕ). place_in s.split.order (s.first + c.args.j) < n) s.counted (place_below s c.args.j c.requires.cell)),
-      subst (λ (n : ℕ). (x : _) × IsCell s.part.cells c.args.j n x) (sym at) (cell_here s c.args.j c.requires.cell),
-    )
+set-requires g c = at_place c.args.self.now c.args.j c.requires.cell c.args.place c.requires.place
 
 pub invariant_of-self : goal.invariant_of-self
 invariant_of-self g c =

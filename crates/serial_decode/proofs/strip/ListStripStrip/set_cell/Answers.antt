@@ -1,4 +1,4 @@
-use Rattle.std.proofs.Common.{ℕ, List, set, ap, ◌∙◌}
+use Rattle.std.proofs.Common.{ℕ, set, ap, ◌∙◌}
 use Rattle.std.proofs.lemmas.List.{length-map}
 use Rattle.serial_decode.specs.Strips.{cells_at, elsewhere}
 use Rattle.serial_decode.proofs.StripCells.{write-in_window, write-elsewhere}

@@ -1,6 +1,6 @@
-use Rattle.std.proofs.Common.{◌≡◌, ℕ, ◌<◌, ◌≤◌, ◌+◌, List, length, get_or, map, sym, ap, ◌∙◌, subst, arith, Contains}
+use Rattle.std.proofs.Common.{◌≡◌, ℕ, ◌+◌, length, map, ap, ◌∙◌, arith}
 use Rattle.std.specs.List.{range_with_len}
-use Rattle.sender_model.specs.Interleaver.{place, sizes}
+use Rattle.sender_model.specs.Interleaver.{place}
 use Rattle.sender_model.proofs.RowLaws.{range-of_size}
 use Rattle.receiver_model.specs.Borders.{at}
 use Rattle.serial_decode.specs.Views.{by_position}

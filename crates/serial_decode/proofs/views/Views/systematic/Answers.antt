@@ -1,4 +1,3 @@
-use Rattle.std.proofs.Common.{ℕ, List, take, ap, ◌∙◌}
 use Rattle.serial_decode.proofs.ReadingOrder.{systematic-even}
 use Rattle.serial_decode.proofs.views.Views.systematic.Goals as goal
 

@@ -1,6 +1,6 @@
 use Rattle.std.proofs.Common.{ℤ, pos, negsuc, ◌-ℤ◌, ◌≤ℤ◌, Bool, true, false, arith}
 use Rattle.std.proofs.lemmas.Int.{ints}
-use Rattle.sender_model.specs.ConstituentCoder.{State, zero_state}
+use Rattle.sender_model.specs.ConstituentCoder.{zero_state}
 use Rattle.receiver_model.specs.Paths.{same_state}
 use Rattle.window_decode.proofs.EightStates.{border_from}
 use Rattle.window_decode.proofs.border.Border.known.Goals as goal

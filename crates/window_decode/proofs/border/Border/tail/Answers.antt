@@ -1,4 +1,4 @@
-use Rattle.std.proofs.Common.{◌≡◌, arith}
+use Rattle.std.proofs.Common.{arith}
 use Rattle.window_decode.proofs.EightStates.{metrics_from, near_from}
 use Rattle.window_decode.proofs.border.Border.tail.Goals as goal
 

@@ -1,10 +1,9 @@
-use Rattle.std.proofs.Common.{◌≡◌, ℕ, ℤ, ◌+ℤ◌, List, [], ◌∷◌, length, map, get_or, ap, ◌∙◌, to_z, of_z, w64, arith}
+use Rattle.std.proofs.Common.{◌≡◌, ℤ, ◌+ℤ◌, List, [], ◌∷◌, length, map, get_or, ap, ◌∙◌, to_z, of_z, w64, arith}
 use Rattle.std.proofs.lemmas.Int.{ints}
 use Rattle.lte_bits.specs.Softs.{IsWithin}
 use Rattle.lte_bits.specs.declared.bit.Bit.{Bit}
 use Rattle.lte_bits.specs.declared.bit.Bit.TheVariants.{Zero}
-use Rattle.sender_model.specs.Tail.{tail_input, tail_parity}
-use Rattle.receiver_model.specs.Borders.{at, if_zero, tail_step}
+use Rattle.receiver_model.specs.Borders.{if_zero, tail_step}
 use Rattle.window_decode.proofs.border.TailPerState.at.Goals as goal
 
 -- three elements that are read one by one

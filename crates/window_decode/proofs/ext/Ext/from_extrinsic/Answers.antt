@@ -1,5 +1,5 @@
-use Rattle.std.proofs.Common.{◌≡◌, ℤ, pos, negsuc, ◌+ℤ◌, ◌*ℤ◌, ap, ◌∙◌, sym, Bool, FitsSigned, to_z, of_z, w16, w64, arith}
-use Rattle.std.specs.Prelude.{int_div, int_lt, ◌<ℤ◌}
+use Rattle.std.proofs.Common.{◌≡◌, ℤ, pos, negsuc, ◌+ℤ◌, ◌*ℤ◌, ap, ◌∙◌, Bool, FitsSigned, to_z, of_z, w16, w64, arith}
+use Rattle.std.specs.Prelude.{int_div, int_lt}
 use Rattle.std.specs.Int.{int_max, int_min}
 use Rattle.std.proofs.lemmas.Int.{ints, clamps, quot_fits, to_z-of_z}
 use Rattle.lte_bits.specs.Softs.{IsWithin, clamped}

@@ -1,4 +1,4 @@
-use Rattle.std.proofs.Common.{◌≡◌, arith}
+use Rattle.std.proofs.Common.{arith}
 use Rattle.window_decode.proofs.Within.{within-same, summed-within}
 use Rattle.window_decode.proofs.recursion.Backward.way_out.Goals as goal
 

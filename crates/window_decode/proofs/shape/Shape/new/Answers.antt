@@ -1,4 +1,4 @@
-use Rattle.std.proofs.Common.{◌≡◌, ℕ, ◌*◌, ◌%◌, ◌<◌, ◌≤◌, false, true, arith}
+use Rattle.std.proofs.Common.{◌≡◌, false, true, arith}
 use Rattle.std.proofs.lemmas.Nat.Gcd.{mod-eq-zero_of_dvd}
 use Rattle.window_decode.proofs.shape.Shape.new.Goals as goal
 use Rattle.window_decode.proofs.shape.Shape.new.Goals.{then-k-windows-ne0-via-then-k-windows-ne0, then-k-windows-ne0-via-else-k-windows-ne0+then-windows-k}

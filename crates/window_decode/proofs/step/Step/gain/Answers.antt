@@ -1,4 +1,4 @@
-use Rattle.std.proofs.Common.{◌≡◌, ap, ◌∙◌, arith}
+use Rattle.std.proofs.Common.{ap, ◌∙◌, arith}
 use Rattle.lte_bits.specs.Softs.{IsWithin}
 use Rattle.receiver_model.specs.Borders.{if_zero}
 use Rattle.window_decode.proofs.Within.{within-if_zero, within-same, within-more, within-sum, passed, summed}
