@@ -76,7 +76,7 @@ fn push_bits(
     requires some { 0 < length (bits_from (holds_bit ring.k ring.fill) start ring.size) }
     ensures { OnOk result (bits.new.items ≡ bits.old.items
         ++ map (λ n. bit_of_cell (w ring.k ring.fill streams.now n))
-            (repeated (bits_from (holds_bit ring.k ring.fill) start ring.size) count)) }
+        (repeated (bits_from (holds_bit ring.k ring.fill) start ring.size) count)) }
 {
     let mut cursor = Cursor::at(ring, start % ring.size);
     let mut left = count;
@@ -117,7 +117,13 @@ pub(crate) fn push_piece(
         rows: rows_of(k),
         size,
     };
-    push_bits(bits, streams, ring, start(k, size, rv), piece_len(m, plan, r))
+    push_bits(
+        bits,
+        streams,
+        ring,
+        start(k, size, rv),
+        piece_len(m, plan, r),
+    )
 }
 
 /// The E_r bits that redundancy version `rv` sends of block `r`, whose coded streams these are: of
