@@ -6,7 +6,7 @@ use Rattle.sender_model.specs.CircularBuffer.{AreStreams}
 use Rattle.sender_model.specs.Segmentation.{Plan, plan_of, size, fill}
 use Rattle.rate_match.proofs.BlockNumbers.{block-numbers}
 use Rattle.rate_match.proofs.BlockStreams.{block-streams, shape-count}
-use Rattle.sender_tests.proofs.matching.selections_are_the_codeword_of_an_independent_encoder.Goals as goal
+use Rattle.sender_tests.proofs.codewords.selections_are_the_codeword_of_an_independent_encoder.Goals as goal
 
 pub select-requires-clause-streams : goal.select-requires-clause-streams
 select-requires-clause-streams g c =
