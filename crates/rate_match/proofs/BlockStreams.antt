@@ -1,5 +1,5 @@
 -- The streams of a transport block's code blocks.
-use Rattle.std.proofs.Common.{◌≡◌, ℕ, ◌+◌, ◌<◌, ◌≤◌, List, [], ◌∷◌, ◌++◌, length, map, get_or, flat_map, Contains, refl, sym, ap, subst, ◌∙◌, arith}
+use Rattle.std.proofs.Common.{◌≡◌, ℕ, ◌+◌, ◌<◌, List, [], ◌∷◌, ◌++◌, length, map, get_or, flat_map, Contains, sym, ap, subst, ◌∙◌, arith}
 use Rattle.std.specs.List.{range_with_len}
 use Rattle.std.proofs.lemmas.List.FromFn.{get_or-map-range_with_len, length-map-range_with_len}
 use Rattle.std.proofs.Math.ListN.{get_or-map}
@@ -7,9 +7,8 @@ use Rattle.std.proofs.lemmas.Grind.{flat_map-append}
 use Rattle.std.proofs.lemmas.List.{append-nil, length-map}
 use Rattle.rate_match.proofs.Walked.{range-split}
 use Rattle.lte_bits.specs.declared.block.Block.{Block}
-use Rattle.lte_bits.specs.declared.block.Streams.{Streams}
 use Rattle.sender_model.specs.Interleaver.{sizes}
-use Rattle.sender_model.specs.Segmentation.{Plan, plan_of, size, fill}
+use Rattle.sender_model.specs.Segmentation.{Plan, size, fill}
 use Rattle.sender_model.specs.CodeBlocks.{block, blocks}
 use Rattle.sender_model.specs.CodedStreams.{streams}
 use Rattle.sender_model.specs.CircularBuffer.{AreStreams}

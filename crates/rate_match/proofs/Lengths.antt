@@ -1,10 +1,9 @@
 -- How many bits are sent.
-use Rattle.std.proofs.Common.{◌≡◌, ℕ, ◌%◌, ◌≤◌, List, length, map, slice_index, ap, ◌∙◌}
-use Rattle.std.specs.List.{range_with_len, sum_by, flat_map}
+use Rattle.std.proofs.Common.{◌≡◌, ℕ, ◌%◌, ◌≤◌, List, length, slice_index, ap, ◌∙◌}
+use Rattle.std.specs.List.{range_with_len, sum_by}
 use Rattle.std.proofs.lemmas.List.{length-map}
 use Rattle.std.proofs.lemmas.List.Concat.{length-flat_map}
 use Rattle.std.proofs.lemmas.List.FromFn.{length-map-range_with_len}
-use Rattle.lte_bits.specs.declared.bit.Bit.{Bit}
 use Rattle.lte_bits.specs.declared.block.Streams.{Streams}
 use Rattle.sender_model.specs.Segmentation.{Plan, size, fill}
 use Rattle.sender_model.specs.CodeBlocks.{block}

@@ -1,4 +1,4 @@
-use Rattle.std.proofs.Common.{◌≡◌, ℕ, ◌+◌, ◌<◌, ◌≤◌, List, ◌++◌, length, flat_map, get_or, subst, sym, ap, ◌∙◌, arith}
+use Rattle.std.proofs.Common.{◌≡◌, ℕ, ◌<◌, ◌≤◌, List, ◌++◌, length, flat_map, get_or, subst, sym, ap, ◌∙◌, arith}
 use Rattle.std.specs.List.{range_with_len}
 use Rattle.lte_bits.specs.declared.bit.Bit.{Bit}
 use Rattle.lte_bits.specs.declared.block.Block.{Block}
@@ -7,12 +7,12 @@ use Rattle.segmentation.specs.Shape.{AreBlocksOf}
 use Rattle.sender_model.specs.Segmentation.{Plan, plan_of, size, fill}
 use Rattle.sender_model.specs.CodeBlocks.{block, blocks}
 use Rattle.sender_model.specs.CodedStreams.{streams}
-use Rattle.sender_model.specs.CircularBuffer.{AreStreams, Fits, Match}
+use Rattle.sender_model.specs.CircularBuffer.{AreStreams}
 use Rattle.sender_model.specs.Selection.{sent}
 use Rattle.sender_model.specs.Codeword.{codeword}
 use Rattle.sender_model.proofs.PlanLaws.{plan-sound}
 use Rattle.rate_match.proofs.Lengths.{codeword-long}
-use Rattle.rate_match.proofs.BlockNumbers.{IsBlockOf, block-numbers}
+use Rattle.rate_match.proofs.BlockNumbers.{block-numbers}
 use Rattle.rate_match.proofs.BlockStreams.{IsCoded, block-coded, blocks-count, flat_map-more}
 use Rattle.rate_match.proofs.codewords.codeword.Goals as goal
 
