@@ -1,17 +1,21 @@
+mod Alone
 mod Changed
 mod Dealing
-mod FreeRights
+pub mod Dealt
 mod Gathering
+pub mod Labels
+mod Leases
 mod Lent
 mod Names
-mod Nones
-mod Numbers
+pub mod Nones
+pub mod Numbers
 mod OneCell
 mod Owns
-mod Parts
 mod Placed
 mod Positions
-mod Rows
+mod RawRows
+mod Reach
+mod Sites
 mod Shuffles
 mod Told
-mod Undone
+pub mod Undone

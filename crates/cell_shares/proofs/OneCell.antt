@@ -1,5 +1,5 @@
 -- One cell comes out of those that a part owns, and goes back with another value. Assumes `Logic`.
-use Rattle.cell_shares.proofs.Names.{◌≡◌, ℕ, zero, suc, ◌+◌, ◌*◌, List, [], ◌∷◌, refl, sym, ap, subst, ◌∙◌, arith, Ura, full_share, SProp, ent, sep, Fml, ftrue, fsep, fat, froom, Val, Logic, sem, ‵, ◌⊛◌, some, given, ◌$◌, ◌∵◌, !, qed, by, done, move, keep, split, join, pick, learn, rewrite, fsplit, fjoin, frame, use1, use2, RattleType, Ptr, block_ptr, lies_at, ◌+ₚ◌, part_at}
+use Rattle.cell_shares.proofs.Names.{◌≡◌, ℕ, zero, suc, ◌+◌, ◌*◌, List, [], ◌∷◌, refl, sym, arith, Ura, full_share, ent, sep, Fml, fsep, fat, froom, Val, Logic, sem, ‵, ◌⊛◌, some, given, ◌$◌, ◌∵◌, !, qed, by, done, move, keep, split, pick, learn, rewrite, fsplit, fjoin, use1, use2, RattleType, Ptr, block_ptr, lies_at, ◌+ₚ◌, part_at}
 use Rattle.core.proofs.mem.Param.{El, R, elτ, Good}
 use Rattle.core.proofs.slice.Rows.{el_out, el_in}
 use Rattle.core.specs.Mem.Slots.Ownership.{bytes_of}

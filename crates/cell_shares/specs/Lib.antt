@@ -1,3 +1,4 @@
+pub mod Buffers
 pub mod Deal
 pub mod Orders
 pub mod Ownership

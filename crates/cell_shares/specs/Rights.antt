@@ -12,4 +12,5 @@ IsRightTo p n heap r = (lease_ptr r.lease ≡ p) × (lease_len r.lease ≡ n) ×
 
 -- share 0 alone holds it
 abbrev pub HoldsRight : {X : Type 0} → Option (FreeRight X) → Ptr → ℕ → Global → ℕ → Type 0
-HoldsRight right p n heap number = ForSome right (λ r. (number ≡ 0) × IsRightTo p n heap r) × ForNone right (number ≢ 0)
+HoldsRight right p n heap number =
+    ForSome right (λ r. (number ≡ 0) × IsRightTo p n heap r) × ForNone right (number ≢ 0)

@@ -38,7 +38,10 @@ pub struct Cells<T: Copy> {
 /// Puts a value into each place of an empty row.
 fn fill<T: Copy>(row: &mut Slots<T>, values: &[T])
     requires { slots_len row.old ≡ length values.now }
-    ensures { IsFull row.new × (slots_items row.new ≡ values.now) × (slots_ptr row.new ≡ slots_ptr row.old) × (slots_len row.new ≡ slots_len row.old) }
+    ensures full { IsFull row.new }
+    ensures items { slots_items row.new ≡ values.now }
+    ensures start { slots_ptr row.new ≡ slots_ptr row.old }
+    ensures length { slots_len row.new ≡ slots_len row.old }
 {
     for n in 0..values.len() {
         row.put(n, values[n]);
@@ -48,8 +51,8 @@ fn fill<T: Copy>(row: &mut Slots<T>, values: &[T])
 impl<T: Copy> Cells<T> {
     ghost use Rattle.cell_shares.specs.Shares.{name_of, cell_values, share_values, AreAllOf};
 
-    /// Cells with these values, for `windows` shares. `windows` is 1 to 64 and divides the number of
-    /// values, which isn't 0.
+    /// Cells with these values, for `windows` shares: 1 to 64, a divisor of the number of values, which
+    /// isn't 0. Where memory is wanting, the values are dropped.
     pub fn new(alloc: Global, values: List<T>, windows: usize) -> Result<Cells<T>, NoMemory>
         requires some { values ≢ [] }
         requires least { 1 ≤ windows }
@@ -81,6 +84,7 @@ impl<T: Copy> Cells<T> {
     }
 
     /// The value of cell `n`, which is below K.
+    #[tactic(auto, using(crate::proofs::Changed::cell_read))]
     pub fn get(&self, n: usize) -> T
         requires { n < length (cell_values self.now) }
         ensures { result ≡ slice_index_or (cell_values self.now) n result }
@@ -92,7 +96,8 @@ impl<T: Copy> Cells<T> {
     pub fn split(self, order: Order) -> Vec<Share<T>>
         requires order { IsOrderOf (name_of self).count order }
         ensures shares { AreAllOf (name_of self) order result.items }
-        ensures values { map share_values result.items ≡ deal order (name_of self).windows (cell_values self) }
+        ensures values { map share_values result.items
+            ≡ deal order (name_of self).windows (cell_values self) }
     {
         let Cells {
             part,

@@ -11,8 +11,10 @@ use crate::share::Share;
 /// The cells of all shares of one split, in order: each has the value that its share holds.
 pub fn join<T: Copy>(shares: Vec<Share<T>>) -> Cells<T>
     requires shares { (name : Name) × (order : Order) × AreAllOf name order shares.items }
-    ensures name { (name : Name) (order : Order) → AreAllOf name order shares.items → name_of result ≡ name }
-    ensures values { (name : Name) (order : Order) → AreAllOf name order shares.items → deal order name.windows (cell_values result) ≡ map share_values shares.items }
+    ensures name { (name : Name) (order : Order) → AreAllOf name order shares.items
+        → name_of result ≡ name }
+    ensures values { (name : Name) (order : Order) → AreAllOf name order shares.items
+        → deal order name.windows (cell_values result) ≡ map share_values shares.items }
 {
     let mut shares = shares;
     let Some(last) = shares.pop() else {

@@ -10,10 +10,7 @@ mod right;
 pub mod share;
 
 pub use cells::Cells;
-pub use deal::one_list_is_dealt;
+pub use deal::{one_list_is_dealt, values_are_dealt_by_place};
 pub use joining::join;
 pub use order::Order;
 pub use share::Share;
-
-#[cfg(test)]
-mod tests;

@@ -27,10 +27,12 @@ impl<T> Model for Part<T> {
 }
 
 impl<T> Part<T> {
+    ghost use Rattle.cell_shares.specs.Buffers.{IsPartOf, IsArranged};
+
     /// All places of a row that has a value in each.
     pub(crate) fn of(row: Slots<T>) -> Part<T>
         requires { IsFull row }
-        ensures { (result.ptr ≡ slots_ptr row) × (result.count ≡ slots_len row) × (result.cells ≡ numbered 0 (slots_items row)) }
+        ensures { IsPartOf (slots_ptr row) (slots_len row) (numbered 0 (slots_items row)) result }
     {
         let parts = unsafe { row.into_raw_parts() };
         Part { ptr: parts.0 }
@@ -45,10 +47,10 @@ impl<T> Part<T> {
         unsafe { Slots::from_raw_parts(ptr, count) }
     }
 
-    /// The same cells in the order of their places: cell i is the one at the i-th place of the order.
+    /// The same cells in another order: cell i is the one at the order's i-th place.
     pub(crate) fn arrange(self, _order: &Order) -> Part<T>
         requires { Shuffled (places self.cells) (order_places _order.now self.count) }
-        ensures { (result.ptr ≡ self.ptr) × (result.count ≡ self.count) × Shuffled self.cells result.cells × (places result.cells ≡ order_places _order.now self.count) }
+        ensures { IsArranged _order.now self result }
     {
         let Part { ptr } = self;
         Part { ptr }
@@ -56,7 +58,8 @@ impl<T> Part<T> {
 
     /// The first cells, `_width` of them, and the others.
     pub(crate) fn cut(self, _width: usize) -> (Part<T>, Part<T>)
-        ensures { (result.0.ptr ≡ self.ptr) × (result.0.count ≡ self.count) × (result.0.cells ≡ take _width self.cells) × (result.1.ptr ≡ self.ptr) × (result.1.count ≡ self.count) × (result.1.cells ≡ drop _width self.cells) }
+        ensures { IsPartOf self.ptr self.count (take _width self.cells) result.0
+            × IsPartOf self.ptr self.count (drop _width self.cells) result.1 }
     {
         let Part { ptr } = self;
         let first = Part { ptr };
@@ -67,7 +70,7 @@ impl<T> Part<T> {
     /// The cells of both parts, those of `self` first.
     pub(crate) fn glue(self, other: Part<T>) -> Part<T>
         requires { (other.ptr ≡ self.ptr) × (other.count ≡ self.count) }
-        ensures { (result.ptr ≡ self.ptr) × (result.count ≡ self.count) × (result.cells ≡ self.cells ++ other.cells) }
+        ensures { IsPartOf self.ptr self.count (self.cells ++ other.cells) result }
     {
         let Part { ptr } = self;
         let Part { ptr: _ } = other;
@@ -85,7 +88,7 @@ impl<T> Part<T> {
     /// Writes cell `_j`, which stands at `place`. The value that it had is forgotten.
     pub(crate) fn set(&mut self, _j: usize, place: usize, x: T)
         requires { (place < self.old.count) × ((y : T) × IsCell self.old.cells _j place y) }
-        ensures { (self.new.ptr ≡ self.old.ptr) × (self.new.count ≡ self.old.count) × (self.new.cells ≡ changed self.old.cells _j x) }
+        ensures { IsPartOf self.old.ptr self.old.count (changed self.old.cells _j x) self.new }
     {
         unsafe { self.ptr.add(place).write(x) }
     }

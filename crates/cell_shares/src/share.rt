@@ -55,7 +55,8 @@ impl<T: Copy> Share<T> {
         requires counted { split.count ≡ part.count }
         requires numbered { number < split.windows }
         requires frees { HoldsRight right part.ptr split.count split.heap number }
-        ensures { (result.part ≡ part) × (result.right ≡ right) × (result.split ≡ split) × (result.number ≡ number) }
+        ensures { (result.part ≡ part) × (result.right ≡ right) × (result.split ≡ split)
+            × (result.number ≡ number) }
     {
         Share {
             part,
@@ -66,26 +67,29 @@ impl<T: Copy> Share<T> {
         }
     }
 
-    /// The value of cell `j`, which is below the width.
+    /// The value of cell `j`, which is below the width. In an interleaved order it costs a division.
+    #[tactic(auto, using(crate::proofs::Positions::place_is))]
     pub fn get(&self, j: usize) -> T
         requires { j < length (share_values self.now) }
         ensures { result ≡ slice_index_or (share_values self.now) j result }
     {
         let place = self.split.order.place(self.split.count, self.first + j);
+        self.get_at(j, place)
+    }
+
+    /// The value of cell `j`, which is below the width, for a caller that has the cell's place
+    /// `order(t W + j)`, as from a table or by additions. It divides nowhere.
+    #[tactic(auto, using(crate::proofs::Positions::at_place, crate::proofs::Changed::cell_read))]
+    pub fn get_at(&self, j: usize, place: usize) -> T
+        requires cell { j < length (share_values self.now) }
+        requires place { place ≡ share_place self.now j }
+        ensures { result ≡ slice_index_or (share_values self.now) j result }
+    {
         *self.part.get(j, place)
     }
 
-    /// The value of cell `j`, for a caller that has its place, as by additions from place to place. `j` is
-    /// below the width.
-    pub fn get_at(&self, j: usize, at: usize) -> T
-        requires cell { j < length (share_values self.now) }
-        requires place { at ≡ share_place self.now j }
-        ensures { result ≡ slice_index_or (share_values self.now) j result }
-    {
-        *self.part.get(j, at)
-    }
-
-    /// Writes `v` into cell `j`, which is below the width.
+    /// Writes `v` into cell `j`, which is below the width. In an interleaved order it costs a division.
+    #[tactic(auto, using(crate::proofs::Positions::place_is))]
     pub fn set(&mut self, j: usize, v: T)
         requires { j < length (share_values self.old) }
         ensures values { share_values self.new ≡ slice_set (share_values self.old) j v }
@@ -94,17 +98,20 @@ impl<T: Copy> Share<T> {
         ensures number { share_number self.new ≡ share_number self.old }
     {
         let place = self.split.order.place(self.split.count, self.first + j);
-        self.part.set(j, place, v);
+        self.set_at(j, place, v);
     }
-    /// Writes `v` into cell `j`, for a caller that has its place. `j` is below the width.
-    pub fn set_at(&mut self, j: usize, at: usize, v: T)
+
+    /// Writes `v` into cell `j`, which is below the width, for a caller that has the cell's place
+    /// `order(t W + j)`. It divides nowhere.
+    #[tactic(auto, using(crate::proofs::Positions::at_place, crate::proofs::Changed::changed_values))]
+    pub fn set_at(&mut self, j: usize, place: usize, v: T)
         requires cell { j < length (share_values self.old) }
-        requires place { at ≡ share_place self.old j }
+        requires place { place ≡ share_place self.old j }
         ensures values { share_values self.new ≡ slice_set (share_values self.old) j v }
         ensures name { share_name self.new ≡ share_name self.old }
         ensures order { share_order self.new ≡ share_order self.old }
         ensures number { share_number self.new ≡ share_number self.old }
     {
-        self.part.set(j, at, v);
+        self.part.set(j, place, v);
     }
 }

@@ -1,5 +1,5 @@
 use Rattle.std.proofs.Common.{ℕ, ◌≡◌, ◌+◌, ◌-◌, ◌*◌, ◌<◌, ◌≤◌, ◌++◌, List, [], ◌∷◌, sym, ap, subst, refl, ◌∙◌, arith}
-use Rattle.std.specs.Prelude.{vec_len, vec_capacity}
+use Rattle.std.specs.Prelude.{vec_len}
 use Rattle.cell_shares.specs.Orders.{order_places}
 use Rattle.cell_shares.specs.Parts.{places, Shuffled}
 use Rattle.cell_shares.specs.Rights.{IsRightTo}
@@ -27,9 +27,9 @@ pub loop-number-preserved : goal.loop-number-preserved
 loop-number-preserved g c =
     let s = c.args.self in let l = c.loop-number in let inv = l.invariant in let d = inv.0 in let t = l.number in let e = c.cut-part.ensures in let n = c.new.ensures in
     let lt : t < s.windows = let test = c.loop-number-test.true in omega (arith, test) in
-    let label = label_of s c.args.order t c.new.result (ap (λ p. p.ptr) n.0 ∙ (e.0 ∙ d.start)) (ap (λ p. p.count) n.0 ∙ (e.1 ∙ d.count)) (ap (λ x. x.windows) n.2) (ap (λ x. x.order) n.2) n.3 in (
+    let label = label_of s c.args.order t c.new.result (ap (λ p. p.ptr) n.0 ∙ (e.0.0 ∙ d.start)) (ap (λ p. p.count) n.0 ∙ (e.0.1 ∙ d.count)) (ap (λ x. x.windows) n.2) (ap (λ x. x.order) n.2) n.3 in (
       subst (Dealing s c.args.order (t + 1) c.cut-part.result.1) (sym c.push_reserved.ensures.items)
-          (one_more s c.args.order t l.rest l.shares.items d c.new.result label lt c.cut-part.result.1 (ap (λ p. p.cells) n.0 ∙ e.2) e.3 e.4 e.5),
+          (one_more s c.args.order t l.rest l.shares.items d c.new.result label lt c.cut-part.result.1 (ap (λ p. p.cells) n.0 ∙ e.0.2) e.1.0 e.1.1 e.1.2),
       subst (λ (k : ℕ). s.windows ≤ k) (sym c.push_reserved.ensures.capacity) inv.1,
       c.push_reserved.ensures.len ∙ ap (λ (k : ℕ). k + 1) inv.2,
       (λ r is. absurd (none_some r (sym c.take.ensures.after ∙ is)), λ is zero. omega (arith, zero)),
@@ -38,15 +38,15 @@ loop-number-preserved g c =
 pub new-requires-clause-dealt : goal.new-requires-clause-dealt
 new-requires-clause-dealt g c =
     let s = c.args.self in let l = c.loop-number in let n : ℕ = s.windows - (l.number + 1) in let lt = c.loop-number-test.true in
-    ap places c.cut-part.ensures.2 ∙ next_places s c.args.order l.number l.rest l.shares.items l.invariant.0 n (omega (arith, lt))
+    ap places c.cut-part.ensures.0.2 ∙ next_places s c.args.order l.number l.rest l.shares.items l.invariant.0 n (omega (arith, lt))
 
 pub new-requires-clause-counted : goal.new-requires-clause-counted
-new-requires-clause-counted g c = let d = c.loop-number.invariant.0 in c.args.self.counted ∙ sym (c.cut-part.ensures.1 ∙ d.count)
+new-requires-clause-counted g c = let d = c.loop-number.invariant.0 in c.args.self.counted ∙ sym (c.cut-part.ensures.0.1 ∙ d.count)
 
 pub new-requires-clause-frees : goal.new-requires-clause-frees
 new-requires-clause-frees g c =
     let inv = c.loop-number.invariant in let d = inv.0 in (
-      λ r is. let f = inv.3.0 r (sym c.take.ensures.value ∙ is) in (f.0, (f.1.0 ∙ sym (c.cut-part.ensures.0 ∙ d.start), f.1.1, f.1.2)),
+      λ r is. let f = inv.3.0 r (sym c.take.ensures.value ∙ is) in (f.0, (f.1.0 ∙ sym (c.cut-part.ensures.0.0 ∙ d.start), f.1.1, f.1.2)),
       λ is. inv.3.1 (sym c.take.ensures.value ∙ is),
     )
 

@@ -1,16 +1,7 @@
-use Rattle.std.proofs.Common.{ℕ, ◌≡◌, ◌<◌, ◌+◌, ◌∙◌, sym, ap, subst}
-use Rattle.cell_shares.specs.Orders.{place_in}
-use Rattle.cell_shares.specs.Parts.{IsCell, places, values}
-use Rattle.cell_shares.proofs.Changed.{changed-values, changed-places}
-use Rattle.cell_shares.proofs.Positions.{cell_here, place_is, place_below}
+use Rattle.std.proofs.Common.{◌∙◌, sym, ap}
+use Rattle.cell_shares.specs.Parts.{places}
+use Rattle.cell_shares.proofs.Changed.{changed-places}
 use Rattle.cell_shares.proofs.share.Share.set_at.Goals as goal
-
-pub set-requires : goal.set-requires
-set-requires g c =
-    let s = c.args.self.now in let at = c.requires.place ∙ place_is s c.args.j c.requires.cell in (
-      subst (λ (n : ℕ). n < s.part.count) (sym at) (subst (λ (n : ℕ). place_in s.split.order (s.first + c.args.j) < n) s.counted (place_below s c.args.j c.requires.cell)),
-      subst (λ (n : ℕ). (x : _) × IsCell s.part.cells c.args.j n x) (sym at) (cell_here s c.args.j c.requires.cell),
-    )
 
 pub invariant_of-self : goal.invariant_of-self
 invariant_of-self g c =
@@ -21,6 +12,3 @@ invariant_of-self g c =
       numbered = s.numbered;
       frees = (λ r is. let f = s.frees.0 r is in (f.0, (f.1.0 ∙ sym e.0, f.1.1, f.1.2)), s.frees.1);
     }
-
-pub returns-clause-values : goal.returns-clause-values
-returns-clause-values g c = ap values c.set.ensures.2 ∙ changed-values c.args.self.now.part.cells c.args.j c.args.v
