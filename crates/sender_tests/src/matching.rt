@@ -1,8 +1,8 @@
 //! The numbers of rate matching, transmissions, and what stands in the circular buffer.
 use qpp_table::qpp;
 use rate_match::{
-    BadMatch, Buffer, Match, Sends, Spot, buffer_len, fits, fits_buffer, fits_plan, piece_len, spot,
-    start,
+    BadMatch, Buffer, Match, Sends, Spot, buffer_len, fits, fits_buffer, fits_plan, piece_len,
+    spot, start,
 };
 use segmentation::{plan, size};
 use std::test::Fail;
@@ -98,8 +98,26 @@ fn numbers_of_the_worked_blocks(rt: HostRuntime) -> Result<(), Fail> {
         (2, 8, 2, Buffer::Full, 0, 192, 8, [4, 52, 100, 148]),
         (766, 2, 2, Buffer::Full, 0, 9312, 0, [194, 2522, 4850, 7178]),
         (766, 2, 2, Buffer::Full, 1, 9504, 2, [198, 2574, 4950, 7326]),
-        (9422, 82800, 6, limited, 5, 5948, 6366, [366, 2196, 4026, 5856]),
-        (9422, 82800, 6, limited, 6, 5948, 6372, [366, 2196, 4026, 5856]),
+        (
+            9422,
+            82800,
+            6,
+            limited,
+            5,
+            5948,
+            6366,
+            [366, 2196, 4026, 5856],
+        ),
+        (
+            9422,
+            82800,
+            6,
+            limited,
+            6,
+            5948,
+            6372,
+            [366, 2196, 4026, 5856],
+        ),
     ];
     for (bytes, g, qm, buffer, r, places, piece, starts) in rows {
         let m = Match::new(qm, 1, g, buffer).expect(&rt, "a matching");
