@@ -7,20 +7,22 @@ use Rattle.sender_model.specs.Interleaver.{sizes}
 use Rattle.sender_model.specs.CircularBuffer.{rows_of}
 
 abbrev step_test : ℕ → Bool
-step_test k = nat_le k 6144 && (nat_le k 1024 || k % 32 == 0)
+step_test k = (nat_le 1 k && nat_le k 6144) && (nat_le k 1024 || k % 32 == 0)
 
 passed : list_all step_test sizes ≡ true
 unfolding sizes
 passed = refl
 
 pub record IsStep (k : ℕ) : Type 0 where
+  pub some : 1 ≤ k
   pub few : k ≤ 6144
   pub whole : 1024 < k → k % 32 ≡ 0
 
 stepped : (k : ℕ) → step_test k ≡ true → IsStep k
 stepped k pass =
-    let parts = and_parts (nat_le k 6144) (nat_le k 1024 || k % 32 == 0) pass in
-    record { few = leb-true k 6144 parts.0; whole = λ above. by_test (nat_le k 1024) refl parts.1 above }
+    let parts = and_parts (nat_le 1 k && nat_le k 6144) (nat_le k 1024 || k % 32 == 0) pass in
+    let bounds = and_parts (nat_le 1 k) (nat_le k 6144) parts.0 in
+    record { some = leb-true 1 k bounds.0; few = leb-true k 6144 bounds.1; whole = λ above. by_test (nat_le k 1024) refl parts.1 above }
   where
     by_test : (t : Bool) → nat_le k 1024 ≡ t → (t || k % 32 == 0) ≡ true → 1024 < k → k % 32 ≡ 0
     by_test true e pass above = absurd (let le : k ≤ 1024 = leb-true k 1024 e in omega (arith, le, above))

@@ -1,21 +1,26 @@
--- What contracts see of `Rvs`: the versions held, behind which the places are 0.
-use Rattle.std.proofs.Common.{◌≡◌, ℕ, ◌≤◌, List, length, take, arith}
+-- What contracts see of `Sends`: the transmissions held, behind which the places repeat the first.
+use Rattle.std.proofs.Common.{◌≡◌, ℕ, ◌≤◌, List, [], ◌∷◌, length, take, arith}
 use Rattle.std.proofs.lemmas.List.{length-take-le}
 use Rattle.lte_bits.specs.Lists.{resized}
-use Rattle.rate_match.specs.declared.versions.Rvs.TheInside.{Inside}
-use Rattle.rate_match.specs.Versions.{AreVersions}
+use Rattle.rate_match.specs.declared.sends.Sending.{Sending}
+use Rattle.rate_match.specs.declared.sends.Sends.TheInside.{Inside}
+use Rattle.rate_match.specs.Sendings.{AreSendings, common}
 
-abbrev pub versions_held : Inside → List ℕ
-versions_held r = take r.held r.values
+abbrev pub sendings_held : Inside → List Sending
+sendings_held s = take s.held s.values
 
-abbrev pub filled_up : List ℕ → Inside
-filled_up rvs = record { values = resized rvs 8 0; held = length rvs }
+abbrev pub first : List Sending → Sending
+first [] = record { m = common []; rv = 0 }
+first (s ∷ _) = s
 
-pub record IsHeld (r : Inside) : Type 0 where
-  pub places : length r.values ≡ 8
-  pub within : r.held ≤ 8
-  pub rest : resized (versions_held r) 8 0 ≡ r.values
-  pub versions : AreVersions (versions_held r)
+abbrev pub filled_up : List Sending → Inside
+filled_up sends = record { values = resized sends 8 (first sends); held = length sends }
 
-pub filled_up-held : (r : Inside) → IsHeld r → filled_up (versions_held r) ≡ r
-filled_up-held r h i = record { values = h.rest i; held = length-take-le r.held r.values (omega (arith, h.within, h.places)) i }
+pub record IsHeld (s : Inside) : Type 0 where
+  pub places : length s.values ≡ 8
+  pub within : s.held ≤ 8
+  pub rest : resized (sendings_held s) 8 (first (sendings_held s)) ≡ s.values
+  pub sendings : AreSendings (sendings_held s)
+
+pub filled_up-held : (s : Inside) → IsHeld s → filled_up (sendings_held s) ≡ s
+filled_up-held s h i = record { values = h.rest i; held = length-take-le s.held s.values (omega (arith, h.within, h.places)) i }

@@ -1,5 +1,6 @@
 pub mod Matching
 pub mod Shown
-pub mod Versions
+pub mod Sendings
 pub mod Held
 pub mod Fitting
+pub mod Cursor

@@ -1,14 +1,19 @@
 //! The rate matching of turbo coded transport blocks (36.212 5.1.4.1): what it is told, which
-//! redundancy versions are sent, and which soft buffers are large enough.
+//! transmissions are sent, which soft buffers are large enough, and the bits that are sent.
 #![tactic(auto)]
 
+mod codewords;
+mod cursor;
 pub mod fitting;
 pub mod matching;
-pub mod versions;
+pub mod numbers;
+pub mod selecting;
+pub mod sends;
 
-pub use fitting::{fits, fits_plan};
+pub use codewords::codeword;
+pub use fitting::{fits, fits_buffer, fits_plan};
 pub use matching::{BadMatch, Buffer, Match};
-pub use versions::Rvs;
-
-#[cfg(test)]
-mod tests;
+pub use numbers::{buffer_len, piece_len, start};
+pub use selecting::{select, spot};
+pub use sender_model::Spot;
+pub use sends::Sends;

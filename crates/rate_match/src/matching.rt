@@ -1,5 +1,5 @@
 //! What the rate matching of a transport block is told.
-ghost use Rattle.std.specs.Prelude.{◌≡◌};
+ghost use Rattle.std.specs.Prelude.{◌≡◌, ◌↔◌, IsTrue};
 ghost use Rattle.rate_match.specs.Matching.{IsMatch, limit_of, matched};
 
 use std::error::Error;
@@ -120,9 +120,18 @@ impl Match {
         self.g as usize
     }
 
+    /// Whether the soft buffer is that of another matching.
+    pub(crate) fn shares_buffer(&self, other: &Match) -> bool
+        ensures same { IsTrue result ↔ (self.now.limit ≡ other.now.limit) }
+        ensures lawful { IsMatch self.now }
+    {
+        self.limit == other.limit
+    }
+
     /// The soft buffer.
     pub fn buffer(&self) -> Buffer
-        ensures { limit_of result ≡ self.now.limit }
+        ensures value { limit_of result ≡ self.now.limit }
+        ensures lawful { IsMatch self.now }
     {
         match self.limit {
             None => Buffer::Full,

@@ -11,6 +11,8 @@ mod interleaver;
 #[cfg(test)]
 mod lists;
 #[cfg(test)]
+mod matching;
+#[cfg(test)]
 mod streams;
 #[cfg(test)]
 mod trellis;

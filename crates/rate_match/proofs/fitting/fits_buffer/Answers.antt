@@ -2,10 +2,10 @@ use Rattle.std.proofs.Common.{arith}
 use Rattle.sender_model.specs.Segmentation.{plan_of}
 use Rattle.sender_model.proofs.PlanLaws.{plan-sound}
 use Rattle.rate_match.proofs.SizeSteps.{size-step}
-use Rattle.rate_match.proofs.fitting.fits_plan.Goals as goal
+use Rattle.rate_match.proofs.fitting.fits_buffer.Goals as goal
 
-pub stream_places-requires : goal.stream_places-requires
-stream_places-requires c =
+pub rows_of-requires : goal.rows_of-requires
+rows_of-requires c =
     let plan = c.args.plan.now in
     let step = size-step (plan_of plan.bytes).k_plus (plan-sound plan.bytes plan.some plan.few).larger.inside in
     omega (arith, step.few, plan.larger_size)

@@ -12,7 +12,7 @@ use Rattle.sender_model.specs.Selection.{repeated}
 abbrev pub walked : (ℕ → Bool) → ℕ → ℕ → ℕ → List ℕ
 walked keep k n s = filter keep (map (λ i. (k + i) % n) (range_with_len 0 s))
 
-range-split : (a m s : ℕ) → range_with_len a (m + s) ≡ range_with_len a m ++ range_with_len (a + m) s
+pub range-split : (a m s : ℕ) → range_with_len a (m + s) ≡ range_with_len a m ++ range_with_len (a + m) s
 range-split a zero s = ap (λ n. range_with_len a n) (let e : 0 + s ≡ s = omega arith in e) ∙ ap (λ b. range_with_len b s) (let e : a ≡ a + 0 = omega arith in e)
 range-split a (suc m) s =
     ap (λ n. range_with_len a n) (let e : suc m + s ≡ suc (m + s) = omega arith in e)

@@ -1,0 +1,55 @@
+-- The streams of a transport block's code blocks.
+use Rattle.std.proofs.Common.{◌≡◌, ℕ, ◌+◌, ◌<◌, ◌≤◌, List, [], ◌∷◌, ◌++◌, length, map, get_or, flat_map, Contains, refl, sym, ap, subst, ◌∙◌, arith}
+use Rattle.std.specs.List.{range_with_len}
+use Rattle.std.proofs.lemmas.List.FromFn.{get_or-map-range_with_len, length-map-range_with_len}
+use Rattle.std.proofs.Math.ListN.{get_or-map}
+use Rattle.std.proofs.lemmas.Grind.{flat_map-append}
+use Rattle.std.proofs.lemmas.List.{append-nil}
+use Rattle.rate_match.proofs.Walked.{range-split}
+use Rattle.lte_bits.specs.declared.block.Block.{Block}
+use Rattle.lte_bits.specs.declared.block.Streams.{Streams}
+use Rattle.sender_model.specs.Interleaver.{sizes}
+use Rattle.sender_model.specs.Segmentation.{Plan, plan_of, size, fill}
+use Rattle.sender_model.specs.CodeBlocks.{block, blocks}
+use Rattle.sender_model.specs.CodedStreams.{streams}
+use Rattle.sender_model.specs.CircularBuffer.{AreStreams}
+use Rattle.sender_model.proofs.StreamNulls.{streams-nulls}
+use Rattle.segmentation.specs.Shape.{AreBlocksOf}
+use Rattle.rate_match.proofs.BlockNumbers.{IsBlockOf}
+
+-- what the elements of a list are as functions of their places
+at-map : {X Y : Type 0} (f : X → Y) (g : ℕ → Y) (xs : List X) (c r : ℕ) (x : X) → map f xs ≡ map g (range_with_len 0 c) → r < c → x ≡ get_or xs r x → f x ≡ g r
+at-map f g xs c r x same within is =
+    ap f is ∙ sym (get_or-map f xs r x) ∙ ap (λ ys. get_or ys r (f x)) same ∙ get_or-map-range_with_len g 0 c r r (f x) within (omega arith)
+
+at-range : {X : Type 0} (g : ℕ → X) (xs : List X) (c r : ℕ) (x : X) → xs ≡ map g (range_with_len 0 c) → r < c → x ≡ get_or xs r x → x ≡ g r
+at-range g xs c r x same within is = is ∙ ap (λ ys. get_or ys r x) same ∙ get_or-map-range_with_len g 0 c r r x within (omega arith)
+
+-- block r of a list of them, and what it is coded to
+pub record IsCoded (p : Plan) (payload : List ℕ) (r : ℕ) (b : Block) : Type 0 where
+  pub is : b ≡ block p payload r
+  pub inside : Contains sizes (length b.bits)
+  pub are : AreStreams (size p r) (fill p r) (streams b)
+
+pub block-coded : (p : Plan) (payload : List ℕ) (bs : List Block) (r : ℕ) (b : Block) → IsBlockOf p r → bs ≡ blocks p payload → AreBlocksOf p bs → r < p.c → b ≡ get_or bs r b → IsCoded p payload r b
+block-coded p payload bs r b numbers all shape within is =
+    let long : length b.bits ≡ size p r = at-map (λ (x : Block). length x.bits) (size p) bs p.c r b shape.sizes within is in
+    let fillers : b.fill ≡ fill p r = at-map (λ (x : Block). x.fill) (fill p) bs p.c r b shape.fillers within is in
+    record {
+      is = at-range (block p payload) bs p.c r b all within is;
+      inside = subst (λ (k : ℕ). Contains sizes k) (sym long) numbers.inside;
+      are = placed long fillers (streams-nulls b (omega (arith, long, fillers, numbers.fills)));
+    }
+  where
+    placed : {k l f g : ℕ} → k ≡ l → f ≡ g → AreStreams k f (streams b) → AreStreams l g (streams b)
+    placed {k} {l} {f} {g} size fill are = subst (λ (n : ℕ). AreStreams l n (streams b)) fill (subst (λ (n : ℕ). AreStreams n f (streams b)) size are)
+
+pub blocks-count : (p : Plan) (payload : List ℕ) (bs : List Block) → bs ≡ blocks p payload → length bs ≡ p.c
+blocks-count p payload bs all = ap length all ∙ length-map-range_with_len (block p payload) 0 p.c
+
+-- the lists of one block more
+pub flat_map-more : {X : Type 0} (f : ℕ → List X) (r : ℕ) → flat_map f (range_with_len 0 (r + 1)) ≡ flat_map f (range_with_len 0 r) ++ f r
+flat_map-more f r =
+    ap (flat_map f) (range-split 0 r 1 ∙ ap (λ (n : ℕ). range_with_len 0 r ++ n ∷ []) (let e : 0 + r ≡ r = omega arith in e))
+    ∙ flat_map-append f (range_with_len 0 r) (r ∷ [])
+    ∙ ap (λ xs. flat_map f (range_with_len 0 r) ++ xs) (append-nil (f r))

@@ -1,0 +1,5 @@
+use Rattle.sender_model.proofs.PaddedStreams.{column-below}
+use Rattle.rate_match.proofs.cursor.column.Goals as goal
+
+pub returns-clause-small : goal.returns-clause-small
+returns-clause-small c = column-below c.args.i c.requires

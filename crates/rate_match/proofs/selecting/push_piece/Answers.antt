@@ -1,0 +1,78 @@
+use Rattle.std.proofs.Common.{◌≡◌, ℕ, ◌+◌, ◌*◌, ◌<◌, ◌≤◌, List, ◌++◌, length, map, Contains, subst, sym, ap, ◌∙◌, arith}
+use Rattle.std.proofs.lemmas.Result.{on_ok_weaker}
+use Rattle.lte_bits.specs.declared.bit.Bit.{Bit}
+use Rattle.lte_bits.specs.declared.block.Streams.{Streams}
+use Rattle.sender_model.specs.Interleaver.{sizes}
+use Rattle.sender_model.specs.Segmentation.{Plan, plan_of, size, fill}
+use Rattle.sender_model.specs.CircularBuffer.{rows_of, buffer_size, buffer_length, start, w}
+use Rattle.sender_model.specs.Selection.{bit_of_cell, bits_from, holds_bit, repeated, sent}
+use Rattle.sender_model.proofs.SelectionLaws.{rows-bounds, fitting_bit}
+use Rattle.rate_match.proofs.BlockNumbers.{IsBlockOf, block-numbers}
+use Rattle.rate_match.proofs.Matchings.{match-bounds, piece-most}
+use Rattle.rate_match.proofs.selecting.push_piece.Goals as goal
+
+-- e bits of the streams, from place k0 of the first n on
+chosen : Streams → (k fill k0 n e : ℕ) → List Bit
+chosen s k fill k0 n e = map (λ p. bit_of_cell (w k fill s p)) (repeated (bits_from (holds_bit k fill) k0 n) e)
+
+same_chosen : (s : Streams) {k l f g a b n m d e : ℕ} → k ≡ l → f ≡ g → a ≡ b → n ≡ m → d ≡ e → chosen s k f a n d ≡ chosen s l g b m e
+same_chosen s size fill start places count i = chosen s (size i) (fill i) (start i) (places i) (count i)
+
+same_kept : {k l f g n m : ℕ} (a : ℕ) → k ≡ l → f ≡ g → n ≡ m → length (bits_from (holds_bit k f) a n) ≡ length (bits_from (holds_bit l g) a m)
+same_kept a size fill places i = length (bits_from (holds_bit (size i) (fill i)) a (places i))
+
+same_start : {k l n m : ℕ} (rv : ℕ) → k ≡ l → n ≡ m → start k n rv ≡ start l m rv
+same_start rv size places i = start (size i) (places i) rv
+
+block_of : (bytes c r : ℕ) → 1 ≤ bytes → bytes ≤ 18722 → c ≡ (plan_of bytes).c → r < c → IsBlockOf (plan_of bytes) r
+block_of bytes c r some few is below = block-numbers bytes r some few (omega (arith, is, below))
+
+pub rows_of-requires : goal.rows_of-requires
+rows_of-requires c =
+    let plan = c.args.plan.now in
+    let block = block_of plan.bytes plan.c c.args.r plan.some plan.few plan.block_count c.requires.block in
+    omega (arith, block.most, c.size-k.ensures)
+
+pub start-requires-clause-size : goal.start-requires-clause-size
+start-requires-clause-size c =
+    let plan = c.args.plan.now in
+    let block = block_of plan.bytes plan.c c.args.r plan.some plan.few plan.block_count c.requires.block in
+    subst (λ (k : ℕ). Contains sizes k) (sym c.size-k.ensures) block.inside
+
+pub invariant_of-ring : goal.invariant_of-ring
+invariant_of-ring c =
+    let plan = c.args.plan.now in
+    let k : ℕ = size (plan_of plan.bytes) c.args.r in
+    let block = block_of plan.bytes plan.c c.args.r plan.some plan.few plan.block_count c.requires.block in
+    let kept : 32 * rows_of k ≤ c.buffer_len-size.result = c.buffer_len-size.ensures.kept c.requires.fits in
+    record {
+      few = omega (arith, block.most, c.size-k.ensures);
+      fills = omega (arith, block.fills, c.fill.ensures, c.size-k.ensures);
+      height = c.rows_of.ensures.value;
+      some = omega (arith, kept, (rows-bounds k).0);
+      within = omega (arith, c.buffer_len-size.ensures.within, ap buffer_size c.size-k.ensures);
+    }
+
+pub push_bits-requires-clause-few : goal.push_bits-requires-clause-few
+push_bits-requires-clause-few c =
+    let plan = c.args.plan.now in
+    let m = c.args.m.now in
+    let block = block_of plan.bytes plan.c c.args.r plan.some plan.few plan.block_count c.requires.block in
+    omega (arith, c.piece_len.ensures.value, piece-most m (plan_of plan.bytes).c c.args.r block.some, (match-bounds m c.piece_len.ensures.lawful).few)
+
+pub push_bits-requires-clause-some : goal.push_bits-requires-clause-some
+push_bits-requires-clause-some c =
+    let plan = c.args.plan.now in
+    let p : Plan = plan_of plan.bytes in
+    let block = block_of plan.bytes plan.c c.args.r plan.some plan.few plan.block_count c.requires.block in
+    omega (arith, fitting_bit p c.args.m.now c.args.r c.start.result (omega (arith, block.fills)) block.larger c.requires.fits, same_kept c.start.result c.size-k.ensures c.fill.ensures c.buffer_len-size.ensures.value)
+
+pub returns : goal.returns
+unfolding chosen
+returns c =
+    let plan = c.args.plan.now in
+    let p : Plan = plan_of plan.bytes in
+    let from = c.start.ensures ∙ same_start c.args.rv c.size-k.ensures c.buffer_len-size.ensures.value in
+    let all : chosen c.args.streams.now c.size-k.result c.fill.result c.start.result c.buffer_len-size.result c.piece_len.result ≡ sent p c.args.m.now c.args.streams.now c.args.r c.args.rv =
+    same_chosen c.args.streams.now c.size-k.ensures c.fill.ensures from c.buffer_len-size.ensures.value c.piece_len.ensures.value in
+    on_ok_weaker c.push_bits.result (λ is. is ∙ ap (λ (bits : List Bit). c.args.bits.now.items ++ bits) all) c.push_bits.ensures

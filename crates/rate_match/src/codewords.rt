@@ -1,0 +1,31 @@
+//! The codeword of a transport block (36.212 5.1.5).
+ghost use Rattle.std.specs.Prelude.{◌≡◌, ◌≤◌, IfOk, length};
+ghost use Rattle.sender_model.specs.Segmentation.{plan_of};
+ghost use Rattle.sender_model.specs.CircularBuffer.{Fits};
+ghost use Rattle.sender_model.specs.Codeword.{codeword};
+
+use crate::matching::Match;
+use crate::selecting::push_piece;
+use lte_bits::{Bit, List, NoMemory};
+use segmentation::{cut, plan};
+use std::alloc::Global;
+use turbo_encode::encode;
+
+/// The G bits that redundancy version `rv`, 0 to 3, sends of a payload of 1 to 18,722 bytes, whose
+/// plan the buffer fits.
+pub fn codeword(alloc: Global, payload: &[u8], m: &Match, rv: u8) -> Result<List<Bit>, NoMemory>
+    requires some { 1 ≤ length payload.now }
+    requires few { length payload.now ≤ 18722 }
+    requires fits { Fits m.now (plan_of (length payload.now)) }
+    requires version { rv ≤ 3 }
+    ensures { IfOk result (λ bits. bits ≡ codeword payload.now m.now rv) }
+{
+    let plan = plan(payload.len()).unwrap();
+    let blocks = cut(alloc, payload, &plan)?;
+    let mut bits = Vec::with_capacity(alloc, m.g())?;
+    for (r, block) in blocks.as_slice().iter().enumerate() {
+        let streams = encode(alloc, block)?;
+        push_piece(&mut bits, &streams, m, r, &plan, rv)?;
+    }
+    Ok(List::from_vec(bits))
+}

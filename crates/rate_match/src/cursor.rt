@@ -1,0 +1,157 @@
+//! A walk round the circular buffer, from place to place by additions alone.
+ghost use Rattle.std.specs.Prelude.{◌≡◌, ◌+◌, ◌*◌, ◌%◌, ◌<◌, ◌≤◌, slice_index, IfSome};
+ghost use Rattle.sender_model.specs.CircularBuffer.{column_order, rows_of, buffer_size, padded, spot};
+ghost use Rattle.rate_match.specs.Cursor.{cursor_at, order_of};
+
+use sender_model::Spot;
+
+/// P, the order in which the 32 columns are read.
+const COLUMN_ORDER: [usize; 32] = [
+    0, 16, 8, 24, 4, 20, 12, 28, 2, 18, 10, 26, 6, 22, 14, 30, 1, 17, 9, 25, 5, 21, 13, 29, 3, 19,
+    11, 27, 7, 23, 15, 31,
+];
+
+/// The column that is read after `i` others.
+fn column(i: usize) -> usize
+    requires { i < 32 }
+    ensures value { result ≡ slice_index column_order i }
+    ensures small { result < 32 }
+{
+    COLUMN_ORDER[i]
+}
+
+/// The first `size` places of the circular buffer of a block of `k` bits, whose first `fill` are
+/// fillers and whose streams take `rows` rows.
+#[derive(Clone, Copy)]
+pub(crate) struct Ring {
+    pub k: usize,
+    pub fill: usize,
+    pub rows: usize,
+    pub size: usize,
+    pub ghost few: { k ≤ 6144 },
+    pub ghost fills: { fill ≤ k },
+    pub ghost height: { rows ≡ rows_of k },
+    pub ghost some: { 0 < size },
+    pub ghost within: { size ≤ buffer_size k },
+}
+
+/// The bit at place `p` of stream `number` behind its padding, where `nulls` of the stream are NULL.
+fn padded(ring: Ring, number: u8, nulls: usize, p: usize) -> Option<Spot>
+    requires stream { number ≤ 2 }
+    requires few { nulls ≤ 6144 }
+    requires within { p < 32 * ring.rows }
+    ensures spot { result ≡ padded (record { k = ring.k; number = number; nulls = nulls }) p }
+    ensures inside { IfSome result (λ spot. (spot.stream ≤ 2) × (spot.index < ring.k + 4)) }
+{
+    let padding = 32 * ring.rows - (ring.k + 4);
+    if p < padding + nulls {
+        None
+    } else {
+        Some(Spot {
+            stream: number,
+            index: p - padding,
+        })
+    }
+}
+
+/// Place `n` of the buffer: the column, counted in the order of reading, and the row of a stream
+/// that stand there, and where these are by rows.
+#[derive(Clone, Copy)]
+pub(crate) struct Cursor {
+    pub n: usize,
+    pub column: usize,
+    pub row: usize,
+    pub by_rows: usize,
+}
+
+impl Cursor {
+    /// Place `n`.
+    pub fn at(ring: Ring, n: usize) -> Cursor
+        requires { n < ring.size }
+        ensures { result ≡ cursor_at ring.rows n }
+    {
+        let first = 32 * ring.rows;
+        let order = if n < first { n } else { (n - first) / 2 };
+        let (column_place, row) = (order / ring.rows, order % ring.rows);
+        Cursor {
+            n,
+            column: column_place,
+            row,
+            by_rows: column(column_place) + 32 * row,
+        }
+    }
+
+    /// Place `n`, where the reading of a stream begins.
+    fn first(n: usize) -> Cursor
+        ensures { result ≡ record { n = n; column = 0; row = 0; by_rows = 0 } }
+    {
+        Cursor {
+            n,
+            column: 0,
+            row: 0,
+            by_rows: 0,
+        }
+    }
+
+    /// Place `n`, at which the stream is read one place further than here.
+    fn further(self, ring: Ring, n: usize) -> Cursor
+        requires lawful { self ≡ cursor_at ring.rows self.n }
+        requires next { order_of ring.rows n ≡ order_of ring.rows self.n + 1 }
+        requires within { order_of ring.rows n < 32 * ring.rows }
+        ensures { result ≡ cursor_at ring.rows n }
+    {
+        if self.row + 1 < ring.rows {
+            Cursor {
+                n,
+                column: self.column,
+                row: self.row + 1,
+                by_rows: self.by_rows + 32,
+            }
+        } else {
+            Cursor {
+                n,
+                column: self.column + 1,
+                row: 0,
+                by_rows: column(self.column + 1),
+            }
+        }
+    }
+
+    /// The next place, round the circle.
+    pub fn next(self, ring: Ring) -> Cursor
+        requires within { self.n < ring.size }
+        requires lawful { self ≡ cursor_at ring.rows self.n }
+        ensures { result ≡ cursor_at ring.rows ((self.n + 1) % ring.size) }
+    {
+        let first = 32 * ring.rows;
+        let n = self.n + 1;
+        if n == ring.size {
+            Cursor::first(0)
+        } else if n == first {
+            Cursor::first(n)
+        } else if n > first && n % 2 == 1 {
+            Cursor { n, ..self }
+        } else {
+            self.further(ring, n)
+        }
+    }
+
+    /// The bit that stands here.
+    pub fn spot(self, ring: Ring) -> Option<Spot>
+        requires within { self.n < ring.size }
+        requires lawful { self ≡ cursor_at ring.rows self.n }
+        ensures spot { result ≡ spot ring.k ring.fill self.n }
+        ensures inside { IfSome result (λ spot. (spot.stream ≤ 2) × (spot.index < ring.k + 4)) }
+    {
+        let places = 32 * ring.rows;
+        if self.n < places {
+            padded(ring, 0, ring.fill, self.by_rows)
+        } else if self.n % 2 == 0 {
+            padded(ring, 1, ring.fill, self.by_rows)
+        } else if self.by_rows + 1 == places {
+            padded(ring, 2, 0, 0)
+        } else {
+            padded(ring, 2, 0, self.by_rows + 1)
+        }
+    }
+}

@@ -1,0 +1,143 @@
+//! Bit selection (36.212 5.1.4.1.2): which bits of a code block are sent.
+ghost use Rattle.std.specs.Prelude.{◌≡◌, ◌≤◌, ◌<◌, ◌+◌, ◌++◌, Contains, IfOk, OnOk, IfSome, Some, map, length};
+ghost use Rattle.lte_bits.specs.declared.bit.Cell.{Cell};
+ghost use Rattle.sender_model.specs.Interleaver.{sizes};
+ghost use Rattle.sender_model.specs.Segmentation.{plan_of, size, fill};
+ghost use Rattle.sender_model.specs.CircularBuffer.{AreStreams, Fits, buffer_size, cell_at, spot, stream_of, w};
+ghost use Rattle.sender_model.specs.Selection.{bit_of_cell, bits_from, holds_bit, repeated, sent};
+
+use crate::cursor::{Cursor, Ring};
+use crate::matching::Match;
+use crate::numbers::{buffer_len, piece_len, rows_of, start};
+use lte_bits::{Bit, Cell, List, NoMemory, Streams};
+use segmentation::planning::{fill, size};
+use segmentation::plans::Plan;
+use sender_model::Spot;
+use std::alloc::Global;
+
+/// The bit of d0, d1 or d2 that stands at place `n` of the circular buffer of a block of `k` bits,
+/// the first `fill` of which are fillers. `None` comes exactly where NULL stands there. K is one of
+/// the 188 sizes, `fill` is below K, and `n` is below K_w.
+pub fn spot(k: usize, fill: usize, n: usize) -> Option<Spot>
+    requires size { Contains sizes k }
+    requires fills { fill < k }
+    requires within { n < buffer_size k }
+    ensures spot { result ≡ spot k fill n }
+    ensures inside { IfSome result (λ spot. (spot.stream ≤ 2) × (spot.index < k + 4)) }
+{
+    let rows = rows_of(k);
+    let ring = Ring {
+        k,
+        fill,
+        rows,
+        size: 96 * rows,
+    };
+    Cursor::at(ring, n).spot(ring)
+}
+
+/// Stream 0, 1 or 2.
+fn stream_of(streams: &Streams, number: u8) -> &[Cell]
+    ensures { result.now ≡ stream_of streams.now number }
+{
+    match number {
+        0 => streams.d0.as_slice(),
+        1 => streams.d1.as_slice(),
+        _ => streams.d2.as_slice(),
+    }
+}
+
+fn bit_of_cell(cell: Cell) -> Bit
+    ensures { result ≡ bit_of_cell cell }
+{
+    match cell {
+        Cell::One => Bit::One,
+        Cell::Zero | Cell::Null => Bit::Zero,
+    }
+}
+
+/// The bit at a spot of the streams.
+fn bit_at(streams: &Streams, spot: Spot) -> Bit
+    requires { spot.index < length (stream_of streams.now spot.stream) }
+    ensures { result ≡ bit_of_cell (cell_at streams.now (Some spot)) }
+{
+    bit_of_cell(stream_of(streams, spot.stream)[spot.index])
+}
+
+/// Appends the first `count` bits of the streams from place `start` of the ring on, round and round.
+fn push_bits(
+    bits: &mut Vec<Bit>,
+    streams: &Streams,
+    ring: Ring,
+    start: usize,
+    count: usize,
+) -> Result<(), NoMemory>
+    requires streams { AreStreams ring.k ring.fill streams.now }
+    requires few { count ≤ 1000000 }
+    requires some { 0 < length (bits_from (holds_bit ring.k ring.fill) start ring.size) }
+    ensures { OnOk result (bits.new.items ≡ bits.old.items
+        ++ map (λ n. bit_of_cell (w ring.k ring.fill streams.now n))
+            (repeated (bits_from (holds_bit ring.k ring.fill) start ring.size) count)) }
+{
+    let mut cursor = Cursor::at(ring, start % ring.size);
+    let mut left = count;
+    for _step in 0..count * ring.size {
+        if left == 0 {
+            return Ok(());
+        }
+        if let Some(spot) = cursor.spot(ring) {
+            bits.push(bit_at(streams, spot))?;
+            left -= 1;
+        }
+        cursor = cursor.next(ring);
+    }
+    Ok(())
+}
+
+/// Appends the bits that redundancy version `rv` sends of the streams of block `r`.
+pub(crate) fn push_piece(
+    bits: &mut Vec<Bit>,
+    streams: &Streams,
+    m: &Match,
+    r: usize,
+    plan: &Plan,
+    rv: u8,
+) -> Result<(), NoMemory>
+    requires block { r < plan.now.c }
+    requires streams { AreStreams (size (plan_of plan.now.bytes) r) (fill (plan_of plan.now.bytes) r) streams.now }
+    requires fits { Fits m.now (plan_of plan.now.bytes) }
+    requires version { rv ≤ 3 }
+    ensures { OnOk result (bits.new.items
+        ≡ bits.old.items ++ sent (plan_of plan.now.bytes) m.now streams.now r rv) }
+{
+    let k = size(plan, r);
+    let size = buffer_len(m, plan, r);
+    let ring = Ring {
+        k,
+        fill: fill(plan, r),
+        rows: rows_of(k),
+        size,
+    };
+    push_bits(bits, streams, ring, start(k, size, rv), piece_len(m, plan, r))
+}
+
+/// The E_r bits that redundancy version `rv` sends of block `r`, whose coded streams these are: of
+/// the block's length, NULL at its fillers in d0 and d1, and nowhere in d2. `r` is below C, the
+/// buffer fits the plan, and `rv` is 0 to 3.
+pub fn select(
+    alloc: Global,
+    streams: &Streams,
+    m: &Match,
+    r: usize,
+    plan: &Plan,
+    rv: u8,
+) -> Result<List<Bit>, NoMemory>
+    requires block { r < plan.now.c }
+    requires streams { AreStreams (size (plan_of plan.now.bytes) r) (fill (plan_of plan.now.bytes) r) streams.now }
+    requires fits { Fits m.now (plan_of plan.now.bytes) }
+    requires version { rv ≤ 3 }
+    ensures { IfOk result (λ bits. bits ≡ sent (plan_of plan.now.bytes) m.now streams.now r rv) }
+{
+    let mut bits = Vec::with_capacity(alloc, piece_len(m, plan, r))?;
+    push_piece(&mut bits, streams, m, r, plan, rv)?;
+    Ok(List::from_vec(bits))
+}
