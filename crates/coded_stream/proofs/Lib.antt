@@ -10,3 +10,4 @@ pub mod Passed
 pub mod SendSteps
 pub mod OpeningSteps
 pub mod HeaderBegun
+pub mod Written
