@@ -11,3 +11,8 @@ pub mod SendSteps
 pub mod OpeningSteps
 pub mod HeaderBegun
 pub mod Written
+pub mod BodyTexts
+pub mod BodySpelled
+pub mod HeaderTexts
+pub mod HeaderSpelled
+pub mod StreamTexts

@@ -59,7 +59,7 @@ unfolding first_text word_text half_word_text
 first-long One h = refl
 first-long Two h = refl
 
-sending-long : (v : Version) (s : Sending) → length (sending_text v s) ≡ sending_size v
+pub sending-long : (v : Version) (s : Sending) → length (sending_text v s) ≡ sending_size v
 unfolding word_text
 sending-long One s = refl
 sending-long Two s = refl
