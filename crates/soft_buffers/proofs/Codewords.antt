@@ -1,9 +1,9 @@
 -- A codeword's values are added block after block.
-use Rattle.std.proofs.Common.{◌≡◌, ◌≢◌, ℕ, zero, suc, ◌+◌, ◌-◌, ◌*◌, ◌<◌, ◌≤◌, ℤ, List, [], length, fold, get_or, set, refl, subst, ap, sym, ◌∙◌, inl, inr, arith}
+use Rattle.std.proofs.Common.{◌≡◌, ◌≢◌, ℕ, zero, suc, ◌+◌, ◌-◌, ◌*◌, ◌<◌, ◌≤◌, ℤ, List, [], length, drop, fold, get_or, set, refl, subst, ap, sym, ◌∙◌, inl, inr, arith}
 use Rattle.std.specs.List.{range_with_len, sum_by}
 use Rattle.std.proofs.lemmas.Bool.{cases_lt}
 use Rattle.std.proofs.lemmas.Bool.Decides.{eqb_tells}
-use Rattle.std.proofs.lemmas.List.{get_or-set_same, get_or-set_other, length-set}
+use Rattle.std.proofs.lemmas.List.{drop-drop, get_or-set_same, get_or-set_other, length-set}
 use Rattle.sender_model.specs.Segmentation.{Plan, size}
 use Rattle.sender_model.specs.CircularBuffer.{Match, piece_length}
 use Rattle.sender_model.specs.declared.spot.Spot.{Spot}
@@ -20,6 +20,13 @@ start-within plan m r below =
     rises : (n a : ℕ) → piece_start plan m a ≤ piece_start plan m (a + n)
     rises zero a = omega (arith, ap (piece_start plan m) (let e : a + 0 ≡ a = omega arith in e))
     rises (suc n) a = omega (arith, rises n a, sum_by-range_more (piece_length m plan.c) (a + n), ap (piece_start plan m) (let e : a + suc n ≡ a + n + 1 = omega arith in e))
+
+-- what is left of the codeword behind one block more
+pub rest-more : (plan : Plan) (m : Match) (r e : ℕ) (all rest back : List ℤ) → rest ≡ drop (piece_start plan m r) all → e ≡ piece_length m plan.c r → back ≡ drop e rest
+    → back ≡ drop (piece_start plan m (r + 1)) all
+rest-more plan m r e all rest back is own behind =
+    behind ∙ ap (drop e) is ∙ drop-drop e (piece_start plan m r) all
+    ∙ ap (λ (n : ℕ). drop n all) (let sum : piece_start plan m r + e ≡ piece_start plan m (r + 1) = omega (arith, own, sum_by-range_more (piece_length m plan.c) r) in sum)
 
 -- each cell of a block has the values that belong to it
 abbrev pub HasTaken : Plan → Reception → ℕ → List ℤ → List ℤ → Type 0

@@ -1,5 +1,5 @@
 //! The soft buffers of a transport block.
-ghost use Rattle.std.specs.Prelude.{◌≡◌, ◌≤◌, ◌<◌, ◌++◌, [], ◌∷◌, List, IfOk, length};
+ghost use Rattle.std.specs.Prelude.{◌≡◌, ◌≤◌, ◌<◌, ◌+◌, ◌*◌, ◌++◌, [], ◌∷◌, List, IfOk, length, pos, replicate};
 ghost use Rattle.sender_model.specs.Segmentation.{plan_of};
 ghost use Rattle.sender_model.specs.CircularBuffer.{FitsIn};
 ghost use Rattle.rate_match.specs.Matching.{limit_of};
@@ -36,6 +36,14 @@ impl Model for HarqBuffers {
     ghost invariant = { IsKept };
 }
 
+/// The cells of a block of `k` bits before the first transmission.
+fn fresh_cells(alloc: Global, k: usize) -> Result<List<Soft>, NoMemory>
+    requires { k ≤ 6144 }
+    ensures { IfOk result (λ cells. cells ≡ replicate (3 * (k + 4)) (pos 0)) }
+{
+    Ok(List::from_vec(vec![in alloc; Soft::ZERO; 3 * (k + 4)]?))
+}
+
 impl HarqBuffers {
     /// The buffers of a transport block of this plan, which the soft buffer fits, before the first
     /// transmission: every cell is 0.
@@ -47,8 +55,7 @@ impl HarqBuffers {
     {
         let mut blocks = Vec::with_capacity(alloc, plan.c)?;
         for r in 0..plan.c {
-            let cells = vec![in alloc; Soft::ZERO; 3 * (size(plan, r) + 4)]?;
-            blocks.push(List::from_vec(cells))?;
+            blocks.push(fresh_cells(alloc, size(plan, r))?)?;
         }
         Ok(HarqBuffers {
             plan: *plan,

@@ -17,6 +17,7 @@ fn add_piece(cells: &mut [Soft], plan: &Plan, m: &Match, r: usize, rv: u8, value
     requires cells { length cells.old ≡ 3 * (size (plan_of plan.now.bytes) r + 4) }
     requires fits { Fits m.now (plan_of plan.now.bytes) }
     requires version { rv ≤ 3 }
+    requires few { length values.now ≤ 1000000 }
     requires values { length values.now ≡ piece_length m.now (plan_of plan.now.bytes).c r }
     ensures cells { (all : List ℤ) → values.now ≡ piece (plan_of plan.now.bytes) (reception m.now rv all) r →
         (s : Bit) → IsBit (size (plan_of plan.now.bytes) r) s →

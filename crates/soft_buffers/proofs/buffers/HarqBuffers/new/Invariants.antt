@@ -1,7 +1,8 @@
-use Rattle.std.proofs.Common.{◌≡◌, ◌+◌, ◌*◌, ℕ, pos, map, replicate}
+use Rattle.std.proofs.Common.{◌≡◌, map}
 use Rattle.std.specs.List.{range_with_len}
-use Rattle.sender_model.specs.Segmentation.{plan_of, size}
+use Rattle.sender_model.specs.Segmentation.{plan_of}
+use Rattle.soft_buffers.proofs.Fresh.{fresh}
 use Rattle.soft_buffers.proofs.buffers.HarqBuffers.new.Given as goal
 
 abbrev pub invariant-loop-r : goal.invariant-loop-r
-invariant-loop-r l = l.blocks.items ≡ map (λ r. replicate (3 * (size (plan_of l.plan.bytes) r + 4)) (pos 0)) (range_with_len 0 l.r)
+invariant-loop-r l = l.blocks.items ≡ map (fresh (plan_of l.plan.bytes)) (range_with_len 0 l.r)
