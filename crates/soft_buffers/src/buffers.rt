@@ -7,7 +7,7 @@ ghost use Rattle.receiver_model.specs.SoftCells.{Reception, reception, soft_stre
 ghost use Rattle.soft_buffers.specs.Buffers.{Hold};
 
 use crate::pieces::add_codeword;
-use crate::streams::begun_with;
+use crate::streams::streams_of;
 use lte_bits::{List, NoMemory, Soft, SoftStreams};
 use rate_match::{Buffer, Match};
 use segmentation::plans::Plan;
@@ -86,16 +86,11 @@ impl HarqBuffers {
         ensures { (xs : List Reception) → Hold self.now xs →
             IfOk result (λ streams. streams ≡ soft_streams self.now.plan xs r) }
     {
-        let fill = fill(&self.plan, r);
-        let places = size(&self.plan, r) + 4;
-        let cells = self.blocks[r].as_slice();
-        let (d0, behind) = cells.split_at(places);
-        let (d1, d2) = behind.split_at(places);
-        Ok(SoftStreams {
-            fill,
-            d0: begun_with(alloc, fill, Soft::from_i8(127), d0)?,
-            d1: begun_with(alloc, fill, Soft::ZERO, d1)?,
-            d2: begun_with(alloc, 0, Soft::ZERO, d2)?,
-        })
+        streams_of(
+            alloc,
+            size(&self.plan, r),
+            fill(&self.plan, r),
+            self.blocks[r].as_slice(),
+        )
     }
 }

@@ -23,7 +23,7 @@ fn add_piece(cells: &mut [Soft], plan: &Plan, m: &Match, r: usize, rv: u8, value
         (s : Bit) → IsBit (size (plan_of plan.now.bytes) r) s →
         cell_of (size (plan_of plan.now.bytes) r) cells.new s
         ≡ fold added (cell_of (size (plan_of plan.now.bytes) r) cells.old s)
-            (values_of (plan_of plan.now.bytes) (reception m.now rv all) r s) }
+        (values_of (plan_of plan.now.bytes) (reception m.now rv all) r s) }
     ensures long { length cells.new ≡ length cells.old }
 {
     let ring = ring_of(m, plan, r);
@@ -41,7 +41,7 @@ pub fn add_codeword(blocks: &mut [List<Soft>], plan: &Plan, m: &Match, rv: u8, s
         (s : Bit) → IsBit (size (plan_of plan.now.bytes) r) s →
         cell_of (size (plan_of plan.now.bytes) r) (cells_of_block blocks.new r) s
         ≡ fold added (cell_of (size (plan_of plan.now.bytes) r) (cells_of_block blocks.old r) s)
-            (values_of (plan_of plan.now.bytes) (reception m.now rv softs.now) r s) }
+        (values_of (plan_of plan.now.bytes) (reception m.now rv softs.now) r s) }
     ensures count { length blocks.new ≡ plan.now.c }
     ensures long { AreLong (plan_of plan.now.bytes) blocks.new }
 {

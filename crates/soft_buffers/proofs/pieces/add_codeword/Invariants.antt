@@ -1,4 +1,4 @@
-use Rattle.std.proofs.Common.{◌≡◌, drop, length}
+use Rattle.std.proofs.Common.{◌≡◌, drop}
 use Rattle.sender_model.specs.Segmentation.{plan_of}
 use Rattle.receiver_model.specs.SoftCells.{piece_start, reception}
 use Rattle.soft_buffers.proofs.Codewords.{IsPassed}

@@ -1,4 +1,4 @@
-use Rattle.std.proofs.Common.{◌≡◌, ℕ, ◌<◌, ◌≤◌, length, Contains, subst, sym, arith}
+use Rattle.std.proofs.Common.{◌≡◌, ℕ, length, Contains, subst, sym, arith}
 use Rattle.sender_model.specs.Interleaver.{sizes}
 use Rattle.sender_model.specs.Segmentation.{Plan, plan_of}
 use Rattle.sender_model.specs.Selection.{bits_from, holds_bit}

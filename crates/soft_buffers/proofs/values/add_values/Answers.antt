@@ -1,4 +1,4 @@
-use Rattle.std.proofs.Common.{◌≡◌, ℕ, ◌+◌, ◌*◌, ◌%◌, ◌<◌, ◌≤◌, ℤ, pos, List, length, get_or, set, ap, sym, ◌∙◌, arith}
+use Rattle.std.proofs.Common.{◌≡◌, ℕ, ◌+◌, ◌*◌, ◌%◌, ◌<◌, ℤ, pos, List, length, get_or, set, ap, sym, ◌∙◌, arith}
 use Rattle.std.proofs.lemmas.List.{get_or_read}
 use Rattle.rate_match.specs.Cursor.{cursor_at}
 use Rattle.rate_match.specs.declared.cursor.Cursor.{Cursor}
@@ -47,7 +47,7 @@ loop-step-preserved c =
             step.invariant.adding here (sym v.in-Some.ensures.spot) (record { stream = v.in-Some.ensures.inside.0; index = v.in-Some.ensures.inside.1 })
             c.requires.cells (omega (arith, c.if-taken-values.false, step.invariant.adding.within)) v.taken-is
             (v.cells-is ∙ changed ring.k v.in-Some.spot step.cells v.cell_index-n.result v.index-cells-n.result v.index-values-taken.result (get_or c.args.values.now step.taken v.index-values-taken.result) v.add_sat.result
-                (omega (arith, v.cell_index-n.ensures.within, c.requires.cells, step.invariant.adding.long)) v.cell_index-n.ensures.value v.index-cells-n.is v.index-values-taken.is v.add_sat.ensures);
+            (omega (arith, v.cell_index-n.ensures.within, c.requires.cells, step.invariant.adding.long)) v.cell_index-n.ensures.value v.index-cells-n.is v.index-values-taken.is v.add_sat.ensures);
       }
       | in_default v ↦ record {
         at = next;

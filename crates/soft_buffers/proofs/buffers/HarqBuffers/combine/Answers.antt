@@ -1,4 +1,4 @@
-use Rattle.std.proofs.Common.{◌≡◌, ℕ, ◌<◌, ℤ, List, ◌++◌, length, take, drop, fold, subst, sym, ap, ◌∙◌, arith}
+use Rattle.std.proofs.Common.{◌≡◌, ℕ, ℤ, List, ◌++◌, length, take, drop, fold, subst, sym, ap, ◌∙◌, arith}
 use Rattle.sender_model.specs.Segmentation.{Plan, plan_of, size}
 use Rattle.receiver_model.specs.SoftCells.{Reception, added, reception, values_of}
 use Rattle.receiver_model.proofs.SoftSums.{cell-more}
