@@ -1,5 +1,5 @@
 -- The header that was read from two units.
-use Rattle.std.proofs.Common.{◌≡◌, ℕ, ◌+◌, ◌*◌, ◌<◌, ◌≤◌, true, List, [], ◌++◌, length, take, slice_index, Some, None, refl, ap, sym, subst, ◌∙◌, arith}
+use Rattle.std.proofs.Common.{◌≡◌, ℕ, ◌+◌, ◌*◌, ◌≤◌, true, List, ◌++◌, length, take, slice_index, None, ap, sym, subst, ◌∙◌, arith}
 use Rattle.std.specs.declared.option.Option.{Option}
 use Rattle.std.proofs.lemmas.List.{length-take-le}
 use Rattle.edge_io.specs.Edge.{Takes}
@@ -9,7 +9,7 @@ use Rattle.rate_match.proofs.FitTest.{fits_all-true}
 use Rattle.rate_match.specs.declared.sends.Sending.{Sending}
 use Rattle.coded_stream.specs.Limit.{is_limit}
 use Rattle.coded_stream.specs.Header.{Header, kind_of, header_text, IsHeader}
-use Rattle.coded_stream.specs.Opening.{unless, first_refusal, version_of, first_size, sending_size, count_in, tb_in, limit_in, fields, header_in, second_opening, first_opening, opening}
+use Rattle.coded_stream.specs.Opening.{unless, first_refusal, version_of, first_size, sending_size, count_in, tb_in, fields, header_in, second_opening, first_opening, opening}
 use Rattle.coded_stream.specs.Takes.{AreSentBy}
 use Rattle.coded_stream.specs.declared.version.Version.{Version}
 use Rattle.coded_stream.specs.declared.version.Version.TheVariants.{One, Two}
@@ -78,7 +78,7 @@ header-accepted v kind unit tb sends is are = record {
 }
 
 -- how long it is, as the program counts it
-pub place-is : (h : Header) (unit : List ℕ) (first count size : ℕ) → AreSentBy h.version unit h.sends → first ≡ first_size h.version → count ≡ count_in h.version unit → size ≡ sending_size h.version
-    → first + count * size ≡ length (header_text h)
-place-is h unit first count size are first_is count_is size_is =
-    (λ i. first_is i + count_is i * size_is i) ∙ ap (λ (n : ℕ). first_size h.version + n * sending_size h.version) (sym are.count) ∙ sym (text-long h)
+pub place-is : (h : Header) (unit : List ℕ) (first second : ℕ) → AreSentBy h.version unit h.sends → first ≡ first_size h.version → second ≡ count_in h.version unit * sending_size h.version
+    → first + second ≡ length (header_text h)
+place-is h unit first second are first_is second_is =
+    (λ i. first_is i + second_is i) ∙ ap (λ (n : ℕ). first_size h.version + n * sending_size h.version) (sym are.count) ∙ sym (text-long h)

@@ -1,5 +1,5 @@
 -- The text of an accepted header is read as this header.
-use Rattle.std.proofs.Common.{◌≡◌, ℕ, zero, suc, ◌+◌, ◌*◌, ◌^◌, ◌<◌, ◌≤◌, Bool, true, cond, ◌&&◌, nat_le, List, [], ◌∷◌, ◌++◌, length, take, drop, slice_index, flat_map, All, Some, None, refl, ap, sym, ◌∙◌, append_assoc, arith}
+use Rattle.std.proofs.Common.{◌≡◌, ℕ, zero, suc, ◌+◌, ◌*◌, ◌^◌, ◌<◌, ◌≤◌, true, ◌&&◌, nat_le, List, [], ◌∷◌, ◌++◌, length, take, drop, slice_index, flat_map, All, Some, None, refl, ap, sym, ◌∙◌, append_assoc, arith}
 use Rattle.std.specs.declared.option.Option.{Option}
 use Rattle.std.proofs.lemmas.Bool.{and_parts, and_from, le-leb, leb-true, eq-eqb}
 use Rattle.std.proofs.lemmas.Nat.{from_be_bytes-to_be_bytes_2, from_be_bytes-to_be_bytes_4}
@@ -10,14 +10,14 @@ use Rattle.rate_match.specs.Fitting.{fits_all}
 use Rattle.rate_match.specs.declared.sends.Sending.{Sending}
 use Rattle.rate_match.proofs.FitTest.{true-fits_all}
 use Rattle.coded_stream.specs.Limit.{is_limit}
-use Rattle.coded_stream.specs.Header.{Header, word, half_word, word_text, half_word_text, magic, kind_code, kind_of, limit_code, limit_of_code, first_text, sending_text, header_text, AreHeld, IsHeader}
-use Rattle.coded_stream.specs.Opening.{first_refusal, is_wanted, version_of, first_size, sending_size, count_in, tb_in, limit_in, match_in, fields, sending_fields, sends_fields, sending_in, sends_in, header_in, unless, second_opening, first_opening, opening, opens}
+use Rattle.coded_stream.specs.Header.{Header, word, half_word, word_text, half_word_text, magic, kind_code, limit_code, limit_of_code, first_text, sending_text, header_text, AreHeld, IsHeader}
+use Rattle.coded_stream.specs.Opening.{is_wanted, version_of, first_size, sending_size, count_in, tb_in, limit_in, match_in, fields, sending_fields, sends_fields, sending_in, sends_in, header_in, unless, second_opening, first_opening, opening, opens}
 use Rattle.coded_stream.specs.declared.version.Version.{Version}
 use Rattle.coded_stream.specs.declared.version.Version.TheVariants.{One, Two}
 use Rattle.coded_stream.specs.declared.kind.Want.{Want}
 use Rattle.coded_stream.proofs.Fronts.{take_front, drop_front}
 use Rattle.coded_stream.proofs.Passed.{AllPass, none_refused, pass_both, kind-of_code}
-use Rattle.coded_stream.proofs.Sizes.{match-bounded}
+use Rattle.coded_stream.proofs.Sizes.{match_bounded}
 use Rattle.coded_stream.proofs.OpeningSteps.{first-long, sending-long, sends-text_long, first-whole, second-whole}
 
 -- ---- the fields of the first unit
@@ -52,7 +52,7 @@ unfolding first_text word half_word word_text half_word_text
 text-fields One h is =
     let m = common h.sends in
     let limit : limit_of_code (word (first_text One h) 14) ≡ m.limit = limit-read m.limit (word (first_text One h) 14) is.limited (from_be_bytes-to_be_bytes_4 (limit_code m.limit) (limit-small m.limit is.limited)) in
-    let g : word (first_text One h) 10 ≡ m.g = from_be_bytes-to_be_bytes_4 m.g (let few = (match-bounded m (common-lawful h.sends is.sent.some is.sent.lawful)).few in omega (arith, few)) in
+    let g : word (first_text One h) 10 ≡ m.g = from_be_bytes-to_be_bytes_4 m.g (let few = (match_bounded m (common-lawful h.sends is.sent.some is.sent.lawful)).few in omega (arith, few)) in
     record {
       first = refl;
       kind = refl;
@@ -133,7 +133,7 @@ fields-pass Two want h unit wanted is f =
 -- G, written and read
 g-read : (s : Sending) → IsMatch s.m → word (sending_text Two s) 3 ≡ s.m.g
 unfolding word word_text
-g-read s is = from_be_bytes-to_be_bytes_4 s.m.g (let few = (match-bounded s.m is).few in omega (arith, few))
+g-read s is = from_be_bytes-to_be_bytes_4 s.m.g (let few = (match_bounded s.m is).few in omega (arith, few))
 
 sending-pass : (v : Version) (place : ℕ) (s : Sending) → s.rv ≤ 3 → IsMatch s.m → AllPass (sending_fields v place (sending_text v s))
 sending-pass One place s small is = (le-leb s.rv 3 small, tt)

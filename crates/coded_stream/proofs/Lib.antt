@@ -14,5 +14,6 @@ pub mod Written
 pub mod BodyTexts
 pub mod BodySpelled
 pub mod HeaderTexts
+pub mod NumbersSpelled
 pub mod HeaderSpelled
 pub mod StreamTexts

@@ -1,10 +1,10 @@
 -- The beginning of a stream, by its two units.
-use Rattle.std.proofs.Common.{◌≡◌, ℕ, zero, suc, ◌+◌, ◌*◌, ◌<◌, ◌≤◌, ◌==◌, Bool, true, false, cond, nat_lt, List, [], ◌∷◌, ◌++◌, length, take, drop, slice_index, flat_map, Some, None, refl, ap, sym, ◌∙◌, arith}
+use Rattle.std.proofs.Common.{◌≡◌, ℕ, ◌+◌, ◌*◌, ◌<◌, ◌≤◌, ◌==◌, Bool, true, false, cond, nat_lt, List, [], ◌∷◌, ◌++◌, length, take, drop, flat_map, Some, None, refl, ap, ◌∙◌, arith}
 use Rattle.std.specs.declared.option.Option.{Option}
-use Rattle.std.proofs.lemmas.Bool.{lt-ltb, ltb-false}
-use Rattle.std.proofs.lemmas.List.{length-append, length-take-le}
+use Rattle.std.proofs.lemmas.Bool.{lt-ltb}
+use Rattle.std.proofs.lemmas.List.{length-append}
 use Rattle.rate_match.specs.declared.sends.Sending.{Sending}
-use Rattle.coded_stream.specs.Header.{Header, word, word_text, half_word_text, magic, first_text, sending_text, header_text}
+use Rattle.coded_stream.specs.Header.{Header, word_text, half_word_text, magic, first_text, sending_text, header_text}
 use Rattle.coded_stream.specs.Steps.{opening_due}
 use Rattle.coded_stream.specs.Units.{Refusal, refused_at, truncated}
 use Rattle.coded_stream.specs.Opening.{Check, Opening, opens, refuses, unless, first_refusal, version_of, first_size, sending_size, count_in, fields, sends_fields, sends_in, header_in, second_opening, first_opening}

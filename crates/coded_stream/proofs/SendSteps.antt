@@ -1,8 +1,7 @@
 -- The transmissions of a header, one after the other.
-use Rattle.std.proofs.Common.{◌≡◌, ℕ, zero, suc, ◌+◌, ◌-◌, ◌*◌, ◌<◌, ◌≤◌, true, List, [], ◌∷◌, ◌++◌, length, take, drop, All, refl, ap, sym, subst, ◌∙◌, add-one, arith}
+use Rattle.std.proofs.Common.{◌≡◌, ℕ, zero, suc, ◌+◌, ◌-◌, ◌*◌, ◌<◌, ◌≤◌, List, [], ◌∷◌, ◌++◌, length, take, drop, All, refl, ap, sym, ◌∙◌, add-one, arith}
 use Rattle.std.proofs.lemmas.List.{drop-drop}
 use Rattle.std.proofs.lemmas.Bool.{leb-true}
-use Rattle.std.specs.declared.option.Option.{Option}
 use Rattle.rate_match.specs.Matching.{IsMatch}
 use Rattle.rate_match.specs.Sendings.{AreSendings, common}
 use Rattle.rate_match.specs.declared.sends.Sending.{Sending}

@@ -1,5 +1,5 @@
 -- The text of a stream is read as this stream, and so says one alone.
-use Rattle.std.proofs.Common.{◌≡◌, ℕ, true, List, [], ◌∷◌, ◌++◌, length, refl, ap, sym, subst, ◌∙◌}
+use Rattle.std.proofs.Common.{◌≡◌, ℕ, true, List, ◌++◌, length, refl, ap, sym, subst, ◌∙◌}
 use Rattle.coded_stream.specs.Header.{Header, header_text, kind_code}
 use Rattle.coded_stream.specs.Blocks.{Block}
 use Rattle.coded_stream.specs.Text.{body_text, stream_text}

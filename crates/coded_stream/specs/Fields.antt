@@ -1,7 +1,11 @@
 -- What the units of a header are read as.
-use Rattle.std.specs.Prelude.{◌≡◌, ℕ, ◌+◌, ◌*◌, ◌<◌, ◌≤◌, Bool, List, length, slice_index, Some, None}
+use Rattle.std.specs.Prelude.{◌≡◌, ℕ, ◌+◌, ◌*◌, ◌<◌, ◌≤◌, true, false, Bool, ◌&&◌, List, length, slice_index, Some, None}
+use Rattle.std.specs.declared.option.Option.{Option}
 use Rattle.rate_match.specs.Matching.{IsMatch, is_g, limit_of}
-use Rattle.coded_stream.specs.Header.{word}
+use Rattle.rate_match.specs.Fitting.{fits_all}
+use Rattle.rate_match.specs.declared.matching.Buffer.{Buffer}
+use Rattle.coded_stream.specs.Limit.{is_limit}
+use Rattle.coded_stream.specs.Header.{word, limit_of_code}
 use Rattle.coded_stream.specs.Units.{refused_at}
 use Rattle.coded_stream.specs.Opening.{Check, first_refusal, first_size, count_in, tb_in, limit_in, match_in, sending_fields, sending_in, sends_fields, sends_in}
 use Rattle.coded_stream.specs.declared.version.Version.{Version}
@@ -16,6 +20,12 @@ use Rattle.coded_stream.specs.declared.sendings.SendsRead.TheVariants as all
 -- G of version One is accepted
 abbrev pub has_good_g : List ℕ → Bool
 has_good_g unit = is_g (slice_index unit 6 * slice_index unit 5) (word unit 10)
+
+-- the buffer of N_IR, where it is accepted with payloads of up to tb bytes
+abbrev pub BufferIsRead : (limit tb : ℕ) → Option Buffer → Type 0
+BufferIsRead limit tb None = (is_limit (limit_of_code limit) && fits_all (limit_of_code limit) tb) ≡ false
+BufferIsRead limit tb (Some buffer) = (limit_of buffer ≡ limit_of_code limit)
+    × ((is_limit (limit_of_code limit) && fits_all (limit_of_code limit) tb) ≡ true)
 
 -- the numbers of a unit whose fields pass, or the first that doesn't
 abbrev pub AreRead : Version → List Check → List ℕ → Fields → Type 0
@@ -35,7 +45,8 @@ SendingIsRead v unit bytes (one.Good m rv) = (sending_in v unit bytes ≡ record
     × (rv ≤ 3) × (m.limit ≡ limit_in v unit)
     × ((size place : ℕ) → first_refusal size (sending_fields v place bytes) ≡ None)
 SendingIsRead v unit bytes (one.Bad at) = (at < length bytes)
-    × ((size place : ℕ) → first_refusal size (sending_fields v place bytes) ≡ Some (refused_at 3 (place + at) size))
+    × ((size place : ℕ) → first_refusal size (sending_fields v place bytes)
+    ≡ Some (refused_at 3 (place + at) size))
 
 abbrev pub SendsAreRead : Version → List ℕ → (count : ℕ) → List ℕ → SendsRead → Type 0
 SendsAreRead v unit count bytes (all.Good sends) = (sends ≡ sends_in v unit count bytes)

@@ -4,7 +4,7 @@ ghost use Rattle.rate_match.specs.Matching.{limit_of};
 ghost use Rattle.rate_match.specs.Fitting.{fits_all};
 ghost use Rattle.coded_stream.specs.Header.{limit_of_code};
 ghost use Rattle.coded_stream.specs.Opening.{first_size, fields, further_fields, size_fields};
-ghost use Rattle.coded_stream.specs.Fields.{AreRead, has_good_g};
+ghost use Rattle.coded_stream.specs.Fields.{AreRead, BufferIsRead, has_good_g};
 
 use crate::kind::Want;
 use crate::unit::{half_word, word};
@@ -17,9 +17,16 @@ use segmentation::planning::plan;
 pub enum Fields {
     /// The soft buffer, the bytes of the greatest payload, and the number of transmissions of each
     /// block.
-    Good { buffer: Buffer, tb: usize, count: usize },
+    Good {
+        buffer: Buffer,
+        tb: usize,
+        count: usize,
+    },
     /// A field isn't accepted.
-    Bad { number: u8, place: u64 },
+    Bad {
+        number: u8,
+        place: u64,
+    },
 }
 
 /// The buffer that a header's number for it stands for.
@@ -42,6 +49,21 @@ fn fits_lengths(buffer: Buffer, tb: usize) -> bool
     match plan(tb) {
         Ok(plan) => fits_buffer(buffer, &plan),
         Err(_) => unreachable!(),
+    }
+}
+
+/// The buffer of a header's number for it, where that is accepted with payloads of up to `tb`
+/// bytes.
+fn read_buffer(limit: u32, tb: usize) -> Option<Buffer>
+    requires some { 1 ≤ tb }
+    requires few { tb ≤ 18722 }
+    ensures { BufferIsRead limit tb result }
+{
+    let buffer = buffer_of(limit);
+    if limit > 1_000_000 || !fits_lengths(buffer, tb) {
+        None
+    } else {
+        Some(buffer)
     }
 }
 
@@ -70,12 +92,10 @@ fn read_first_sizes(unit: &[u8], good: bool) -> Fields
     if !good {
         return bad_field(10);
     }
-    let limit = word(unit, 14);
-    let buffer = buffer_of(limit);
-    if limit > 1_000_000 || !fits_lengths(buffer, tb) {
-        return bad_field(14);
+    match read_buffer(word(unit, 14), tb) {
+        Some(buffer) => Fields::Good { buffer, tb, count },
+        None => bad_field(14),
     }
-    Fields::Good { buffer, tb, count }
 }
 
 /// The fields of version One behind the kind, checked in order of place.
@@ -106,12 +126,10 @@ fn read_two(unit: &[u8]) -> Fields
     if tb < 1 || tb > 18722 {
         return bad_field(6);
     }
-    let limit = word(unit, 8);
-    let buffer = buffer_of(limit);
-    if limit > 1_000_000 || !fits_lengths(buffer, tb) {
-        return bad_field(8);
+    match read_buffer(word(unit, 8), tb) {
+        Some(buffer) => Fields::Good { buffer, tb, count },
+        None => bad_field(8),
     }
-    Fields::Good { buffer, tb, count }
 }
 
 /// The fields of the first unit, checked in order of place.

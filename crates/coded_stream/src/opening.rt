@@ -88,7 +88,7 @@ pub fn read_second<S: Source>(
     ensures fault { result ≡ Second.Fault → Rose (S.faults source.old) (S.faults source.new) }
 {
     let mut room = [0u8; 56];
-    let bytes = &mut room[..count * version.sending_size()];
+    let bytes = &mut room[..version.second_size(count)];
     let start = version.first_size() as u64;
     match read_unit(source, bytes) {
         Unit::Whole => match read_sends(version, unit, buffer, count, bytes) {

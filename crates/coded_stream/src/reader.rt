@@ -81,7 +81,7 @@ impl StreamReader {
                             tb,
                             sends,
                         },
-                        place: (version.first_size() + count * version.sending_size()) as u64,
+                        place: (version.first_size() + version.second_size(count)) as u64,
                         blocks: 0,
                         live: true,
                     }),

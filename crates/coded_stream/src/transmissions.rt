@@ -1,5 +1,5 @@
 //! Reading the transmissions of a block.
-ghost use Rattle.std.specs.Prelude.{◌≡◌, ◌≤◌, ◌<◌, ◌*◌, ◌^◌, ℕ, List, [], Some, length};
+ghost use Rattle.std.specs.Prelude.{◌≡◌, ◌≤◌, ◌<◌, ◌*◌, ◌^◌, ℕ, List, [], Some, length, slice_get};
 ghost use Rattle.edge_io.specs.Edge.{Rose};
 ghost use Rattle.coded_stream.specs.Blocks.{lengths, block_size, AreTransmissions};
 ghost use Rattle.coded_stream.specs.Body.{transmissions_step};
@@ -11,6 +11,17 @@ use crate::header::Header;
 use crate::transmission::{Transmission, read_transmission, transmission_size};
 use edge_io::Source;
 
+/// G of a transmission.
+#[tactic(auto, using(crate::proofs::Sizes::match_bounded, crate::proofs::Turns::length_of))]
+fn length_at(header: &Header, turn: usize) -> usize
+    requires { turn < length header.now.sends }
+    ensures value { slice_get (lengths (header_of header.now)) turn ≡ Some result }
+    ensures some { 1 ≤ result }
+    ensures few { result ≤ 1000000 }
+{
+    header.sends.at(turn).0.g()
+}
+
 /// The bytes of the transmissions of a block, at most 8,000,000.
 pub fn block_size(header: &Header) -> usize
     ensures value { result ≡ block_size header.now.kind (lengths (header_of header.now)) }
@@ -18,7 +29,7 @@ pub fn block_size(header: &Header) -> usize
 {
     let mut total = 0usize;
     for turn in 0..header.sends.len() {
-        total += transmission_size(header.kind, header.sends.at(turn).0.g());
+        total += transmission_size(header.kind, length_at(header, turn));
     }
     total
 }
@@ -43,7 +54,7 @@ pub fn read_transmissions<S: Source>(
 {
     let mut read = 0usize;
     for turn in 0..header.sends.len() {
-        let g = header.sends.at(turn).0.g();
+        let g = length_at(header, turn);
         let size = transmission_size(header.kind, g);
         let place = start + 4 + read as u64;
         match read_transmission(source, header.kind, g, &mut into[read..read + size]) {

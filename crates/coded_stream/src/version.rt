@@ -1,5 +1,5 @@
 //! The versions of the container.
-ghost use Rattle.std.specs.Prelude.{◌≡◌, ◌≤◌};
+ghost use Rattle.std.specs.Prelude.{◌≡◌, ◌≤◌, ◌*◌};
 ghost use Rattle.coded_stream.specs.Header.{magic};
 ghost use Rattle.coded_stream.specs.Opening.{first_size, sending_size};
 
@@ -44,6 +44,18 @@ impl Version {
         match self {
             Version::One => 1,
             Version::Two => 7,
+        }
+    }
+
+    /// The bytes of the second unit, of so many transmissions, one to eight.
+    pub(crate) fn second_size(self, count: usize) -> usize
+        requires { count ≤ 8 }
+        ensures value { result ≡ count * sending_size self }
+        ensures few { result ≤ 56 }
+    {
+        match self {
+            Version::One => count,
+            Version::Two => 7 * count,
         }
     }
 }

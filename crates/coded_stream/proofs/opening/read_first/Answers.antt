@@ -1,7 +1,6 @@
-use Rattle.std.proofs.Common.{◌≡◌, ℕ, ◌+◌, ◌-◌, ◌<◌, ◌≤◌, List, ◌++◌, length, take, drop, ap, sym, subst, ◌∙◌, append_assoc, arith}
+use Rattle.std.proofs.Common.{◌≡◌, ℕ, ◌-◌, ◌<◌, List, ◌++◌, length, take, drop, ap, sym, subst, ◌∙◌, append_assoc, arith}
 use Rattle.std.proofs.lemmas.List.{length-append, length-take-le, length-drop}
 use Rattle.std.proofs.lemmas.Slice.{take-put_mid}
-use Rattle.std.specs.declared.option.Option.{Option}
 use borrow.Rule.Slice.PartMut.{put_mid}
 use Rattle.edge_io.specs.Edge.{Takes}
 use Rattle.edge_io.proofs.Known.{takes_then}
@@ -85,7 +84,7 @@ returns-in-Fault-read_unit-clause-bytes g c =
       unit ++ w.0,
       takes_then _ _ _ unit w.0 c.in-Whole.ensures.bytes w.2,
       λ left. (
-        let is : first_size (version_of ((unit ++ w.0) ++ left)) ≡ size = ap (λ (xs : List ℕ). first_size (version_of xs)) (append_assoc unit w.0 left) ∙ ap first_size (f.is (w.0 ++ left)) ∙ sym f.size_is in
-        omega (arith, length-append unit w.0, f.long, is, less, rest_long, c.first_size.ensures.some)
-      ),
+          let is : first_size (version_of ((unit ++ w.0) ++ left)) ≡ size = ap (λ (xs : List ℕ). first_size (version_of xs)) (append_assoc unit w.0 left) ∙ ap first_size (f.is (w.0 ++ left)) ∙ sym f.size_is in
+          omega (arith, length-append unit w.0, f.long, is, less, rest_long, c.first_size.ensures.some)
+          ),
     )

@@ -1,5 +1,4 @@
-use Rattle.std.proofs.Common.{◌≡◌, ℕ, ◌+◌, ◌*◌, ◌<◌, ◌≤◌, List, [], length, take, Some, None, refl, ap, sym, subst, ◌∙◌, arith}
-use Rattle.std.proofs.Math.Nat.{mul-le-mul_left}
+use Rattle.std.proofs.Common.{◌≡◌, ℕ, ◌+◌, ◌*◌, ◌<◌, ◌≤◌, List, [], length, take, refl, ap, sym, subst, ◌∙◌, arith}
 use Rattle.std.proofs.lemmas.List.{append-nil, length-take-le}
 use Rattle.edge_io.proofs.Told.{told_rest, told_all}
 use Rattle.rate_match.specs.declared.sends.Sending.{Sending}
@@ -9,17 +8,6 @@ use Rattle.coded_stream.proofs.Passed.{all_pass}
 use Rattle.coded_stream.proofs.SendSteps.{sends-accepted, sends-long}
 use Rattle.coded_stream.proofs.OpeningSteps.{same_refuses, second-short, second-whole}
 use Rattle.coded_stream.proofs.opening.read_second.Goals as goal
-
--- the room is enough
-few_bytes : (count size : ℕ) → count ≤ 8 → size ≤ 7 → count * size ≤ 56
-few_bytes count size few small =
-    let le : size * count ≤ size * 8 = mul-le-mul_left size few in
-    let same : size * count ≡ count * size = omega arith in
-    omega (arith, le, same, small)
-
--- the bytes as the program counts them, and as the unit says
-counted : (count size n given : ℕ) → count ≡ n → size ≡ given → count * size ≡ n * given
-counted count size n given a b i = a i * b i
 
 pub returns-in-Good-clause-sent : goal.returns-in-Good-clause-sent
 returns-in-Good-clause-sent g c =
@@ -38,11 +26,10 @@ returns-in-Bad-clause-told g c input is =
     let unit = c.args.unit.now in
     let bytes = c.read_unit.new.unit in
     let count : ℕ = c.args.count in
-    let size : ℕ = c.sending_size.result in
+    let size : ℕ = c.second_size.result in
     let n : ℕ = count_in v unit * sending_size v in
     let t = told_rest _ _ bytes input c.in-Whole.ensures.bytes is in
-    let few : count * size ≤ 56 = few_bytes count size c.requires.few c.sending_size.ensures.few in
-    let long : length bytes ≡ n = c.read_unit.auto.unit ∙ length-take-le (count * size) _ few ∙ counted count size (count_in v unit) (sending_size v) c.requires.count c.sending_size.ensures.value in
+    let long : length bytes ≡ n = c.read_unit.auto.unit ∙ length-take-le size _ c.second_size.ensures.few ∙ c.second_size.ensures.value ∙ ap (λ (k : ℕ). k * sending_size v) c.requires.count in
     let read = c.in-Bad.ensures in (
       bytes,
       t.left,
@@ -60,12 +47,11 @@ returns-in-Short-clause-told g c input is =
     let v = c.args.version in
     let unit = c.args.unit.now in
     let count : ℕ = c.args.count in
-    let size : ℕ = c.sending_size.result in
+    let size : ℕ = c.second_size.result in
     let took = c.in-Short.ensures.bytes in
     let part : List ℕ = take c.in-Short.got c.read_unit.new.unit in
     let t = told_all _ _ part input took.1 took.2 is in
-    let few : count * size ≤ 56 = few_bytes count size c.requires.few c.sending_size.ensures.few in
-    let all : length c.read_unit.new.unit ≡ count_in v unit * sending_size v = c.read_unit.auto.unit ∙ length-take-le (count * size) _ few ∙ counted count size (count_in v unit) (sending_size v) c.requires.count c.sending_size.ensures.value in
+    let all : length c.read_unit.new.unit ≡ count_in v unit * sending_size v = c.read_unit.auto.unit ∙ length-take-le size _ c.second_size.ensures.few ∙ c.second_size.ensures.value ∙ ap (λ (k : ℕ). k * sending_size v) c.requires.count in
     let long : length part ≡ c.in-Short.got = length-take-le c.in-Short.got c.read_unit.new.unit (let less = took.0 in omega (arith, less)) in
     let short : length part < count_in v unit * sending_size v = (let less = took.0 in omega (arith, long, less, all)) in
     let start : c.first_size-start.result ≡ first_size v = c.first_size-start.ensures.value in (

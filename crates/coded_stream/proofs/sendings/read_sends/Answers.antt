@@ -1,10 +1,10 @@
-use Rattle.std.proofs.Common.{◌≡◌, ℕ, ◌+◌, ◌-◌, ◌*◌, ◌<◌, ◌≤◌, List, [], ◌∷◌, ◌++◌, length, take, drop, Some, None, Bool, false, IsTrue, refl, ap, sym, subst, ◌∙◌, arith}
+use Rattle.std.proofs.Common.{◌≡◌, ℕ, ◌+◌, ◌-◌, ◌*◌, ◌<◌, ◌≤◌, List, [], ◌∷◌, ◌++◌, length, take, drop, Some, None, Bool, false, IsTrue, ap, sym, ◌∙◌, arith}
 use Rattle.std.proofs.Math.Nat.{mul-le-mul_left}
-use Rattle.std.proofs.lemmas.List.{length-take-le, length-drop, drop_all, append-nil}
+use Rattle.std.proofs.lemmas.List.{length-take-le, length-drop}
 use Rattle.rate_match.specs.declared.sends.Sending.{Sending}
 use Rattle.rate_match.specs.Sendings.{common}
 use Rattle.coded_stream.specs.Units.{refused_at}
-use Rattle.coded_stream.specs.Opening.{Check, first_refusal, sending_size, sending_fields, sends_fields, sending_in, sends_in, limit_in}
+use Rattle.coded_stream.specs.Opening.{Check, first_refusal, sending_size, sending_fields, sending_in, sends_in}
 use Rattle.coded_stream.specs.declared.version.Version.{Version}
 use Rattle.coded_stream.proofs.Passed.{all_pass, refused_front, refused_behind}
 use Rattle.coded_stream.proofs.SendSteps.{sends-long, sends-more, fields-step, first-step, common-limit}

@@ -1,12 +1,12 @@
-use Rattle.std.proofs.Common.{◌≡◌, ℕ, ◌+◌, ◌-◌, ◌<◌, ◌≤◌, List, [], ◌++◌, length, take, refl, ap, sym, subst, ◌∙◌, arith}
+use Rattle.std.proofs.Common.{◌≡◌, ℕ, ◌+◌, ◌-◌, ◌<◌, ◌≤◌, List, ◌++◌, length, take, refl, ap, sym, subst, ◌∙◌, arith}
 use Rattle.std.proofs.lemmas.List.{take_all, length-take-le}
 use Rattle.std.proofs.lemmas.Slice.{take-put_mid}
 use borrow.Rule.Slice.PartMut.{put_mid}
 use Rattle.coded_stream.specs.Blocks.{lengths, block_size, transmission_size, AreTransmissions}
 use Rattle.coded_stream.specs.Shown.{header_of}
 use Rattle.coded_stream.specs.declared.kind.Kind.{Kind}
-use Rattle.coded_stream.proofs.Sizes.{match-bounded, size-bounded}
-use Rattle.coded_stream.proofs.Turns.{IsTurn, turn-of, lengths-long}
+use Rattle.coded_stream.proofs.Sizes.{size-bounded}
+use Rattle.coded_stream.proofs.Turns.{IsTurn, turn-is, lengths-long}
 use Rattle.coded_stream.proofs.Sent.{IsMidway, AreTransmissions-more}
 use Rattle.coded_stream.proofs.Midway.{midway-more, midway-bad, midway-cut, midway-fault, midway-done}
 use Rattle.coded_stream.proofs.transmissions.read_transmissions.Goals as goal
@@ -18,8 +18,8 @@ within kind gs turn g read size long t read_is size_is long_is = (let e = t.with
 pub slice_bounds-read_transmission-end : goal.slice_bounds-read_transmission-end
 slice_bounds-read_transmission-end g c =
     let h = c.args.header.now in
-    let t = turn-of h.kind h.sends c.loop-turn.turn _ c.g-g.result c.at.ensures.value c.g-g.ensures.value in
-    within h.kind (lengths (header_of h)) c.loop-turn.turn c.g-g.result c.loop-turn.read c.transmission_size-size.result _ t c.loop-turn.invariant.read c.transmission_size-size.ensures (c.loop-turn.auto.into ∙ c.requires.size)
+    let t = turn-is h.kind (lengths (header_of h)) c.loop-turn.turn c.length_at-g.result c.length_at-g.ensures.value in
+    within h.kind (lengths (header_of h)) c.loop-turn.turn c.length_at-g.result c.loop-turn.read c.transmission_size-size.result _ t c.loop-turn.invariant.read c.transmission_size-size.ensures (c.loop-turn.auto.into ∙ c.requires.size)
 
 pub returns-in-BadBit-clause-told : goal.returns-in-BadBit-clause-told
 returns-in-BadBit-clause-told g c input is =
@@ -27,14 +27,14 @@ returns-in-BadBit-clause-told g c input is =
     let turn : ℕ = c.loop-turn.turn in
     let size : ℕ = c.transmission_size-size.result in
     let into = c.loop-turn.into in
-    let t = turn-of h.kind h.sends turn _ c.g-g.result c.at.ensures.value c.g-g.ensures.value in
-    let room : c.loop-turn.read + size ≤ length into = within h.kind (lengths (header_of h)) turn c.g-g.result c.loop-turn.read size (length into) t c.loop-turn.invariant.read c.transmission_size-size.ensures (c.loop-turn.auto.into ∙ c.requires.size) in
+    let t = turn-is h.kind (lengths (header_of h)) turn c.length_at-g.result c.length_at-g.ensures.value in
+    let room : c.loop-turn.read + size ≤ length into = within h.kind (lengths (header_of h)) turn c.length_at-g.result c.loop-turn.read size (length into) t c.loop-turn.invariant.read c.transmission_size-size.ensures (c.loop-turn.auto.into ∙ c.requires.size) in
     let read : length (take c.loop-turn.read into) ≡ c.loop-turn.read = length-take-le c.loop-turn.read into (omega (arith, room)) in
-    let unit_long : length c.read_transmission.new.bytes ≡ transmission_size h.kind c.g-g.result = omega (arith, c.read_transmission.auto.bytes, c.transmission_size-size.ensures) in
-    let some = (size-bounded h.kind c.at.result.0.g (match-bounded c.at.result.0 c.g-g.ensures.lawful)).some in
-    midway-bad h.kind c.args.start c.args.payload c.g-g.result turn _ (lengths (header_of h)) (take c.loop-turn.read into) c.read_transmission.new.bytes input into _ _ _
+    let unit_long : length c.read_transmission.new.bytes ≡ transmission_size h.kind c.length_at-g.result = omega (arith, c.read_transmission.auto.bytes, c.transmission_size-size.ensures) in
+    let some = (size-bounded h.kind c.length_at-g.result (record { some = c.length_at-g.ensures.some; few = c.length_at-g.ensures.few })).some in
+    midway-bad h.kind c.args.start c.args.payload c.length_at-g.result turn _ (lengths (header_of h)) (take c.loop-turn.read into) c.read_transmission.new.bytes input into _ _ _
     (c.loop-turn.invariant.told input is) t is c.in-BadBit.ensures.bytes.0 unit_long c.in-BadBit.ensures.bytes.1
-    (omega (arith, read, c.transmission_size-size.ensures, some, ap (transmission_size h.kind) c.g-g.ensures.value))
+    (omega (arith, read, c.transmission_size-size.ensures, some))
 
 pub returns-in-Short-clause-told : goal.returns-in-Short-clause-told
 returns-in-Short-clause-told g c input is =
@@ -42,24 +42,24 @@ returns-in-Short-clause-told g c input is =
     let turn : ℕ = c.loop-turn.turn in
     let size : ℕ = c.transmission_size-size.result in
     let into = c.loop-turn.into in
-    let t = turn-of h.kind h.sends turn _ c.g-g.result c.at.ensures.value c.g-g.ensures.value in
-    let room : c.loop-turn.read + size ≤ length into = within h.kind (lengths (header_of h)) turn c.g-g.result c.loop-turn.read size (length into) t c.loop-turn.invariant.read c.transmission_size-size.ensures (c.loop-turn.auto.into ∙ c.requires.size) in
+    let t = turn-is h.kind (lengths (header_of h)) turn c.length_at-g.result c.length_at-g.ensures.value in
+    let room : c.loop-turn.read + size ≤ length into = within h.kind (lengths (header_of h)) turn c.length_at-g.result c.loop-turn.read size (length into) t c.loop-turn.invariant.read c.transmission_size-size.ensures (c.loop-turn.auto.into ∙ c.requires.size) in
     let read : length (take c.loop-turn.read into) ≡ c.loop-turn.read = length-take-le c.loop-turn.read into (omega (arith, room)) in
     let took = c.in-Short.ensures.bytes in
     let part : List ℕ = take c.in-Short.got c.read_transmission.new.bytes in
     let long : length part ≡ c.in-Short.got = length-take-le c.in-Short.got c.read_transmission.new.bytes (omega (arith, took.0)) in
-    let few : length part < transmission_size h.kind c.g-g.result = omega (arith, long, took.0, c.read_transmission.auto.bytes, c.transmission_size-size.ensures) in
-    midway-cut h.kind c.args.start c.args.payload c.g-g.result turn _ (lengths (header_of h)) (take c.loop-turn.read into) part input into _ _ _
+    let few : length part < transmission_size h.kind c.length_at-g.result = omega (arith, long, took.0, c.read_transmission.auto.bytes, c.transmission_size-size.ensures) in
+    midway-cut h.kind c.args.start c.args.payload c.length_at-g.result turn _ (lengths (header_of h)) (take c.loop-turn.read into) part input into _ _ _
     (c.loop-turn.invariant.told input is) t is took.1 took.2 few (omega (arith, read, long))
 
 pub returns-in-Fault-clause-told : goal.returns-in-Fault-clause-told
 returns-in-Fault-clause-told g c input is =
     let h = c.args.header.now in
     let turn : ℕ = c.loop-turn.turn in
-    let t = turn-of h.kind h.sends turn _ c.g-g.result c.at.ensures.value c.g-g.ensures.value in
+    let t = turn-is h.kind (lengths (header_of h)) turn c.length_at-g.result c.length_at-g.ensures.value in
     let took = c.in-Fault.ensures.bytes in
-    let few : length took.0 < transmission_size h.kind c.g-g.result = omega (arith, took.1, c.read_transmission.auto.bytes, c.transmission_size-size.ensures) in
-    midway-fault h.kind c.args.start c.args.payload c.g-g.result turn (lengths (header_of h)) (take c.loop-turn.read c.loop-turn.into) took.0 input c.loop-turn.into _ _ _
+    let few : length took.0 < transmission_size h.kind c.length_at-g.result = omega (arith, took.1, c.read_transmission.auto.bytes, c.transmission_size-size.ensures) in
+    midway-fault h.kind c.args.start c.args.payload c.length_at-g.result turn (lengths (header_of h)) (take c.loop-turn.read c.loop-turn.into) took.0 input c.loop-turn.into _ _ _
     (c.loop-turn.invariant.told input is) t is took.2 few
 
 pub loop-turn-preserved : goal.loop-turn-preserved
@@ -72,17 +72,17 @@ loop-turn-preserved g c =
     let read : ℕ = c.loop-turn.read in
     let unit = c.read_transmission.new.bytes in
     let before = c.loop-turn.invariant in
-    let t = turn-of h.kind h.sends turn _ c.g-g.result c.at.ensures.value c.g-g.ensures.value in
-    let room : read + size ≤ length into = within h.kind gs turn c.g-g.result read size (length into) t before.read c.transmission_size-size.ensures (c.loop-turn.auto.into ∙ c.requires.size) in
-    let unit_long : length unit ≡ transmission_size h.kind c.g-g.result = omega (arith, c.read_transmission.auto.bytes, c.transmission_size-size.ensures) in
+    let t = turn-is h.kind (lengths (header_of h)) turn c.length_at-g.result c.length_at-g.ensures.value in
+    let room : read + size ≤ length into = within h.kind gs turn c.length_at-g.result read size (length into) t before.read c.transmission_size-size.ensures (c.loop-turn.auto.into ∙ c.requires.size) in
+    let unit_long : length unit ≡ transmission_size h.kind c.length_at-g.result = omega (arith, c.read_transmission.auto.bytes, c.transmission_size-size.ensures) in
     let front : take (read + size) (put_mid read (read + size - read) into unit) ≡ take read into ++ unit =
     take-put_mid read (read + size - read) into unit (read + size) (omega (arith, unit_long, c.transmission_size-size.ensures)) (omega (arith, room)) in
     let took = c.in-Whole.ensures.bytes in
     let P : List ℕ → Type 0 = λ hs. AreTransmissions h.kind hs (take read into ++ unit) in
     record {
       read = ap (λ (n : ℕ). n + size) before.read ∙ ap (λ (n : ℕ). block_size h.kind (take turn gs) + n) c.transmission_size-size.ensures ∙ sym t.size;
-      told = λ input is. rw front (midway-more h.kind c.args.start c.args.payload c.g-g.result turn gs (take read into) unit input _ _ (before.told input is) t took.0 unit_long took.1);
-      taken = rw front (subst P (sym t.front) (AreTransmissions-more h.kind (take turn gs) c.g-g.result (take read into) unit before.taken (record { size = unit_long; good = took.1 })));
+      told = λ input is. rw front (midway-more h.kind c.args.start c.args.payload c.length_at-g.result turn gs (take read into) unit input _ _ (before.told input is) t took.0 unit_long took.1);
+      taken = rw front (subst P (sym t.front) (AreTransmissions-more h.kind (take turn gs) c.length_at-g.result (take read into) unit before.taken (record { size = unit_long; good = took.1 })));
       later = omega (arith, before.later, c.read_transmission.ensures.later);
     }
 

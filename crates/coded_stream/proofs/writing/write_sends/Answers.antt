@@ -1,4 +1,4 @@
-use Rattle.std.proofs.Common.{◌≡◌, ℕ, List, ◌++◌, take, flat_map, sym, subst, arith}
+use Rattle.std.proofs.Common.{ℕ, List, ◌++◌, take, flat_map, sym, subst, arith}
 use Rattle.edge_io.specs.Edge.{Adds}
 use Rattle.edge_io.proofs.Known.{adds_then}
 use Rattle.rate_match.specs.declared.sends.Sending.{Sending}

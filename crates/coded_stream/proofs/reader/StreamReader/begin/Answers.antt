@@ -1,12 +1,12 @@
-use Rattle.std.proofs.Common.{◌≡◌, ℕ, ◌+◌, ◌*◌, ◌<◌, ◌≤◌, List, [], ◌++◌, length, take, slice_index, Some, None, refl, ap, sym, ◌∙◌, append_assoc, arith}
+use Rattle.std.proofs.Common.{◌≡◌, ℕ, ◌+◌, ◌*◌, ◌<◌, ◌≤◌, List, [], ◌++◌, length, take, slice_index, Some, refl, ap, sym, ◌∙◌, append_assoc, arith}
 use Rattle.std.proofs.lemmas.List.{append-nil, length-append}
 use Rattle.edge_io.proofs.Known.{takes_then}
 use Rattle.edge_io.proofs.Told.{told_rest, told_all}
 use Rattle.coded_stream.specs.Header.{Header, kind_code}
-use Rattle.coded_stream.specs.Opening.{is_wanted, version_of, first_size, count_in, sending_size, second_opening, first_opening, opening, unless, opens}
+use Rattle.coded_stream.specs.Opening.{is_wanted, version_of, first_size, count_in, sending_size, second_opening, opening, unless, opens}
 use Rattle.coded_stream.specs.Steps.{opening_due}
 use Rattle.coded_stream.proofs.Passed.{fields-passed, code-of_kind}
-use Rattle.coded_stream.proofs.OpeningSteps.{same_refuses, second-due, first-short, first-due, text-long}
+use Rattle.coded_stream.proofs.OpeningSteps.{same_refuses, second-due, first-short, first-due}
 use Rattle.coded_stream.proofs.HeaderBegun.{unit-is, by-unit, by-second, header-is, lawful, header-accepted, place-is}
 use Rattle.coded_stream.proofs.reader.StreamReader.begin.Goals as goal
 
@@ -101,8 +101,9 @@ returns-in-Good-read_second-clause-begins g c input is =
     let good = c.in-Good.ensures in
     let sends = c.in-Good-read_second.sends in
     let second : length w.0 ≡ count_in v unit * sending_size v = w.4 in
-    let counted : c.first_size-in-Good-read_second.result + c.in-Good.count * c.sending_size.result ≡ first_size v + count_in v unit * sending_size v =
-    (λ i. c.first_size-in-Good-read_second.ensures.value i + good.3 i * c.sending_size.ensures.value i) in (
+    let second_is : c.second_size.result ≡ count_in v unit * sending_size v = c.second_size.ensures.value ∙ ap (λ (n : ℕ). n * sending_size v) good.3 in
+    let counted : c.first_size-in-Good-read_second.result + c.second_size.result ≡ first_size v + count_in v unit * sending_size v =
+    (λ i. c.first_size-in-Good-read_second.ensures.value i + second_is i) in (
       unit ++ w.0,
       w.1,
       t.old_is ∙ ap Some (ap (λ (xs : List ℕ). unit ++ xs) w.2 ∙ sym (append_assoc unit w.0 w.1)),
@@ -141,7 +142,7 @@ returns-in-Good-read_second-clause-accepted g c =
     record {
       kind = ap (λ k. is_wanted c.args.want (kind_code k)) c.of.ensures ∙ ap (is_wanted c.args.want) (code-of_kind c.args.want (slice_index unit 4) passed.kind) ∙ passed.kind;
       header = header-accepted v c.of.result unit c.in-Good.tb c.in-Good-read_second.sends ok are;
-      place = place-is h unit c.first_size-in-Good-read_second.result c.in-Good.count c.sending_size.result are c.first_size-in-Good-read_second.ensures.value good.3 c.sending_size.ensures.value;
+      place = place-is h unit c.first_size-in-Good-read_second.result c.second_size.result are c.first_size-in-Good-read_second.ensures.value (c.second_size.ensures.value ∙ ap (λ (n : ℕ). n * sending_size v) good.3);
       blocks = refl;
       live = refl;
     }
