@@ -25,12 +25,12 @@ fn received(
     transmissions: &[Sent],
 ) -> Result<[Vec<i8>; 3], Fail> {
     let plan = plan(bytes)?;
-    assert!(rt; fits_buffer(buffer, &plan));
+    assert!(rt; plan.c > 0 && fits_buffer(buffer, &plan));
     let mut buffers = HarqBuffers::new(alloc, &plan, buffer)?;
     for sent in transmissions {
         let values = softs(alloc, sent.values)?;
         let m = Match::new(sent.qm, 1, u32::try_from(values.len())?, buffer)?;
-        assert!(rt; values.len() == m.g() && sent.rv <= 3);
+        assert!(rt; m.buffer() == buffer && values.len() == m.g() && sent.rv <= 3);
         buffers.combine(&m, sent.rv, values.as_slice());
     }
     let streams = buffers.streams(alloc, 0)?;
