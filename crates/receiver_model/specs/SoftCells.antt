@@ -61,14 +61,15 @@ soft_cell plan xs r s = fold added (pos 0) (values_for plan xs r s)
 -- the cells of one stream of block r: 0, 1 or 2 for d0, d1 or d2
 abbrev pub cells_of : Plan → List Reception → ℕ → ℕ → List ℤ
 cells_of plan xs r number =
-    map (λ i. soft_cell plan xs r (record { stream = number; index = i })) (range_with_len 0 (size plan r + 4))
+    map (λ i. soft_cell plan xs r (record { stream = number; index = i }))
+    (range_with_len 0 (size plan r + 4))
 
 -- values, the first n of which are v
 abbrev pub begun_with : ℕ → ℤ → List ℤ → List ℤ
 begun_with n v values = replicate n v ++ drop n values
 
--- what is decoded of block r: its cells, but for the fillers, whose bits are known to be 0 in d0, and which d1
--- says nothing of
+-- what is decoded of block r: its cells, but for the fillers, whose bits are known to be 0 in d0, and of which
+-- nothing is known in d1
 unfoldable pub soft_streams : Plan → List Reception → ℕ → SoftStreams
 soft_streams plan xs r = record {
   fill = fill plan r;
