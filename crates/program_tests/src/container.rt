@@ -1,7 +1,7 @@
 //! Streams of both versions as they are written, and each refusal at its byte.
 ghost use Rattle.std.specs.Prelude.{◌≤◌};
 
-use crate::lists::list_of;
+use crate::memory::list_of;
 use coded_stream::{StreamReader, StreamStop, Version, Want, write_header, write_length};
 use edge_io::{MemSink, MemSource, SinkFault};
 use std::alloc::{AllocError, Global};
