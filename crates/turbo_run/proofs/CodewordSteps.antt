@@ -6,7 +6,7 @@ use Rattle.std.specs.declared.option.Option.{Option}
 use Rattle.std.specs.Io.KnownBytes.{IsAtEnd}
 use Rattle.edge_io.specs.Edge.{Takes}
 use Rattle.edge_io.proofs.Known.{takes_none}
-use Rattle.run_loop.specs.Answer.{Part, Answer, Ending, finished, behind, refusal, closed, opened, size_of}
+use Rattle.run_loop.specs.Answer.{Part, Answer, finished, behind, refusal, closed, opened, size_of}
 use Rattle.run_loop.specs.Due.{IsDue, IsWithin}
 use Rattle.run_loop.specs.Step.{Steps, Stops, parts_of, ending_of}
 use Rattle.run_loop.specs.declared.work.Block.{Block}

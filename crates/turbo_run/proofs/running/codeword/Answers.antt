@@ -1,4 +1,4 @@
-use Rattle.std.proofs.Common.{◌≡◌, ℕ, [], ap, subst}
+use Rattle.std.proofs.Common.{ℕ, [], subst}
 use Rattle.run_loop.specs.Answer.{Answer, opened}
 use Rattle.run_loop.specs.Edges.{held}
 use Rattle.run_loop.specs.Ended.{Ended}
