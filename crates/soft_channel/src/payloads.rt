@@ -1,0 +1,26 @@
+//! Payloads of trials.
+ghost use Rattle.std.specs.Prelude.{◌≡◌, ◌≤◌, IfOk};
+ghost use Rattle.soft_channel.specs.TrialPayload.{trial_payload};
+
+use crate::words::{Purpose, generator};
+use lte_bits::{List, NoMemory};
+use rand_core::utils::NextWord;
+use std::alloc::Global;
+
+/// The payload of a block, counted from 0, of a trial: `length` bytes, 1 to 18722, from the seed.
+pub fn payload(
+    alloc: Global,
+    length: usize,
+    seed: u64,
+    block: u32,
+) -> Result<List<u8>, NoMemory>
+    requires { (1 ≤ length) × (length ≤ 18722) }
+    ensures { IfOk result (λ bytes. bytes ≡ trial_payload seed block length) }
+{
+    let mut words = generator(Purpose::Payload, seed, block, 0);
+    let mut bytes = Vec::with_capacity(alloc, length)?;
+    for _ in 0..length {
+        bytes.push((words.next_word() % 256) as u8)?;
+    }
+    Ok(List::from_vec(bytes))
+}
