@@ -23,16 +23,20 @@ pub record Strength : Type 0 where
 abbrev pub noise_draw : Transmission → Draw
 noise_draw t = record { purpose = Noise; seed = t.seed; block = t.block; transmission = t.number }
 
--- the term that a word gives: the sum of its four bytes, less the mean, in units of its deviation; rounded
--- toward zero
+-- by how much the sum of a word's four bytes is above its mean
+abbrev pub deviation : ℕ → ℤ
+deviation word = pos (sum (big_bytes 4 word)) -ℤ pos 510
+
+-- the term that a word gives, rounded toward zero: the sum's standard deviation is about 148, so the noise is
+-- that of the terms
 abbrev pub term : (noise word : ℕ) → ℤ
-term noise word = int_div (pos noise *ℤ (pos (sum (big_bytes 4 word)) -ℤ pos 510)) (pos 148)
+term noise word = int_div (pos noise *ℤ deviation word) (pos 148)
 
 -- the term of place i
 abbrev pub noise_term : ℕ → Transmission → ℕ → ℤ
 noise_term noise t i = term noise (word (noise_draw t) i)
 
--- the first terms
+-- the terms of the first places
 unfoldable pub noise_terms : ℕ → Transmission → ℕ → List ℤ
 noise_terms noise t count = map (noise_term noise t) (range_with_len 0 count)
 

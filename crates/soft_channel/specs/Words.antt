@@ -1,5 +1,5 @@
 -- The words that noise and trial payloads are made of: this project's own.
-use Rattle.std.specs.Prelude.{ℕ, List, [], ◌∷◌, ◌++◌, replicate}
+use Rattle.std.specs.Prelude.{ℕ, List, ◌∷◌, ◌++◌, replicate}
 use Rattle.byteorder.specs.Endian.{big_bytes}
 use Rattle.rand_chacha.specs.ChaCha.{word_at, key_of}
 use Rattle.soft_channel.specs.declared.words.Purpose.{Purpose}
@@ -16,8 +16,8 @@ abbrev pub purpose_byte : Purpose → ℕ
 purpose_byte Noise = 0
 purpose_byte Payload = 1
 
--- the generator's key of 32 bytes: the seed in 8, the block in 4, transmission and purpose in 1 each, each with
--- its highest byte first, and 18 zeros
+-- the generator's key of 32 bytes: the seed in 8, the block in 4, transmission and purpose in 1 each, each
+-- with its highest byte first, and 18 zeros
 abbrev pub key : Draw → List ℕ
 key d = big_bytes 8 d.seed ++ big_bytes 4 d.block ++ d.transmission ∷ purpose_byte d.purpose ∷ replicate 18 0
 

@@ -8,8 +8,9 @@ use lte_bits::{Bit, List, NoMemory, Soft};
 use rand_core::utils::NextWord;
 use std::alloc::Global;
 
-/// The first `count` terms of the noise on transmission `tx` of a block, both counted from 0. A term is
-/// `noise`, at most 127, times a number of mean 0 and deviation 1, rounded toward zero.
+/// The first `count` terms, at most 1,000,000, of the noise on transmission `tx`, 0 to 7, of a block, both
+/// counted from 0. A term is `noise`, at most 127, times a number of mean 0 and deviation about 1, rounded
+/// toward zero.
 pub fn noise_terms(
     alloc: Global,
     count: usize,
@@ -21,7 +22,8 @@ pub fn noise_terms(
     requires count { count ≤ 1000000 }
     requires noise { noise ≤ 127 }
     requires tx { tx ≤ 7 }
-    ensures { IfOk result (λ terms. terms ≡ noise_terms noise (record { seed = seed; block = block; number = tx }) count) }
+    ensures { IfOk result (λ terms. terms ≡ noise_terms noise
+        (record { seed = seed; block = block; number = tx }) count) }
 {
     let mut words = generator(Purpose::Noise, seed, block, tx);
     let mut terms = Vec::with_capacity(alloc, count)?;
@@ -31,8 +33,8 @@ pub fn noise_terms(
     Ok(List::from_vec(terms))
 }
 
-/// The soft values of the bits of transmission `tx` of a block, both counted from 0: `amp`, 1 to 127, for
-/// a 0 and -`amp` for a 1, and to each the term of the noise at its place, clamped to -127 to 127.
+/// The soft values of the bits of transmission `tx`, 0 to 7, of a block, both counted from 0: `amp`, 1 to
+/// 127, for a 0 and -`amp` for a 1, and to each the term of the noise at its place; clamped to -127 to 127.
 pub fn noisy(
     alloc: Global,
     bits: &[Bit],

@@ -7,13 +7,8 @@ use lte_bits::{List, NoMemory};
 use rand_core::utils::NextWord;
 use std::alloc::Global;
 
-/// The payload of a block, counted from 0, of a trial: `length` bytes, 1 to 18722, from the seed.
-pub fn payload(
-    alloc: Global,
-    length: usize,
-    seed: u64,
-    block: u32,
-) -> Result<List<u8>, NoMemory>
+/// The payload of a trial's block, counted from 0: `length` bytes, 1 to 18,722, from the seed.
+pub fn payload(alloc: Global, length: usize, seed: u64, block: u32) -> Result<List<u8>, NoMemory>
     requires { (1 ≤ length) × (length ≤ 18722) }
     ensures { IfOk result (λ bytes. bytes ≡ trial_payload seed block length) }
 {

@@ -39,7 +39,12 @@ fn key(purpose: Purpose, seed: u64, block: u32, tx: u8) -> [u8; 32]
 
 /// The generator of the words that are drawn for a purpose in a transmission of a block.
 pub fn generator(purpose: Purpose, seed: u64, block: u32, tx: u8) -> ChaCha8Rng
-    ensures { result ≡ of_seed (key (record { purpose = purpose; seed = seed; block = block; transmission = tx })) }
+    ensures { result ≡ of_seed (key (record {
+      purpose = purpose;
+      seed = seed;
+      block = block;
+      transmission = tx;
+    })) }
 {
     ChaCha8Rng::from_seed(key(purpose, seed, block, tx))
 }
