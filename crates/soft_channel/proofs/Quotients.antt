@@ -12,13 +12,10 @@ size d near = omega (arith, ints)
 abbrev pub product : (b d : ℤ) → ℤ
 product b d = to_z w32 (of_z w32 b) *ℤ to_z w32 (of_z w32 d)
 
-product-is : (b d : ℤ) (n : ℕ) → b ≡ pos n → n ≤ 127 → IsWithin 510 d → product b d ≡ pos n *ℤ d
+pub product-is : (b d : ℤ) (n : ℕ) → b ≡ pos n → n ≤ 127 → IsWithin 510 d → product b d ≡ pos n *ℤ d
 product-is b d n e few near =
     ap (λ (x : ℤ). x *ℤ to_z w32 (of_z w32 d)) (let f : to_z w32 (of_z w32 b) ≡ pos n = omega (arith, ints) in f)
     ∙ ap (λ (x : ℤ). pos n *ℤ x) (let f : to_z w32 (of_z w32 d) ≡ d = omega (arith, ints) in f)
-
-small : (d : ℤ) (n : ℕ) → n ≤ 127 → IsWithin 510 d → unsigned_abs (pos n *ℤ d) ≤ 64770
-small d n few near = omega (arith, unsigned_abs-mul (pos n) d, mul-le-mul few (size d near))
 
 fits : (d : ℤ) (n : ℕ) → n ≤ 127 → IsWithin 510 d → FitsSigned w32 (pos n *ℤ d)
 fits d n few near = fits_signed_mul w32 (pos n) d 127 510 few (size d near) (omega arith)
@@ -26,29 +23,31 @@ fits d n few near = fits_signed_mul w32 (pos n) d 127 510 few (size d near) (ome
 pub product-fits : (b d : ℤ) (n : ℕ) → b ≡ pos n → n ≤ 127 → IsWithin 510 d → FitsSigned w32 (product b d)
 product-fits b d n e few near = rw (product-is b d n e few near) (fits d n few near)
 
+-- the product in 32 bits
+pub product-cast : (b d : ℤ) (n : ℕ) → b ≡ pos n → n ≤ 127 → IsWithin 510 d → to_z w32 (of_z w32 (product b d)) ≡ pos n *ℤ d
+product-cast b d n e few near =
+    ap (λ (x : ℤ). to_z w32 (of_z w32 x)) (product-is b d n e few near) ∙ to_z-of_z w32 (pos n *ℤ d) (fits d n few near)
+
+pub small-product : (d : ℤ) (n : ℕ) → n ≤ 127 → IsWithin 510 d → IsWithin 64770 (pos n *ℤ d)
+small-product d n few near = omega (arith, ints, unsigned_abs-mul (pos n) d, mul-le-mul few (size d near))
+
 -- a quotient is near to 0
-small-quotient : (z : ℤ) → unsigned_abs z ≤ 64770 → IsWithin 437 (int_div z (pos 148))
-small-quotient (pos n) h = omega (arith, ints)
-small-quotient (negsuc n) h = omega (arith, ints)
+pub small_quotient : (z : ℤ) → IsWithin 64770 z → IsWithin 437 (int_div z (pos 148))
+small_quotient (pos n) h = omega (arith, ints)
+small_quotient (negsuc n) h = omega (arith, ints)
 
-pub near-quotient : (d : ℤ) (n : ℕ) → n ≤ 127 → IsWithin 510 d → IsWithin 437 (int_div (pos n *ℤ d) (pos 148))
-near-quotient d n few near = small-quotient (pos n *ℤ d) (small d n few near)
+cast-32 : (q : ℤ) → IsWithin 64770 q → to_z w32 (of_z w32 q) ≡ q
+cast-32 q h = omega (arith, ints)
 
-within : (q : ℤ) → IsWithin 437 q → to_z w32 (of_z w32 q) ≡ q
-within q h = omega (arith, ints)
+wider : (q : ℤ) → IsWithin 437 q → IsWithin 64770 q
+wider q h = omega (arith, ints)
 
--- the quotient as the code has it
-pub quotient-is : (b d : ℤ) (n : ℕ) → b ≡ pos n → n ≤ 127 → IsWithin 510 d
-    → to_z w32 (of_z w32 (int_div (to_z w32 (of_z w32 (product b d))) (pos 148))) ≡ int_div (pos n *ℤ d) (pos 148)
-quotient-is b d n e few near =
-    let h = near-quotient d n few near in
-    ap (λ (x : ℤ). to_z w32 (of_z w32 (int_div (to_z w32 (of_z w32 x)) (pos 148)))) (product-is b d n e few near)
-    ∙ ap (λ (x : ℤ). to_z w32 (of_z w32 (int_div x (pos 148)))) (to_z-of_z w32 (pos n *ℤ d) (fits d n few near))
-    ∙ within (int_div (pos n *ℤ d) (pos 148)) h
+-- the quotient in 32 bits
+pub quotient_cast : (z : ℤ) → IsWithin 64770 z → to_z w32 (of_z w32 (int_div (to_z w32 (of_z w32 z)) (pos 148))) ≡ int_div z (pos 148)
+quotient_cast z h =
+    ap (λ (x : ℤ). to_z w32 (of_z w32 (int_div x (pos 148)))) (cast-32 z h)
+    ∙ cast-32 (int_div z (pos 148)) (wider (int_div z (pos 148)) (small_quotient z h))
 
 -- a term stays what it is in 16 bits
-pub cast-fits : (q : ℤ) → IsWithin 437 q → FitsSigned w16 q
-cast-fits q h = search (arith, ints)
-
 pub cast : (q : ℤ) → IsWithin 437 q → to_z w16 (of_z w16 q) ≡ q
 cast q h = omega (arith, ints)

@@ -1,6 +1,6 @@
 //! Soft values of sent bits, and the noise on them by itself.
 ghost use Rattle.std.specs.Prelude.{◌≡◌, ◌≤◌, IfOk};
-ghost use Rattle.soft_channel.specs.Noise.{Strength, Transmission, noise_terms, noisy};
+ghost use Rattle.soft_channel.specs.Noise.{noise_terms, noisy};
 
 use crate::terms::{received, term};
 use crate::words::{Purpose, generator};

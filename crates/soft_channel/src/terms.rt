@@ -1,5 +1,5 @@
 //! One value of a transmission.
-ghost use Rattle.std.specs.Prelude.{◌≡◌, ◌≤◌, ◌-ℤ◌, pos};
+ghost use Rattle.std.specs.Prelude.{◌≡◌, ◌≤◌, int_div, pos};
 ghost use Rattle.std.specs.List.{sum};
 ghost use Rattle.byteorder.specs.Endian.{big_bytes};
 ghost use Rattle.lte_bits.specs.Softs.{IsWithin};
@@ -21,13 +21,23 @@ fn deviation(word: u32) -> i32
     i32::from(a) + i32::from(b) + i32::from(c) + i32::from(d) - MEAN
 }
 
-/// The term that a word gives, rounded toward zero.
+/// How many standard deviations a number is, rounded toward zero.
+#[tactic(auto, using(crate::proofs::Quotients::quotient_cast, crate::proofs::Quotients::small_quotient))]
+fn quotient(product: i32) -> i16
+    requires { IsWithin 64770 product }
+    ensures value { result ≡ int_div product (pos 148) }
+    ensures range { IsWithin 437 result }
+{
+    (product / DEVIATION) as i16
+}
+
+/// The term that a word gives.
 pub fn term(noise: u8, word: u32) -> i16
     requires { noise ≤ 127 }
     ensures value { result ≡ term noise word }
     ensures range { IsWithin 437 result }
 {
-    (i32::from(noise) * deviation(word) / DEVIATION) as i16
+    quotient(i32::from(noise) * deviation(word))
 }
 
 /// The number that a bit is sent as.

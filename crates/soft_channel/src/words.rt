@@ -1,7 +1,7 @@
 //! Words from a seed, for each purpose of their own.
 ghost use Rattle.std.specs.Prelude.{◌≡◌};
 ghost use Rattle.rand_chacha.specs.ChaCha.{of_seed};
-ghost use Rattle.soft_channel.specs.Words.{Draw, key, purpose_byte};
+ghost use Rattle.soft_channel.specs.Words.{key, purpose_byte};
 
 use byteorder::{BigEndian, ByteOrder};
 use rand_chacha::ChaCha8Rng;
