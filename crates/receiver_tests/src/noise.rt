@@ -10,11 +10,7 @@ const SEED: u64 = 0x0102_0304_0506_0708;
 const BLOCK: u32 = 0x0102;
 
 /// What is received of `count` equal bits.
-fn received(
-    alloc: Global,
-    bit: Bit,
-    count: usize,
-) -> Result<List<Soft>, NoMemory> {
+fn received(alloc: Global, bit: Bit, count: usize) -> Result<List<Soft>, NoMemory> {
     let bits = vec![in alloc; bit; count]?;
     noisy(alloc, bits.as_slice(), 40, 20, 5, 0, 0)
 }
@@ -51,16 +47,25 @@ fn terms_are_rounded_before_they_are_added(rt: HostRuntime) -> Result<(), Fail> 
             16, 62, 52, 20, 50, 53, 27, 67, 16, 37, 42, 30, 17, 75, 58, 43, 34, 54,
         ],
     )?;
-    assert_eq!(rt; received(rt.alloc(), Bit::Zero, 18)?.as_slice(), zeros.as_slice());
+    assert_eq!(rt;
+        received(rt.alloc(), Bit::Zero, 18)?.as_slice(),
+        zeros.as_slice()
+    );
     let ones = softs(
         rt.alloc(),
         &[
             -64, -18, -28, -60, -30, -27, -53, -13, -64, -43, -38, -50, -63, -5, -22, -37, -46, -26,
         ],
     )?;
-    assert_eq!(rt; received(rt.alloc(), Bit::One, 18)?.as_slice(), ones.as_slice());
+    assert_eq!(rt;
+        received(rt.alloc(), Bit::One, 18)?.as_slice(),
+        ones.as_slice()
+    );
     let terms = noise_terms(rt.alloc(), 8, 20, 5, 0, 0)?;
-    assert_eq!(rt; terms.as_slice(), [-24, 22, 12, -20, 10, 13, -13, 27].as_slice());
+    assert_eq!(rt;
+        terms.as_slice(),
+        [-24, 22, 12, -20, 10, 13, -13, 27].as_slice()
+    );
     Ok(())
 }
 
