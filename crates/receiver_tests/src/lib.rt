@@ -4,6 +4,8 @@
 #[cfg(test)]
 mod block;
 #[cfg(test)]
+mod noise;
+#[cfg(test)]
 mod transmissions;
 #[cfg(test)]
 mod values;

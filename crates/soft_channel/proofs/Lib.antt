@@ -1,0 +1,3 @@
+mod Drawing
+pub mod Lengths
+mod Quotients

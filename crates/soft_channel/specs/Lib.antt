@@ -1,0 +1,3 @@
+pub mod Noise
+pub mod TrialPayload
+pub mod Words

@@ -1,0 +1,10 @@
+//! Noise on sent bits, and payloads of trials, both from a seed.
+#![tactic(auto)]
+
+pub mod noise;
+pub mod payloads;
+mod terms;
+mod words;
+
+pub use noise::{noise_terms, noisy};
+pub use payloads::payload;

@@ -1,0 +1,59 @@
+//! Soft values of sent bits, and the noise on them by itself.
+ghost use Rattle.std.specs.Prelude.{◌≡◌, ◌≤◌, IfOk};
+ghost use Rattle.soft_channel.specs.Noise.{noise_terms, noisy};
+
+use crate::terms::{received, term};
+use crate::words::{Purpose, generator};
+use lte_bits::{Bit, List, NoMemory, Soft};
+use rand_core::utils::NextWord;
+use std::alloc::Global;
+
+/// The first `count` terms, at most 1,000,000, of the noise on transmission `tx`, 0 to 7, of a block, both
+/// counted from 0. A term is `noise`, at most 127, times a number of mean 0 and deviation about 1, rounded
+/// toward zero.
+pub fn noise_terms(
+    alloc: Global,
+    count: usize,
+    noise: u8,
+    seed: u64,
+    block: u32,
+    tx: u8,
+) -> Result<List<i16>, NoMemory>
+    requires count { count ≤ 1000000 }
+    requires noise { noise ≤ 127 }
+    requires tx { tx ≤ 7 }
+    ensures { IfOk result (λ terms. terms ≡ noise_terms noise
+        (record { seed = seed; block = block; number = tx }) count) }
+{
+    let mut words = generator(Purpose::Noise, seed, block, tx);
+    let mut terms = Vec::with_capacity(alloc, count)?;
+    for _ in 0..count {
+        terms.push(term(noise, words.next_word()))?;
+    }
+    Ok(List::from_vec(terms))
+}
+
+/// The soft values of the bits of transmission `tx`, 0 to 7, of a block, both counted from 0: `amp`, 1 to
+/// 127, for a 0 and -`amp` for a 1, and to each the term of the noise at its place; clamped to -127 to 127.
+pub fn noisy(
+    alloc: Global,
+    bits: &[Bit],
+    amp: u8,
+    noise: u8,
+    seed: u64,
+    block: u32,
+    tx: u8,
+) -> Result<List<Soft>, NoMemory>
+    requires amp { (1 ≤ amp) × (amp ≤ 127) }
+    requires noise { noise ≤ 127 }
+    requires tx { tx ≤ 7 }
+    ensures { IfOk result (λ values. values ≡ noisy (record { amp = amp; noise = noise })
+        (record { seed = seed; block = block; number = tx }) bits.now) }
+{
+    let mut words = generator(Purpose::Noise, seed, block, tx);
+    let mut values = Vec::with_capacity(alloc, bits.len())?;
+    for bit in bits {
+        values.push(received(amp, *bit, term(noise, words.next_word())))?;
+    }
+    Ok(List::from_vec(values))
+}

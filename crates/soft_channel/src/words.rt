@@ -1,0 +1,50 @@
+//! Words from a seed, for each purpose of their own.
+ghost use Rattle.std.specs.Prelude.{◌≡◌};
+ghost use Rattle.rand_chacha.specs.ChaCha.{of_seed};
+ghost use Rattle.soft_channel.specs.Words.{key, purpose_byte};
+
+use byteorder::{BigEndian, ByteOrder};
+use rand_chacha::ChaCha8Rng;
+use rand_core::SeedableRng;
+
+/// What words are drawn for.
+#[derive(Clone, Copy)]
+pub enum Purpose {
+    Noise,
+    Payload,
+}
+
+impl Purpose {
+    fn byte(self) -> u8
+        ensures { result ≡ purpose_byte self }
+    {
+        match self {
+            Purpose::Noise => 0,
+            Purpose::Payload => 1,
+        }
+    }
+}
+
+/// The key of a generator.
+fn key(purpose: Purpose, seed: u64, block: u32, tx: u8) -> [u8; 32]
+    ensures { result ≡ key (record { purpose = purpose; seed = seed; block = block; transmission = tx }) }
+{
+    let mut key = [0; 32];
+    BigEndian::write_u64(&mut key[..8], seed);
+    BigEndian::write_u32(&mut key[8..12], block);
+    key[12] = tx;
+    key[13] = purpose.byte();
+    key
+}
+
+/// The generator of the words that are drawn for a purpose in a transmission of a block.
+pub fn generator(purpose: Purpose, seed: u64, block: u32, tx: u8) -> ChaCha8Rng
+    ensures { result ≡ of_seed (key (record {
+      purpose = purpose;
+      seed = seed;
+      block = block;
+      transmission = tx;
+    })) }
+{
+    ChaCha8Rng::from_seed(key(purpose, seed, block, tx))
+}
