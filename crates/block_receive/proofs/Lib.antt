@@ -1,0 +1,4 @@
+pub mod LawfulShapes
+pub mod StreamLengths
+pub mod BlockResults
+pub mod TriedBlocks
