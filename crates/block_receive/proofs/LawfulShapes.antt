@@ -3,12 +3,12 @@ use Rattle.std.proofs.Common.{◌≡◌, ℕ, ◌*◌, ◌<◌, ◌≤◌, Conta
 use Prim.Native.Nat.{◌∣◌}
 use Rattle.std.proofs.lemmas.Nat.Gcd.{dvd_of_mod-eq-zero}
 use Rattle.sender_model.specs.Interleaver.{sizes}
-use Rattle.sender_model.specs.Segmentation.{Plan, plan_of, size, fill}
+use Rattle.sender_model.specs.Segmentation.{Plan, size, fill}
 use Rattle.sender_model.proofs.RowLaws.{range-of_size}
 use Rattle.rate_match.proofs.BlockNumbers.{IsBlockOf, block-numbers}
 use Rattle.receiver_model.specs.declared.result.CheckKind.{CheckKind}
 use Rattle.receiver_model.specs.HalfIteration.{IsShape, shape_of}
-use Rattle.receiver_model.specs.TransportBlocks.{Effort, block_shape, check_kind, window_count}
+use Rattle.receiver_model.specs.TransportBlocks.{block_shape, check_kind, window_count}
 use Rattle.receiver_model.proofs.WindowCounts.{count-is}
 use Rattle.block_receive.specs.declared.task.Task.{Task}
 use Rattle.block_receive.specs.Effort.{plan_in, effort_in}

@@ -1,5 +1,5 @@
 -- The lengths of soft streams and of decoded bits.
-use Rattle.std.proofs.Common.{◌≡◌, ℕ, suc, ◌+◌, ◌-◌, ◌*◌, ◌<◌, ◌≤◌, ℤ, pos, List, ◌++◌, length, map, drop, replicate, refl, sym, ap, ◌∙◌, arith}
+use Rattle.std.proofs.Common.{◌≡◌, ℕ, suc, ◌+◌, ◌-◌, ◌*◌, ◌<◌, ◌≤◌, pos, List, ◌++◌, length, map, drop, replicate, refl, ◌∙◌, arith}
 use Rattle.std.proofs.lemmas.List.{length-append, length-drop, length-map, length-replicate}
 use Rattle.std.proofs.lemmas.List.FromFn.{length-map-range_with_len}
 use Rattle.lte_bits.specs.declared.bit.Bit.TheVariants.{Zero}
@@ -7,7 +7,7 @@ use Rattle.lte_bits.specs.declared.block.SoftStreams.{SoftStreams}
 use Rattle.sender_model.specs.Segmentation.{Plan, size, fill}
 use Rattle.receiver_model.specs.HalfIteration.{Shape}
 use Rattle.receiver_model.specs.Decoding.{before, decided_bit, decided_in}
-use Rattle.receiver_model.specs.SoftCells.{Reception, begun_with, cells_of, soft_cell, soft_streams}
+use Rattle.receiver_model.specs.SoftCells.{Reception, cells_of, soft_cell, soft_streams}
 
 -- the first n values replaced
 replaced : {X : Type 0} (n : ℕ) (x : X) (xs : List X) → n ≤ length xs → length (replicate n x ++ drop n xs) ≡ length xs

@@ -1,4 +1,4 @@
-use Rattle.std.proofs.Common.{◌≡◌, ◌*◌, ℕ, List, IfOk, IsTrue, ◌↔◌, map, take, subst, sym, ap, ◌∙◌}
+use Rattle.std.proofs.Common.{◌≡◌, ◌*◌, ℕ, List, IfOk, IsTrue, ◌↔◌, map, take, subst, sym, ◌∙◌}
 use Rattle.lte_bits.specs.Packing.{packed}
 use Rattle.lte_bits.specs.declared.block.Block.{Block}
 use Rattle.sender_model.specs.CheckBits.{IsMultiple, crc24a}

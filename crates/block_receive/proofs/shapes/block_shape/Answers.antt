@@ -2,7 +2,6 @@ use Rattle.std.proofs.Common.{ℕ, Contains, subst, sym, ◌∙◌}
 use Rattle.std.specs.Prelude.{IfSome}
 use Rattle.sender_model.specs.Interleaver.{sizes}
 use Rattle.receiver_model.specs.HalfIteration.{shape_of}
-use Rattle.receiver_model.specs.TransportBlocks.{check_kind}
 use Rattle.std.proofs.Common.{◌≡◌, ap}
 use Rattle.block_receive.proofs.LawfulShapes.{IsCount, block_in, lawful, shape-is}
 use Rattle.block_receive.proofs.shapes.block_shape.Goals as goal

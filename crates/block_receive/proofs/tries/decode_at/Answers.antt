@@ -1,4 +1,4 @@
-use Rattle.std.proofs.Common.{◌≡◌, ◌+◌, ℕ, length, sym, ap, ◌∙◌, subst}
+use Rattle.std.proofs.Common.{◌≡◌, ℕ, sym, ap, ◌∙◌, subst}
 use Rattle.lte_bits.specs.declared.block.SoftStreams.{SoftStreams}
 use Rattle.sender_model.specs.Segmentation.{Plan}
 use Rattle.receiver_model.specs.HalfIteration.{Shape}
