@@ -4,6 +4,8 @@
 #[cfg(test)]
 mod block;
 #[cfg(test)]
+mod transport_block;
+#[cfg(test)]
 mod values;
 #[cfg(test)]
 mod window;
