@@ -6,3 +6,5 @@ pub mod PlacesFilled
 pub mod PlacesOfPositions
 pub mod DecodedOnce
 pub mod SoftSums
+pub mod WindowCounts
+pub mod Tries

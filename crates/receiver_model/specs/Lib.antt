@@ -4,3 +4,4 @@ pub mod Windows
 pub mod HalfIteration
 pub mod Decoding
 pub mod SoftCells
+pub mod TransportBlocks

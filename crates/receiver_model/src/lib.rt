@@ -1,4 +1,5 @@
-//! What a receiver makes of soft values, as definitions: soft cells, and one code block's decoding.
+//! What a receiver makes of soft values, as definitions: soft cells, the decoding of a code block, and
+//! what several transmissions of a transport block come to.
 #![tactic(auto)]
 
 pub mod decoding;
@@ -6,6 +7,7 @@ pub mod paths;
 pub mod positions;
 pub mod result;
 pub mod soft_cells;
+pub mod transport_blocks;
 pub mod windows;
 
-pub use result::{CheckKind, CodeResult};
+pub use result::{CheckKind, CodeResult, TbOutcome};

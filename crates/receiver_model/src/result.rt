@@ -1,6 +1,6 @@
-//! What the decoding of a code block is told and gives.
+//! What the decoding of a code block is told and gives, and what comes of a transport block.
 
-use lte_bits::Block;
+use lte_bits::{Block, List};
 
 /// The check bits at the end of a code block: CRC24A, or CRC24B where there are several blocks
 /// (36.212 5.1.1 and 5.1.2).
@@ -16,4 +16,21 @@ pub struct CodeResult {
     pub block: Block,
     pub iterations: usize,
     pub passed: bool,
+}
+
+/// What the transmissions of a transport block came to. `iterations` is the sum over its code blocks of
+/// the iterations that each took when it was last decoded.
+#[derive(Debug, Drop)]
+pub enum TbOutcome {
+    /// All checks held after so many transmissions, and not before: the bytes of the payload.
+    Delivered {
+        bytes: List<u8>,
+        transmissions: usize,
+        iterations: usize,
+    },
+    /// The checks held after none of so many transmissions.
+    Failed {
+        transmissions: usize,
+        iterations: usize,
+    },
 }

@@ -8,6 +8,8 @@ mod noise;
 #[cfg(test)]
 mod transmissions;
 #[cfg(test)]
+mod transport_block;
+#[cfg(test)]
 mod values;
 #[cfg(test)]
 mod window;

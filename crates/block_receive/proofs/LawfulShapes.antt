@@ -1,0 +1,57 @@
+-- The shapes of a plan's blocks are lawful.
+use Rattle.std.proofs.Common.{◌≡◌, ℕ, ◌*◌, ◌<◌, ◌≤◌, Contains, sym, ap, ◌∙◌, subst, arith}
+use Prim.Native.Nat.{◌∣◌}
+use Rattle.std.proofs.lemmas.Nat.Gcd.{dvd_of_mod-eq-zero}
+use Rattle.sender_model.specs.Interleaver.{sizes}
+use Rattle.sender_model.specs.Segmentation.{Plan, size, fill}
+use Rattle.sender_model.proofs.RowLaws.{range-of_size}
+use Rattle.rate_match.proofs.BlockNumbers.{IsBlockOf, block-numbers}
+use Rattle.receiver_model.specs.declared.result.CheckKind.{CheckKind}
+use Rattle.receiver_model.specs.HalfIteration.{IsShape, shape_of}
+use Rattle.receiver_model.specs.TransportBlocks.{block_shape, check_kind, window_count}
+use Rattle.receiver_model.proofs.WindowCounts.{count-is}
+use Rattle.block_receive.specs.declared.task.Task.{Task}
+use Rattle.block_receive.specs.Effort.{plan_in, effort_in}
+
+pub block_in : (task : Task) (r : ℕ) → r < task.plan.c → IsBlockOf (plan_in task) r
+block_in task r below = let p = task.plan in block-numbers p.bytes r p.some p.few (omega (arith, p.block_count, below))
+
+-- what a count of windows is told to be
+pub record IsCount (k m d : ℕ) : Type 0 where
+  pub divides : d ∣ k
+  pub wide : 8 * d ≤ k
+  pub within : d ≤ m
+  pub greatest : (n : ℕ) → n ∣ k → 8 * n ≤ k → n ≤ m → n ≤ d
+
+some-windows : (k m d : ℕ) → Contains sizes k → 1 ≤ m → IsCount k m d → 1 ≤ d
+some-windows k m d size some h = let range = range-of_size k size in h.greatest 1 (dvd_of_mod-eq-zero 1 (omega arith)) (omega (arith, range.0)) some
+
+pub windows-are : (k m d : ℕ) → Contains sizes k → 1 ≤ m → IsCount k m d → window_count k m ≡ d
+windows-are k m d size some h = count-is k m d (some-windows k m d size some h) h.divides h.wide h.within h.greatest
+
+pub lawful : (task : Task) (r k f d : ℕ) (kind : CheckKind) → r < task.plan.c → k ≡ size (plan_in task) r → f ≡ fill (plan_in task) r
+    → IsCount k task.windows d → IsShape (shape_of k f kind d task.limit)
+lawful task r k f d kind below size_is fill_is h =
+    let block = block_in task r below in
+    let inside : Contains sizes k = subst (λ (n : ℕ). Contains sizes n) (sym size_is) block.inside in
+    record {
+      size = inside;
+      filled = omega (arith, size_is, fill_is, block.fills);
+      some_windows = some-windows k task.windows d inside task.some_windows h;
+      few_windows = omega (arith, h.within, task.few_windows);
+      divided = h.divides;
+      wide = h.wide;
+      some_iterations = task.some_iterations;
+      few_iterations = task.few_iterations;
+    }
+
+pub shape-is : (task : Task) (r k f c d : ℕ) → r < task.plan.c → k ≡ size (plan_in task) r → f ≡ fill (plan_in task) r → c ≡ (plan_in task).c
+    → IsCount k task.windows d → shape_of k f (check_kind c) d task.limit ≡ block_shape (plan_in task) (effort_in task) r
+shape-is task r k f c d below size_is fill_is count_is h =
+    let p : Plan = plan_in task in
+    let block = block_in task r below in
+    let inside : Contains sizes k = subst (λ (n : ℕ). Contains sizes n) (sym size_is) block.inside in
+    ap (λ (n : ℕ). shape_of k f (check_kind c) n task.limit) (sym (windows-are k task.windows d inside task.some_windows h))
+    ∙ ap (λ (n : ℕ). shape_of n f (check_kind c) (window_count n task.windows) task.limit) size_is
+    ∙ ap (λ (n : ℕ). shape_of (size p r) n (check_kind c) (window_count (size p r) task.windows) task.limit) fill_is
+    ∙ ap (λ (n : ℕ). shape_of (size p r) (fill p r) (check_kind n) (window_count (size p r) task.windows) task.limit) count_is

@@ -1,0 +1,7 @@
+pub mod LawfulShapes
+pub mod StreamLengths
+pub mod BlockResults
+pub mod TriedBlocks
+pub mod Taken
+pub mod Outcomes
+pub mod TriedResults

@@ -1,0 +1,45 @@
+-- The lengths of soft streams and of decoded bits.
+use Rattle.std.proofs.Common.{◌≡◌, ℕ, suc, ◌+◌, ◌-◌, ◌*◌, ◌<◌, ◌≤◌, pos, List, ◌++◌, length, map, drop, replicate, refl, ◌∙◌, arith}
+use Rattle.std.proofs.lemmas.List.{length-append, length-drop, length-map, length-replicate}
+use Rattle.std.proofs.lemmas.List.FromFn.{length-map-range_with_len}
+use Rattle.lte_bits.specs.declared.bit.Bit.TheVariants.{Zero}
+use Rattle.lte_bits.specs.declared.block.SoftStreams.{SoftStreams}
+use Rattle.sender_model.specs.Segmentation.{Plan, size, fill}
+use Rattle.receiver_model.specs.HalfIteration.{Shape}
+use Rattle.receiver_model.specs.Decoding.{before, decided_bit, decided_in}
+use Rattle.receiver_model.specs.SoftCells.{Reception, cells_of, soft_cell, soft_streams}
+
+-- the first n values replaced
+replaced : {X : Type 0} (n : ℕ) (x : X) (xs : List X) → n ≤ length xs → length (replicate n x ++ drop n xs) ≡ length xs
+replaced n x xs within =
+    let e : length (replicate n x ++ drop n xs) ≡ length (replicate n x) + length (drop n xs) = length-append (replicate n x) (drop n xs) in
+    omega (arith, e, length-replicate n x, length-drop n xs, within)
+
+-- streams of a block of k bits with so many fillers
+pub record AreStreamsOf (k f : ℕ) (soft : SoftStreams) : Type 0 where
+  pub fill : soft.fill ≡ f
+  pub d0 : length soft.d0 ≡ k + 4
+  pub d1 : length soft.d1 ≡ k + 4
+  pub d2 : length soft.d2 ≡ k + 4
+
+pub streams-long : (plan : Plan) (xs : List Reception) (r : ℕ) → fill plan r < size plan r → AreStreamsOf (size plan r) (fill plan r) (soft_streams plan xs r)
+unfolding soft_streams
+streams-long plan xs r fills =
+    let cells : (number : ℕ) → length (cells_of plan xs r number) ≡ size plan r + 4 =
+    λ number. length-map-range_with_len (λ i. soft_cell plan xs r (record { stream = number; index = i })) 0 (size plan r + 4) in
+    record {
+      fill = refl;
+      d0 = replaced (fill plan r) (pos 127) (cells_of plan xs r 0) (omega (arith, cells 0, fills)) ∙ cells 0;
+      d1 = replaced (fill plan r) (pos 0) (cells_of plan xs r 1) (omega (arith, cells 1, fills)) ∙ cells 1;
+      d2 = cells 2;
+    }
+
+cells-long : (soft : SoftStreams) (shape : Shape) (h : ℕ) → length (before soft shape (suc h)).cells ≡ shape.k
+unfolding before
+cells-long soft shape h = length-map-range_with_len _ 0 shape.k
+
+pub bits-long : (soft : SoftStreams) (shape : Shape) (n : ℕ) → shape.f ≤ shape.k → length (decided_in soft shape n) ≡ shape.k
+bits-long soft shape n fills =
+    let cells = (before soft shape (suc (2 * n - 1))).cells in
+    let long : length (map decided_bit cells) ≡ shape.k = length-map cells decided_bit ∙ cells-long soft shape (2 * n - 1) in
+    replaced shape.f Zero (map decided_bit cells) (omega (arith, long, fills)) ∙ long

@@ -1,0 +1,10 @@
+-- What contracts see of a `Task`.
+use Rattle.sender_model.specs.Segmentation.{Plan, plan_of}
+use Rattle.receiver_model.specs.TransportBlocks.{Effort}
+use Rattle.block_receive.specs.declared.task.Task.{Task}
+
+abbrev pub plan_in : Task → Plan
+plan_in task = plan_of task.plan.bytes
+
+abbrev pub effort_in : Task → Effort
+effort_in task = record { windows = task.windows; limit = task.limit }

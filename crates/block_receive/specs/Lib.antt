@@ -1,0 +1,3 @@
+pub mod Receptions
+pub mod Effort
+pub mod Held

@@ -1,0 +1,91 @@
+//! The transmissions of a transport block, one after the other.
+ghost use Rattle.std.specs.Prelude.{◌≡◌, ◌≤◌, IfOk, length};
+ghost use Rattle.sender_model.specs.Segmentation.{plan_of};
+ghost use Rattle.sender_model.specs.CircularBuffer.{FitsIn};
+ghost use Rattle.rate_match.specs.Sendings.{common};
+ghost use Rattle.receiver_model.specs.TransportBlocks.{outcome};
+ghost use Rattle.block_receive.specs.Effort.{plan_in, effort_in};
+ghost use Rattle.block_receive.specs.Receptions.{receptions, value_count};
+
+use crate::decoder::{Alone, BlockDecoder};
+use crate::joining::join;
+use crate::task::Task;
+use crate::tries::{all_passed, none_held, total_iterations, try_blocks};
+use lte_bits::{NoMemory, Soft};
+use rate_match::Sends;
+use receiver_model::TbOutcome;
+use segmentation::plans::Plan;
+use soft_buffers::HarqBuffers;
+use std::alloc::Global;
+
+/// What the transmissions of a transport block come to, where `decoder` decodes its code blocks. The
+/// buffer of `sends` fits the plan, and `softs` has the G values of each transmission, one transmission
+/// after the other.
+pub fn receive<D: BlockDecoder>(
+    alloc: Global,
+    decoder: &D,
+    task: &Task,
+    sends: &Sends,
+    softs: &[Soft],
+) -> Result<TbOutcome, NoMemory>
+    requires fits { FitsIn (common sends.now).limit (plan_in task.now).c (plan_in task.now).k_plus }
+    requires values { length softs.now ≡ value_count sends.now }
+    ensures { IfOk result (λ o. o ≡ outcome (plan_in task.now) (effort_in task.now) (receptions sends.now softs.now)) }
+{
+    let plan = &task.plan;
+    let mut buffers = HarqBuffers::new(alloc, plan, sends.buffer())?;
+    let mut results = none_held(alloc, plan.c)?;
+    let mut iterations = 0;
+    let mut rest = softs;
+    for i in 0..sends.len() {
+        let (m, rv) = sends.at(i);
+        let (values, after) = rest.split_at(m.g());
+        rest = after;
+        buffers.combine(&m, rv, values);
+        results = try_blocks(alloc, decoder, task, &buffers, results)?;
+        iterations = total_iterations(results.as_slice());
+        if all_passed(results.as_slice()) {
+            let joined = join(alloc, results, plan)?;
+            if joined.holds {
+                return Ok(TbOutcome::Delivered {
+                    bytes: joined.payload,
+                    transmissions: i + 1,
+                    iterations,
+                });
+            }
+            results = none_held(alloc, plan.c)?;
+        }
+    }
+    Ok(TbOutcome::Failed {
+        transmissions: sends.len(),
+        iterations,
+    })
+}
+
+/// What the transmissions of a transport block come to, decoded on one thread. A code block is decoded in
+/// at most `windows` windows, 1 to 64, and with at most `limit` iterations, 1 to 16. The buffer of `sends`
+/// fits the plan, and `softs` has the G values of each transmission, one transmission after the other.
+pub fn receive_alone(
+    alloc: Global,
+    plan: &Plan,
+    sends: &Sends,
+    windows: usize,
+    limit: usize,
+    softs: &[Soft],
+) -> Result<TbOutcome, NoMemory>
+    requires fits { FitsIn (common sends.now).limit (plan_of plan.now.bytes).c (plan_of plan.now.bytes).k_plus }
+    requires some_windows { 1 ≤ windows }
+    requires few_windows { windows ≤ 64 }
+    requires some_iterations { 1 ≤ limit }
+    requires few_iterations { limit ≤ 16 }
+    requires values { length softs.now ≡ value_count sends.now }
+    ensures { IfOk result (λ o. o ≡ outcome (plan_of plan.now.bytes)
+        (record { windows = windows; limit = limit }) (receptions sends.now softs.now)) }
+{
+    let task = Task {
+        plan: *plan,
+        windows,
+        limit,
+    };
+    receive(alloc, &Alone, &task, sends, softs)
+}

@@ -1,0 +1,27 @@
+//! The shapes in which code blocks are decoded.
+ghost use Rattle.std.specs.Prelude.{◌≡◌, ◌<◌};
+ghost use Rattle.receiver_model.specs.TransportBlocks.{block_shape, check_kind};
+ghost use Rattle.block_receive.specs.Effort.{plan_in, effort_in};
+
+use crate::task::Task;
+use qpp_table::win;
+use segmentation::{fill, size};
+use window_decode::{CheckKind, Shape};
+
+/// The check that each of `c` code blocks carries (36.212 5.1.2).
+fn check_kind(c: usize) -> CheckKind
+    ensures { result ≡ check_kind c }
+{
+    if c == 1 { CheckKind::A } else { CheckKind::B }
+}
+
+/// The shape in which block `r`, below C, is decoded.
+pub fn block_shape(task: &Task, r: usize) -> Shape
+    requires { r < task.now.plan.c }
+    ensures { result ≡ block_shape (plan_in task.now) (effort_in task.now) r }
+{
+    let k = size(&task.plan, r);
+    let kind = check_kind(task.plan.c);
+    let windows = win(k, task.windows);
+    Shape::new(k, fill(&task.plan, r), kind, windows, task.limit).unwrap()
+}
