@@ -1,2 +1,6 @@
-mod Refused
 mod CodewordSteps
+mod Listed
+mod Gathered
+mod Givens
+mod Ranged
+mod FullBuffer

@@ -12,7 +12,7 @@ use Rattle.turbo_run.specs.declared.words.Command.TheVariants.{Codeword}
 
 -- what a command answers to an input
 abbrev pub answer_of : Command → (input : List ℕ) → Reply
-answer_of (Codeword g) input = begun 0 1 (codeword_answer g input)
+answer_of (Codeword m rv) input = begun 0 1 (codeword_answer m rv input)
 
 -- how a command ends before the fault line is written, where the source tells what it gives
 abbrev pub EndsAs : Command → Held → Held → Status → Type 0

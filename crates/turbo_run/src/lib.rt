@@ -2,11 +2,17 @@
 #![tactic(auto)]
 
 mod coding;
+mod lists;
 mod number;
-mod payload;
+mod numbers;
+mod operands;
+mod reading;
+mod rules;
 mod running;
+mod splitting;
 mod words;
 
+pub use operands::WordRefusal;
 pub use run_loop::{SinkName, Status};
 pub use running::{run, run_alone};
-pub use words::{Command, WordRefusal, read_words};
+pub use words::{Command, read_words};
