@@ -1,5 +1,5 @@
 -- One cell among those of a share: read, and written.
-use Rattle.std.proofs.Common.{◌≡◌, ℕ, zero, suc, ◌+◌, ◌<◌, List, [], ◌∷◌, length, get_or, map, refl, sym, ap, ◌∙◌, subst, arith}
+use Rattle.std.proofs.Common.{◌≡◌, ℕ, zero, suc, ◌+◌, ◌<◌, List, [], ◌∷◌, length, get_or, map, refl, ap, ◌∙◌, subst, arith}
 use Rattle.std.specs.Prelude.{slice_index_or, slice_set}
 use Rattle.std.specs.List.{range_with_len}
 use lib.ListN.{drop}
@@ -13,15 +13,15 @@ cell_of f a (suc n) zero (c ∷ cs) at h = let s : a ≡ a + 0 = omega arith in 
 cell_of f a (suc n) (suc j) (c ∷ cs) at h =
     let r = cell_of f (a + 1) n j cs (ap (drop 1) at) (omega (arith, h)) in let s : (a + 1) + j ≡ a + suc j = omega arith in (r.0, subst (λ (m : ℕ). IsCell cs j (f m) r.0) s r.1)
 
-pub cell-read : {X : Type 0} (cs : List (ℕ × X)) (j n : ℕ) (x d : X) → IsCell cs j n x → slice_index_or (values cs) j d ≡ x
-cell-read [] j n x d is = absurd is
-cell-read (c ∷ cs) zero n x d is = is.1
-cell-read (c ∷ cs) (suc j) n x d is = cell-read cs j n x d is
+pub cell_read : {X : Type 0} (cs : List (ℕ × X)) (j n : ℕ) (x d : X) → IsCell cs j n x → slice_index_or (values cs) j d ≡ x
+cell_read [] j n x d is = absurd is
+cell_read (c ∷ cs) zero n x d is = is.1
+cell_read (c ∷ cs) (suc j) n x d is = cell_read cs j n x d is
 
-pub changed-values : {X : Type 0} (cs : List (ℕ × X)) (j : ℕ) (y : X) → values (changed cs j y) ≡ slice_set (values cs) j y
-changed-values [] j y = refl
-changed-values (c ∷ cs) zero y = refl
-changed-values (c ∷ cs) (suc j) y = ap (λ (l : List _). c.1 ∷ l) (changed-values cs j y)
+pub changed_values : {X : Type 0} (cs : List (ℕ × X)) (j : ℕ) (y : X) → values (changed cs j y) ≡ slice_set (values cs) j y
+changed_values [] j y = refl
+changed_values (c ∷ cs) zero y = refl
+changed_values (c ∷ cs) (suc j) y = ap (λ (l : List _). c.1 ∷ l) (changed_values cs j y)
 
 pub changed-places : {X : Type 0} (cs : List (ℕ × X)) (j : ℕ) (y : X) → places (changed cs j y) ≡ places cs
 changed-places [] j y = refl

@@ -1,5 +1,5 @@
 -- Where the loop of `split` stands after t shares.
-use Rattle.std.proofs.Common.{◌≡◌, ℕ, suc, ◌+◌, ◌-◌, ◌*◌, ◌/◌, ◌<◌, ◌≤◌, List, [], ◌∷◌, ◌++◌, length, map, refl, sym, ap, ◌∙◌, subst, arith}
+use Rattle.std.proofs.Common.{◌≡◌, ℕ, suc, ◌+◌, ◌-◌, ◌*◌, ◌/◌, ◌<◌, List, [], ◌∷◌, ◌++◌, length, map, refl, sym, ap, ◌∙◌, subst, arith}
 use lib.ListN.{take, drop}
 use Rattle.std.specs.List.{range_with_len}
 use Rattle.std.proofs.Math.Nat.{mul-div_cancel_left}
@@ -10,7 +10,7 @@ use Rattle.cell_shares.specs.declared.cells.Cells.{Cells}
 use Rattle.cell_shares.specs.declared.order.Order.{Order}
 use Rattle.cell_shares.specs.declared.part.Part.{Part}
 use Rattle.cell_shares.specs.declared.share.Share.{Share}
-use Rattle.cell_shares.specs.Shares.{Name, name_of, cell_values, share_label, share_values, AreAllOf}
+use Rattle.cell_shares.specs.Shares.{Name, name_of, cell_values, share_label, share_values}
 use Rattle.cell_shares.proofs.Numbers.{values-long}
 use Rattle.cell_shares.proofs.Told.{Tells, told_values, tells_take, tells_drop, tells_shuffled, tells_all, places-take, places-drop, pushed}
 

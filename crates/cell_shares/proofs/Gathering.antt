@@ -1,11 +1,11 @@
 -- Where the loop of `join` stands while t shares are left.
-use Rattle.std.proofs.Common.{◌≡◌, ℕ, zero, suc, ◌+◌, ◌-◌, ◌*◌, ◌/◌, ◌<◌, ◌≤◌, List, [], ◌∷◌, ◌++◌, length, map, refl, sym, ap, ◌∙◌, subst, arith}
+use Rattle.std.proofs.Common.{◌≡◌, ℕ, zero, suc, ◌+◌, ◌*◌, ◌/◌, ◌<◌, List, [], ◌∷◌, ◌++◌, length, map, refl, sym, ap, ◌∙◌, subst, arith}
 use Rattle.std.proofs.lemmas.List.{append_assoc}
 use Rattle.std.specs.List.{range_with_len}
 use Rattle.std.proofs.Math.Nat.{mul-div_cancel_left}
 use Rattle.cell_shares.specs.Deal.{share_places, values_at, deal}
-use Rattle.cell_shares.specs.Orders.{place_in, order_places, IsOrderOf}
-use Rattle.cell_shares.specs.Parts.{places, values, Shuffled}
+use Rattle.cell_shares.specs.Orders.{place_in, order_places}
+use Rattle.cell_shares.specs.Parts.{places}
 use Rattle.cell_shares.specs.declared.order.Order.{Order}
 use Rattle.cell_shares.specs.declared.part.Part.{Part}
 use Rattle.cell_shares.specs.declared.share.Share.{Share}

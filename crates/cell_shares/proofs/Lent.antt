@@ -1,5 +1,5 @@
 -- What a `&` to a part shows: its pointer, and a `&` to each of its cells. Assumes `Logic`.
-use Rattle.cell_shares.proofs.Names.{◌≡◌, ℕ, zero, suc, ◌+◌, ◌*◌, ◌^◌, ◌<◌, List, [], ◌∷◌, refl, sym, arith, Ura, ent, sep, never, Lft, Fml, flt, ‵, ◌⊛◌, ◌$◌, ◌∵◌, !, qed, by, done, move, keep, leave, split, rewrite, fsplit, use1, Logic, sem, RattleType, Ptr, RawPtr, block_ptr, null_ptr, ◌+ₚ◌, hidden_shr, Struct, shape}
+use Rattle.cell_shares.proofs.Names.{◌≡◌, ℕ, zero, suc, ◌+◌, ◌*◌, ◌^◌, List, [], ◌∷◌, refl, arith, Ura, ent, sep, never, Lft, flt, ‵, ◌⊛◌, ◌$◌, ◌∵◌, !, qed, by, done, keep, leave, split, rewrite, fsplit, use1, Logic, sem, RattleType, RawPtr, block_ptr, null_ptr, ◌+ₚ◌, hidden_shr, Struct, shape}
 use base.Fml.{fhide}
 use denote.Opens.{unhide}
 use denote.Struct.Lending.{lent_out, lent_at}

@@ -1,6 +1,5 @@
 -- Which cells a part owns: in any order, cut in two and glued, and as the places of a row. Assumes `Logic`.
-use Rattle.cell_shares.proofs.Names.{◌≡◌, refl, sym, suc, zero, ℕ, ◌+◌, ◌*◌, ◌<◌, List, [], ◌∷◌, ◌++◌, length, get_or, replicate, arith, Bool, true, false, Ura, full_share, SProp, ent, sep, id⊢, emp, emp∗, snd∗, Fml, fsep, Logic, sem, ‵, ◌⊛◌, ◌$◌, ◌∵◌, !, qed, by, move, use1, split, rewrite, fsplit, fjoin, frame, done, RattleType, Ptr, block_ptr, lies_at, ◌+ₚ◌}
-use native.Mathlib.Nat.{suc-mul}
+use Rattle.cell_shares.proofs.Names.{◌≡◌, refl, sym, suc, ℕ, ◌+◌, ◌*◌, ◌<◌, List, [], ◌∷◌, ◌++◌, length, get_or, replicate, arith, Bool, true, false, Ura, full_share, SProp, ent, sep, id⊢, emp, emp∗, snd∗, Fml, fsep, Logic, sem, ‵, ◌⊛◌, ◌$◌, ◌∵◌, !, qed, by, move, use1, split, rewrite, fsplit, fjoin, frame, done, RattleType, Ptr, block_ptr, lies_at, ◌+ₚ◌}
 use Rattle.core.specs.Mem.Slots.Ownership.{bytes_of, slot, slots}
 use Rattle.cell_shares.specs.Ownership.{cells_at}
 use Rattle.cell_shares.specs.Parts.{numbered, Shuffled, nothing_left, under, turned, then_on}

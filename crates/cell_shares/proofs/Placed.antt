@@ -3,7 +3,7 @@ use Rattle.std.proofs.Common.{◌≡◌, ◌≢◌, ◌⊎◌, ℕ, zero, suc, �
 use Rattle.std.specs.List.{range_with_len}
 use Rattle.std.proofs.lemmas.Bool.{cases_lt}
 use Rattle.std.proofs.lemmas.List.FromFn.{length-range_with_len}
-use Rattle.qpp_table.specs.Qpp.{size_in, value_at}
+use Rattle.qpp_table.specs.Qpp.{value_at}
 use Rattle.qpp_table.specs.QppLaws.{value-below, values_differ}
 use Rattle.cell_shares.specs.declared.order.Order.{Order}
 use Rattle.cell_shares.specs.declared.order.Order.TheVariants.{Natural, Interleaved}

@@ -1,15 +1,16 @@
--- The positions of a share.
-use Rattle.std.proofs.Common.{◌≡◌, ℕ, suc, ◌+◌, ◌*◌, ◌^◌, ◌<◌, ◌≤◌, length, map, refl, sym, ap, ◌∙◌, subst, arith}
+-- Which cell stands where, in a share and in all cells.
+use Rattle.std.proofs.Common.{◌≡◌, ℕ, suc, ◌+◌, ◌*◌, ◌<◌, ◌≤◌, length, sym, ap, ◌∙◌, subst, arith}
 use Rattle.std.proofs.Math.Nat.{mul-le-mul_left}
 use lib.ListN.{length-map}
-use Rattle.std.specs.List.{range_with_len}
-use Rattle.cell_shares.specs.Deal.{share_places}
 use Rattle.cell_shares.specs.Orders.{place_in}
-use Rattle.cell_shares.specs.Parts.{places, values, IsCell}
+use Rattle.cell_shares.specs.Parts.{IsCell}
+use Rattle.cell_shares.specs.declared.cells.Cells.{Cells}
+use Rattle.cell_shares.specs.declared.order.Order.TheVariants.{Natural}
 use Rattle.cell_shares.specs.declared.share.Share.{Share}
-use Rattle.cell_shares.specs.Shares.{share_values, share_place}
+use Rattle.cell_shares.specs.Shares.{cell_values, share_values, share_place}
 use Rattle.cell_shares.proofs.Changed.{cell_of}
-use Rattle.cell_shares.proofs.Placed.{place-below}
+use Rattle.cell_shares.proofs.Numbers.{values-long}
+use Rattle.cell_shares.proofs.Placed.{place-below, natural_places}
 use Rattle.cell_shares.proofs.Told.{run-long}
 
 in_window : (t m w j : ℕ) → t < m → j < w → t * w + j < m * w
@@ -49,3 +50,11 @@ module _ {X : Type 0} (s : Share X) where
           subst (λ (k : ℕ). n < k) s.counted (subst (λ (k : ℕ). k < s.split.count) here below),
           subst (λ (k : ℕ). (x : X) × IsCell s.part.cells j k x) here cell_here,
         )
+
+-- cell n of all cells stands at place n
+pub cell_at : {X : Type 0} (c : Cells X) (n : ℕ) → n < length (cell_values c) → (n < c.part.count) × ((x : X) × IsCell c.part.cells n n x)
+cell_at c n h =
+    let k = c.count in let low : n < k = subst (λ (m : ℕ). n < m) (sym (values-long 0 k c.part.cells c.numbered)) h in let z : 0 + n ≡ n = omega arith in (
+      subst (λ (m : ℕ). n < m) c.counted low,
+      subst (λ (m : ℕ). (x : _) × IsCell c.part.cells n m x) z (cell_of (λ i. place_in Natural i) 0 k n c.part.cells (c.numbered ∙ sym (natural_places k)) low),
+    )

@@ -1,5 +1,5 @@
 -- A row of the kit as the machine holds it: the pointer to its places and their number.
-use Rattle.cell_shares.proofs.Names.{◌≡◌, ℕ, ◌^◌, ◌<◌, List, [], ◌∷◌, ◌++◌, T, ap, ◌∙◌, subst, sym, w64, Val, vint, vptr, vstruct, vcons, vnil, of_list, has_ty, WT, RattleType, RawPtr, usize, Ptr, block_ptr, ptr_val, Tuple, Is}
+use Rattle.cell_shares.proofs.Names.{◌≡◌, ℕ, [], ◌∷◌, ◌++◌, ap, ◌∙◌, w64, Val, vint, vstruct, vcons, vnil, of_list, RattleType, RawPtr, usize, Ptr, ptr_val, Tuple, Is}
 use denote.Param.Laws.{Laws}
 use denote.Steps.{only}
 use Rattle.core.specs.Mem.Slots.{slots_ptr, slots_len}

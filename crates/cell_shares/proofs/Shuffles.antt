@@ -1,5 +1,5 @@
 -- Cells are brought into an order of their places.
-use Rattle.std.proofs.Common.{◌≡◌, ℕ, suc, ◌<◌, List, [], ◌∷◌, length, get_or, refl, sym, ap, ◌∙◌, subst, arith}
+use Rattle.std.proofs.Common.{◌≡◌, ℕ, suc, List, [], ◌∷◌, length, get_or, refl, sym, ap, ◌∙◌, arith}
 use lib.ListN.{drop}
 use Rattle.cell_shares.specs.Parts.{places, Shuffled, nothing_left, under, turned, then_on}
 

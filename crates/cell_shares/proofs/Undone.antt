@@ -1,5 +1,5 @@
 -- A deal is undone in one way.
-use Rattle.std.proofs.Common.{◌≡◌, ℕ, zero, suc, ◌+◌, ◌*◌, ◌/◌, ◌≤◌, List, [], ◌∷◌, ◌++◌, length, get_or, map, refl, sym, ap, ◌∙◌, subst, arith}
+use Rattle.std.proofs.Common.{◌≡◌, ℕ, zero, suc, ◌+◌, ◌*◌, ◌/◌, List, [], ◌∷◌, ◌++◌, length, get_or, map, refl, sym, ap, ◌∙◌, subst, arith}
 use Prim.Native.Nat.{◌∣◌}
 use lib.ListN.{take, drop}
 use Rattle.std.specs.List.{range_with_len, flat_map}
@@ -7,7 +7,7 @@ use Rattle.std.proofs.lemmas.List.{append_assoc}
 use Rattle.sender_model.specs.InterleaverLaws.{windows-whole}
 use Rattle.cell_shares.specs.Deal.{share_places, values_at, deal}
 use Rattle.cell_shares.specs.Orders.{place_in, order_places, IsOrderOf}
-use Rattle.cell_shares.specs.Parts.{numbered, places, values, Shuffled}
+use Rattle.cell_shares.specs.Parts.{numbered, places, values}
 use Rattle.cell_shares.specs.declared.order.Order.{Order}
 use Rattle.cell_shares.proofs.Numbers.{places-numbered, values-numbered}
 use Rattle.cell_shares.proofs.Placed.{dealt_places}

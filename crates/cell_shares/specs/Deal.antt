@@ -1,5 +1,5 @@
 -- The values of a list, dealt to several shares.
-use Rattle.std.specs.Prelude.{ℕ, ◌+◌, ◌*◌, ◌/◌, List, map, length, take, drop}
+use Rattle.std.specs.Prelude.{ℕ, ◌*◌, ◌/◌, List, map, length, take, drop}
 use Rattle.std.specs.List.{range_with_len, flat_map}
 use Rattle.cell_shares.specs.declared.order.Order.{Order}
 use Rattle.cell_shares.specs.Orders.{place_in}

@@ -43,4 +43,5 @@ share_label s = (share_name s, (share_order s, share_number s))
 -- all shares of one split, in order: M shares of one name and one order, numbered 0 to M - 1
 abbrev pub AreAllOf : {X : Type 0} → Name → Order → List (Share X) → Type 0
 AreAllOf name order shares =
-    (1 ≤ name.windows) × (map share_label shares ≡ map (λ t. (name, (order, t))) (range_with_len 0 name.windows))
+    (1 ≤ name.windows)
+    × (map share_label shares ≡ map (λ t. (name, (order, t))) (range_with_len 0 name.windows))

@@ -84,6 +84,7 @@ impl<T: Copy> Cells<T> {
     }
 
     /// The value of cell `n`, which is below K.
+    #[tactic(auto, using(crate::proofs::Changed::cell_read))]
     pub fn get(&self, n: usize) -> T
         requires { n < length (cell_values self.now) }
         ensures { result ≡ slice_index_or (cell_values self.now) n result }

@@ -18,5 +18,5 @@ pub fn values_are_dealt_by_place<T>()
     ensures value { (order : Order) (m t j : ℕ) (v : List T) (x : T)
         → m ∣ length v → IsOrderOf (length v) order → t < m → j < length v / m
         → slice_index_or (slice_index_or (deal order m v) t []) j x
-            ≡ slice_index_or v (place_in order (t * (length v / m) + j)) x }
+        ≡ slice_index_or v (place_in order (t * (length v / m) + j)) x }
 {}

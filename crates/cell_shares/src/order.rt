@@ -7,14 +7,17 @@ use qpp_table::interleaver::Qpp;
 /// An order of places: that of the places themselves, or that of an interleaver of as many places.
 #[derive(Clone, Copy, Debug, PartialEq, Eq)]
 pub enum Order {
+    /// Position i stands at place i.
     Natural,
+    /// Position i stands at place Pi(i) of the internal interleaver (36.212 5.1.3.2.3).
     Interleaved(Qpp),
 }
 
 impl Order {
     ghost use Rattle.cell_shares.specs.Orders.{place_in, IsOrderOf};
 
-    /// The place of position `i` among `size` places.
+    /// The place of position `i`, which is below `size`; an interleaver has `size` places. It divides once
+    /// where the order is interleaved.
     pub fn place(&self, size: usize, i: usize) -> usize
         requires order { IsOrderOf size self.now }
         requires position { i < size }

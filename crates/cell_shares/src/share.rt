@@ -68,6 +68,7 @@ impl<T: Copy> Share<T> {
     }
 
     /// The value of cell `j`, which is below the width. In an interleaved order it costs a division.
+    #[tactic(auto, using(crate::proofs::Positions::place_is))]
     pub fn get(&self, j: usize) -> T
         requires { j < length (share_values self.now) }
         ensures { result ≡ slice_index_or (share_values self.now) j result }
@@ -78,6 +79,7 @@ impl<T: Copy> Share<T> {
 
     /// The value of cell `j`, which is below the width, for a caller that has the cell's place
     /// `order(t W + j)`, as from a table or by additions. It divides nowhere.
+    #[tactic(auto, using(crate::proofs::Positions::at_place, crate::proofs::Changed::cell_read))]
     pub fn get_at(&self, j: usize, place: usize) -> T
         requires cell { j < length (share_values self.now) }
         requires place { place ≡ share_place self.now j }
@@ -87,6 +89,7 @@ impl<T: Copy> Share<T> {
     }
 
     /// Writes `v` into cell `j`, which is below the width. In an interleaved order it costs a division.
+    #[tactic(auto, using(crate::proofs::Positions::place_is))]
     pub fn set(&mut self, j: usize, v: T)
         requires { j < length (share_values self.old) }
         ensures values { share_values self.new ≡ slice_set (share_values self.old) j v }
@@ -100,6 +103,7 @@ impl<T: Copy> Share<T> {
 
     /// Writes `v` into cell `j`, which is below the width, for a caller that has the cell's place
     /// `order(t W + j)`. It divides nowhere.
+    #[tactic(auto, using(crate::proofs::Positions::at_place, crate::proofs::Changed::changed_values))]
     pub fn set_at(&mut self, j: usize, place: usize, v: T)
         requires cell { j < length (share_values self.old) }
         requires place { place ≡ share_place self.old j }

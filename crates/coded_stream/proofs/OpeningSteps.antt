@@ -1,94 +1,79 @@
 -- The beginning of a stream, by its two units.
-use Rattle.std.proofs.Common.{◌≡◌, ℕ, zero, suc, ◌+◌, ◌<◌, ◌≤◌, Bool, true, false, cond, nat_lt, List, [], ◌∷◌, ◌++◌, length, take, drop, slice_index, All, Some, None, refl, ap, sym, ◌∙◌, arith}
+use Rattle.std.proofs.Common.{◌≡◌, ℕ, ◌+◌, ◌*◌, ◌<◌, ◌≤◌, ◌==◌, Bool, true, false, cond, nat_lt, List, [], ◌∷◌, ◌++◌, length, take, drop, flat_map, Some, None, refl, ap, ◌∙◌, arith}
 use Rattle.std.specs.declared.option.Option.{Option}
-use Rattle.std.proofs.lemmas.Bool.{lt-ltb, ltb-false}
-use Rattle.std.proofs.lemmas.List.{length-append, length-take-le}
-use Rattle.sender_model.specs.CircularBuffer.{Match}
-use Rattle.rate_match.specs.Matching.{IsMatch}
-use Rattle.rate_match.specs.Versions.{AreVersions}
-use Rattle.rate_match.specs.Fitting.{fits_all}
-use Rattle.rate_match.proofs.FitTest.{fits_all-true}
-use Rattle.coded_stream.specs.Header.{Header, word_text, half_word_text, half_word, kind_of, common, versions, first_text, header_text, IsHeader}
-use Rattle.coded_stream.specs.Shown.{sendings_of}
-use Rattle.coded_stream.specs.Limit.{is_limit}
+use Rattle.std.proofs.lemmas.Bool.{lt-ltb}
+use Rattle.std.proofs.lemmas.List.{length-append}
+use Rattle.rate_match.specs.declared.sends.Sending.{Sending}
+use Rattle.coded_stream.specs.Header.{Header, word_text, half_word_text, magic, first_text, sending_text, header_text}
 use Rattle.coded_stream.specs.Steps.{opening_due}
 use Rattle.coded_stream.specs.Units.{Refusal, refused_at, truncated}
-use Rattle.coded_stream.specs.Opening.{Check, Opening, opens, refuses, unless, first_refusal, fields, version_fields, match_in, header_in, second_opening, opening}
-use Rattle.coded_stream.specs.declared.kind.Kind.{Kind}
-use Rattle.coded_stream.proofs.Fronts.{take_front, drop_front, whole_front}
+use Rattle.coded_stream.specs.Opening.{Check, Opening, opens, refuses, unless, first_refusal, version_of, first_size, sending_size, count_in, fields, sends_fields, sends_in, header_in, second_opening, first_opening}
+use Rattle.coded_stream.specs.declared.version.Version.{Version}
+use Rattle.coded_stream.specs.declared.version.Version.TheVariants.{One, Two}
+use Rattle.coded_stream.specs.declared.kind.Want.{Want}
+use Rattle.coded_stream.proofs.Fronts.{take_front, drop_front, whole_front, word_front}
+use Rattle.coded_stream.proofs.SendSteps.{sends-long}
 
 pub same_refuses : (number p q s t d e : ℕ) → p ≡ q → s ≡ t → d ≡ e
     → refuses (record { number = number; place = p; size = s; due = d }) ≡ refuses (record { number = number; place = q; size = t; due = e })
 same_refuses number p q s t d e place size due i = refuses (record { number = number; place = place i; size = size i; due = due i })
 
+-- ---- the version
+
+-- the first four bytes tell it
+pub version-front : (unit left : List ℕ) → length unit ≡ 4 → version_of (unit ++ left) ≡ version_of unit
+version-front unit left long = ap (λ (n : ℕ). cond (n == magic Two) Two One) (word_front unit left long)
+
+pub first-most : (v : Version) (n : ℕ) → n < 12 → n < first_size v
+first-most One n less = omega (arith, less)
+first-most Two n less = less
+
 -- ---- the second unit
 
-pub second-short : (count : ℕ) (unit left : List ℕ) → length left < count → second_opening count unit left ≡ refuses (truncated 0 (18 + length left))
-second-short count unit left few = (let e : nat_lt (length left) count ≡ true = lt-ltb (length left) count few in rw e refl)
+pub second-short : (v : Version) (unit left : List ℕ) → length left < count_in v unit * sending_size v → second_opening v unit left ≡ refuses (truncated 0 (first_size v + length left))
+second-short v unit left few = (let e : nat_lt (length left) (count_in v unit * sending_size v) ≡ true = lt-ltb (length left) (count_in v unit * sending_size v) few in rw e refl)
 
-pub second-whole : (count : ℕ) (unit rvs left : List ℕ) → length rvs ≡ count
-    → second_opening count unit (rvs ++ left) ≡ unless (first_refusal (18 + count) (version_fields 18 rvs)) (opens (header_in unit rvs) left)
-second-whole count unit rvs left long = rw (whole_front rvs left count long, take_front rvs left count long, drop_front rvs left count long) refl
+pub second-whole : (v : Version) (unit bytes left : List ℕ) → length bytes ≡ count_in v unit * sending_size v
+    → second_opening v unit (bytes ++ left) ≡ unless (first_refusal (first_size v + count_in v unit * sending_size v) (sends_fields v (count_in v unit) (first_size v) bytes))
+    (opens (header_in v unit (sends_in v unit (count_in v unit) bytes)) left)
+second-whole v unit bytes left long =
+    let size : ℕ = count_in v unit * sending_size v in
+    rw (whole_front bytes left size long, take_front bytes left size long, drop_front bytes left size long) refl
 
 -- ---- the first
 
-pub opening-short : (wanted : List Kind) (left : List ℕ) → length left < 18 → opening wanted left ≡ refuses (truncated 0 (length left))
-opening-short wanted left few = (let e : nat_lt (length left) 18 ≡ true = lt-ltb (length left) 18 few in rw e refl)
+pub first-short : (v : Version) (want : Want) (left : List ℕ) → length left < first_size v → first_opening v want left ≡ refuses (truncated 0 (length left))
+first-short v want left few = (let e : nat_lt (length left) (first_size v) ≡ true = lt-ltb (length left) (first_size v) few in rw e refl)
 
-pub opening-whole : (wanted : List Kind) (unit left : List ℕ) → length unit ≡ 18
-    → opening wanted (unit ++ left) ≡ unless (first_refusal 18 (fields wanted unit)) (second_opening (slice_index unit 7) unit left)
-opening-whole wanted unit left long =
-    rw (whole_front unit left 18 long) (ap (λ (u : List ℕ). unless (first_refusal 18 (fields wanted u)) (second_opening (slice_index u 7) u (drop 18 (unit ++ left)))) (take_front unit left 18 long)
-    ∙ ap (λ (l : List ℕ). unless (first_refusal 18 (fields wanted unit)) (second_opening (slice_index unit 7) unit l)) (drop_front unit left 18 long))
+pub first-whole : (v : Version) (want : Want) (unit left : List ℕ) → length unit ≡ first_size v
+    → first_opening v want (unit ++ left) ≡ unless (first_refusal (first_size v) (fields v want unit)) (second_opening v unit left)
+first-whole v want unit left long =
+    rw (whole_front unit left (first_size v) long)
+    (ap (λ (u : List ℕ). unless (first_refusal (first_size v) (fields v want u)) (second_opening v u (drop (first_size v) (unit ++ left)))) (take_front unit left (first_size v) long)
+    ∙ ap (λ (l : List ℕ). unless (first_refusal (first_size v) (fields v want unit)) (second_opening v unit l)) (drop_front unit left (first_size v) long))
 
-pub header-is : (want : Kind) (m : Match) (tb : ℕ) (unit rvs : List ℕ) → kind_of (slice_index unit 4) ≡ want → m ≡ match_in unit → tb ≡ half_word unit 8
-    → header_in unit rvs ≡ record { kind = want; tb = tb; sendings = sendings_of m rvs }
-header-is want m tb unit rvs kind matching length_is i = record { kind = kind i; tb = sym length_is i; sendings = sendings_of (sym matching i) rvs }
+-- ---- how long the text of a header is
 
--- ---- the header of the program is accepted
-
-pub versions-of : (m : Match) (rvs : List ℕ) → versions (sendings_of m rvs) ≡ rvs
-versions-of m [] = refl
-versions-of m (rv ∷ rvs) = ap (λ (xs : List ℕ). rv ∷ xs) (versions-of m rvs)
-
-pub sent-of : (m : Match) (rvs : List ℕ) → length (sendings_of m rvs) ≡ length rvs
-sent-of m [] = refl
-sent-of m (rv ∷ rvs) = ap suc (sent-of m rvs)
-
-pub common-of : (m : Match) (rvs : List ℕ) → 1 ≤ length rvs → common (sendings_of m rvs) ≡ m
-common-of m [] some = absurd (omega (arith, some))
-common-of m (rv ∷ rvs) some = refl
-
-all-one : (m n : Match) (rvs : List ℕ) → m ≡ n → All (λ s. s.m ≡ n) (sendings_of m rvs)
-all-one m n [] same k d inside = absurd (omega (arith, inside))
-all-one m n (rv ∷ rvs) same zero d inside = same
-all-one m n (rv ∷ rvs) same (suc k) d inside = all-one m n rvs same k d (omega (arith, inside))
-
-pub header-accepted : (kind : Kind) (m : Match) (tb : ℕ) (rvs : List ℕ) → 1 ≤ tb → tb ≤ 18722 → IsMatch m → AreVersions rvs → is_limit m.limit ≡ true → fits_all m.limit tb ≡ true
-    → IsHeader (record { kind = kind; tb = tb; sendings = sendings_of m rvs })
-header-accepted kind m tb rvs some few lawful are limited fits =
-    let is = common-of m rvs are.some in
-    let long = sent-of m rvs in
-    record {
-      some = some;
-      few = few;
-      sent = omega (arith, long, are.some);
-      most = omega (arith, long, are.few);
-      even = all-one m (common (sendings_of m rvs)) rvs (sym is);
-      lawful = rw is lawful;
-      limited = rw is limited;
-      fits = rw is (fits_all-true m.limit tb fits);
-      redundancies = rw (versions-of m rvs) are.each;
-    }
-
-pub first-long : (h : Header) → length (first_text h) ≡ 18
+pub first-long : (v : Version) (h : Header) → length (first_text v h) ≡ first_size v
 unfolding first_text word_text half_word_text
-first-long h = refl
+first-long One h = refl
+first-long Two h = refl
 
-pub text-long : (kind : Kind) (m : Match) (tb : ℕ) (rvs : List ℕ) → length (header_text (record { kind = kind; tb = tb; sendings = sendings_of m rvs })) ≡ 18 + length rvs
-text-long kind m tb rvs =
-    let h : Header = record { kind = kind; tb = tb; sendings = sendings_of m rvs } in
-    omega (arith, length-append (first_text h) (versions h.sendings), first-long h, ap length (versions-of m rvs))
+pub sending-long : (v : Version) (s : Sending) → length (sending_text v s) ≡ sending_size v
+unfolding word_text
+sending-long One s = refl
+sending-long Two s = refl
+
+pub sends-text_long : (v : Version) (sends : List Sending) → length (flat_map (sending_text v) sends) ≡ length sends * sending_size v
+sends-text_long v [] = omega arith
+sends-text_long v (s ∷ ss) =
+    let rest = sends-text_long v ss in
+    let one = sending-long v s in
+    let more : length (s ∷ ss) * sending_size v ≡ sending_size v + length ss * sending_size v = omega arith in
+    omega (arith, length-append (sending_text v s) (flat_map (sending_text v) ss), rest, one, more)
+
+pub text-long : (h : Header) → length (header_text h) ≡ first_size h.version + length h.sends * sending_size h.version
+text-long h = omega (arith, length-append (first_text h.version h) (flat_map (sending_text h.version) h.sends), first-long h.version h, sends-text_long h.version h.sends)
 
 -- ---- how much must have come before the beginning is known
 
@@ -108,26 +93,31 @@ unless-due : (size n : ℕ) (o : Option Refusal) (after : Opening) → DueIs siz
 unless-due size n None after is less more = more
 unless-due size n (Some refusal) after is less more = omega (arith, is, less)
 
-pub second-due : (count : ℕ) (unit left : List ℕ) (n : ℕ) → n < 18 + count → n ≤ 18 + length left → n < opening_due (second_opening count unit left)
-second-due count unit left n less came = by_test (nat_lt (length left) count) refl
+pub second-due : (v : Version) (unit left : List ℕ) (n : ℕ) → n < first_size v + count_in v unit * sending_size v → n ≤ first_size v + length left → n < opening_due (second_opening v unit left)
+second-due v unit left n less came = by_test (nat_lt (length left) size) refl
   where
-    by_test : (t : Bool) → nat_lt (length left) count ≡ t → n < opening_due (cond t (refuses (truncated 0 (18 + length left)))
-        (unless (first_refusal (18 + count) (version_fields 18 (take count left))) (opens (header_in unit (take count left)) (drop count left))))
+    size : ℕ
+    size = count_in v unit * sending_size v
+
+    sends : List Sending
+    sends = sends_in v unit (count_in v unit) (take size left)
+
+    by_test : (t : Bool) → nat_lt (length left) size ≡ t → n < opening_due (cond t (refuses (truncated 0 (first_size v + length left)))
+        (unless (first_refusal (first_size v + size) (sends_fields v (count_in v unit) (first_size v) (take size left))) (opens (header_in v unit sends) (drop size left))))
     by_test true e = omega (arith, came)
     by_test false e =
-        let enough : count ≤ length left = ltb-false (length left) count e in
-        unless-due (18 + count) n (first_refusal (18 + count) (version_fields 18 (take count left))) (opens (header_in unit (take count left)) (drop count left))
-        (refusal-due (18 + count) (version_fields 18 (take count left))) less
-        (omega (arith, text-long (kind_of (slice_index unit 4)) (match_in unit) (half_word unit 8) (take count left), length-take-le count left enough, less))
+        unless-due (first_size v + size) n (first_refusal (first_size v + size) (sends_fields v (count_in v unit) (first_size v) (take size left))) (opens (header_in v unit sends) (drop size left))
+        (refusal-due (first_size v + size) (sends_fields v (count_in v unit) (first_size v) (take size left))) less
+        (let long = ap (λ (k : ℕ). k * sending_size v) (sends-long v unit (count_in v unit) (take size left)) in omega (arith, text-long (header_in v unit sends), long, less))
 
-pub opening-due : (wanted : List Kind) (left : List ℕ) (n : ℕ) → n < 18 → n ≤ length left → n < opening_due (opening wanted left)
-opening-due wanted left n less came =
-    by_test (nat_lt (length left) 18)
-    (unless-due 18 n (first_refusal 18 (fields wanted (take 18 left))) (second_opening (slice_index (take 18 left) 7) (take 18 left) (drop 18 left))
-    (refusal-due 18 (fields wanted (take 18 left))) less
-    (second-due (slice_index (take 18 left) 7) (take 18 left) (drop 18 left) n (omega (arith, less)) (omega (arith, less))))
+pub first-due : (v : Version) (want : Want) (left : List ℕ) (n : ℕ) → n < first_size v → n ≤ length left → n < opening_due (first_opening v want left)
+first-due v want left n less came =
+    by_test (nat_lt (length left) (first_size v))
+    (unless-due (first_size v) n (first_refusal (first_size v) (fields v want (take (first_size v) left))) (second_opening v (take (first_size v) left) (drop (first_size v) left))
+    (refusal-due (first_size v) (fields v want (take (first_size v) left))) less
+    (second-due v (take (first_size v) left) (drop (first_size v) left) n (omega (arith, less)) (omega (arith, less))))
   where
-    by_test : (t : Bool) → n < opening_due (unless (first_refusal 18 (fields wanted (take 18 left))) (second_opening (slice_index (take 18 left) 7) (take 18 left) (drop 18 left)))
-        → n < opening_due (cond t (refuses (truncated 0 (length left))) (unless (first_refusal 18 (fields wanted (take 18 left))) (second_opening (slice_index (take 18 left) 7) (take 18 left) (drop 18 left))))
+    by_test : (t : Bool) → n < opening_due (unless (first_refusal (first_size v) (fields v want (take (first_size v) left))) (second_opening v (take (first_size v) left) (drop (first_size v) left)))
+        → n < opening_due (cond t (refuses (truncated 0 (length left))) (unless (first_refusal (first_size v) (fields v want (take (first_size v) left))) (second_opening v (take (first_size v) left) (drop (first_size v) left))))
     by_test true more = omega (arith, came)
     by_test false more = more

@@ -1,21 +1,14 @@
 -- The transmissions of a block, one after the other.
-use Rattle.std.proofs.Common.{◌≡◌, ℕ, zero, suc, ◌+◌, ◌-◌, ◌<◌, ◌≤◌, Bool, true, false, nat_lt, cond, List, [], ◌∷◌, ◌++◌, length, take, drop, map, replicate, Some, refl, ap, sym, subst, ◌∙◌, append_assoc, add-one, arith}
+use Rattle.std.proofs.Common.{◌≡◌, ℕ, ◌+◌, ◌-◌, ◌<◌, ◌≤◌, Bool, true, false, nat_lt, cond, List, [], ◌∷◌, ◌++◌, length, take, drop, Some, refl, ap, sym, ◌∙◌, append_assoc, arith}
 use Rattle.std.specs.declared.option.Option.{Option}
 use Rattle.std.proofs.lemmas.List.{append-nil, length-append, length-take-le}
 use Rattle.std.proofs.lemmas.Bool.{lt-ltb, ltb-false}
-use Rattle.sender_model.specs.CircularBuffer.{Match}
 use Rattle.coded_stream.specs.Blocks.{Block, transmission_size, has_bad_bit, IsTransmission, AreTransmissions}
 use Rattle.coded_stream.specs.Units.{truncated, refused_at}
 use Rattle.coded_stream.specs.Body.{Step, refused, transmissions_step}
 use Rattle.coded_stream.specs.Takes.{step_due}
-use Rattle.coded_stream.specs.Shown.{sendings_of}
 use Rattle.coded_stream.specs.declared.kind.Kind.{Kind}
 use Rattle.coded_stream.proofs.Fronts.{take_front, drop_front, whole_front}
-
--- all have one length
-pub lengths-one : (m : Match) (rvs : List ℕ) → map (λ s. s.m.g) (sendings_of m rvs) ≡ replicate (length rvs) m.g
-lengths-one m [] = refl
-lengths-one m (rv ∷ rvs) = ap (λ (gs : List ℕ). m.g ∷ gs) (lengths-one m rvs)
 
 -- ---- a step
 
@@ -36,22 +29,19 @@ step-cut kind start b g gs left few =
 
 -- ---- how far a block was read
 
--- these bytes of its transmissions were read, which are `turn` of `count`
-pub record IsMidway (kind : Kind) (start payload g count turn : ℕ) (bytes input : List ℕ) (new : Option (List ℕ)) : Type 0 where
+-- these bytes of its transmissions were read, so many of them
+pub record IsMidway (kind : Kind) (start payload : ℕ) (gs : List ℕ) (turn : ℕ) (bytes input : List ℕ) (new : Option (List ℕ)) : Type 0 where
   pub left : List ℕ
   pub input_is : input ≡ bytes ++ left
   pub new_is : new ≡ Some left
-  pub step_is : transmissions_step kind start (record { payload = payload; bytes = [] }) (replicate count g) input
-      ≡ transmissions_step kind start (record { payload = payload; bytes = bytes }) (replicate (count - turn) g) left
+  pub step_is : transmissions_step kind start (record { payload = payload; bytes = [] }) gs input
+      ≡ transmissions_step kind start (record { payload = payload; bytes = bytes }) (drop turn gs) left
 
 -- one more is accepted
-pub AreTransmissions-more : (kind : Kind) (g n : ℕ) (xs ys : List ℕ) → AreTransmissions kind (replicate n g) xs → IsTransmission kind g ys → AreTransmissions kind (replicate (n + 1) g) (xs ++ ys)
-AreTransmissions-more kind g n xs ys are is = subst (λ (k : ℕ). AreTransmissions kind (replicate k g) (xs ++ ys)) (sym (add-one n)) (more n xs are)
-  where
-    more : (n : ℕ) (xs : List ℕ) → AreTransmissions kind (replicate n g) xs → AreTransmissions kind (replicate (suc n) g) (xs ++ ys)
-    more zero xs none = (ys, [], ap (λ (zs : List ℕ). zs ++ ys) none ∙ sym (append-nil ys), is, refl)
-    more (suc n) xs (first, rest, split, one, others) =
-        (first, rest ++ ys, ap (λ (zs : List ℕ). zs ++ ys) split ∙ append_assoc first rest ys, one, more n rest others)
+pub AreTransmissions-more : (kind : Kind) (gs : List ℕ) (g : ℕ) (xs ys : List ℕ) → AreTransmissions kind gs xs → IsTransmission kind g ys → AreTransmissions kind (gs ++ g ∷ []) (xs ++ ys)
+AreTransmissions-more kind [] g xs ys none is = (ys, [], ap (λ (zs : List ℕ). zs ++ ys) none ∙ sym (append-nil ys), is, refl)
+AreTransmissions-more kind (h ∷ gs) g xs ys (first, rest, split, one, others) is =
+    (first, rest ++ ys, ap (λ (zs : List ℕ). zs ++ ys) split ∙ append_assoc first rest ys, one, AreTransmissions-more kind gs g rest ys others is)
 
 -- ---- how much of a step must have come before it is known
 

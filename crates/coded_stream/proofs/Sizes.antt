@@ -13,8 +13,8 @@ pub record IsBounded (g : ℕ) : Type 0 where
   pub some : 1 ≤ g
   pub few : g ≤ 1000000
 
-pub match-bounded : (m : Match) → IsMatch m → IsBounded m.g
-match-bounded m is =
+pub match_bounded : (m : Match) → IsMatch m → IsBounded m.g
+match_bounded m is =
     let parts = and_parts (nat_le 1 m.g && nat_le m.g 1000000) (m.g % (m.nl * m.qm) == 0) is.g in
     let bounds = and_parts (nat_le 1 m.g) (nat_le m.g 1000000) parts.0 in
     record { some = leb-true 1 m.g bounds.0; few = leb-true m.g 1000000 bounds.1 }

@@ -1,5 +1,5 @@
 -- The blocks of a stream.
-use Rattle.std.specs.Prelude.{◌≡◌, ℕ, ◌-◌, ◌*◌, ◌%◌, ◌^◌, ◌≤◌, Bool, false, not, ◌==◌, List, [], ◌∷◌, ◌++◌, length, map, slice_index}
+use Rattle.std.specs.Prelude.{◌≡◌, ℕ, ◌-◌, ◌*◌, ◌%◌, ◌^◌, ◌≤◌, Bool, false, not, ◌==◌, List, [], ◌∷◌, ◌++◌, length, map, sum_by, slice_index}
 use Rattle.std.specs.Int.{div_ceil}
 use Rattle.coded_stream.specs.Header.{Header, word_text}
 use Rattle.coded_stream.specs.declared.kind.Kind.{Kind}
@@ -12,12 +12,16 @@ pub record Block : Type 0 where
 
 -- G of each transmission
 abbrev pub lengths : Header → List ℕ
-lengths h = map (λ s. s.m.g) h.sendings
+lengths h = map (λ s. s.m.g) h.sends
 
 -- the bytes of a transmission of g bits, packed, or of g soft values
 abbrev pub transmission_size : Kind → ℕ → ℕ
 transmission_size Hard g = div_ceil g 8
 transmission_size Soft g = g
+
+-- those of transmissions of these numbers of bits
+abbrev pub block_size : Kind → List ℕ → ℕ
+block_size kind gs = sum_by (transmission_size kind) gs
 
 -- the unused low bits of the last byte of g bits
 abbrev pub spare_bits : ℕ → ℕ

@@ -1,30 +1,56 @@
--- What the two units of a header are read as.
-use Rattle.std.specs.Prelude.{◌≡◌, ℕ, ◌+◌, ◌*◌, ◌<◌, true, false, List, length, slice_index, Some, None}
+-- What the units of a header are read as.
+use Rattle.std.specs.Prelude.{◌≡◌, ℕ, ◌+◌, ◌*◌, ◌<◌, ◌≤◌, true, false, Bool, ◌&&◌, List, length, slice_index, Some, None}
 use Rattle.std.specs.declared.option.Option.{Option}
-use Rattle.sender_model.specs.CircularBuffer.{Match}
-use Rattle.rate_match.specs.Matching.{is_g}
-use Rattle.coded_stream.specs.Header.{word, half_word}
+use Rattle.rate_match.specs.Matching.{IsMatch, is_g, limit_of}
+use Rattle.rate_match.specs.Fitting.{fits_all}
+use Rattle.rate_match.specs.declared.matching.Buffer.{Buffer}
+use Rattle.coded_stream.specs.Limit.{is_limit}
+use Rattle.coded_stream.specs.Header.{word, limit_of_code}
 use Rattle.coded_stream.specs.Units.{refused_at}
-use Rattle.coded_stream.specs.Opening.{Check, first_refusal, version_fields, match_in}
+use Rattle.coded_stream.specs.Opening.{Check, first_refusal, first_size, count_in, tb_in, limit_in, match_in, sending_fields, sending_in, sends_fields, sends_in}
+use Rattle.coded_stream.specs.declared.version.Version.{Version}
+use Rattle.coded_stream.specs.declared.version.Version.TheVariants.{One, Two}
 use Rattle.coded_stream.specs.declared.fields.Fields.{Fields}
 use Rattle.coded_stream.specs.declared.fields.Fields.TheVariants as first
-use Rattle.coded_stream.specs.declared.fields.Versions.{Versions}
-use Rattle.coded_stream.specs.declared.fields.Versions.TheVariants as second
+use Rattle.coded_stream.specs.declared.sending.SendingRead.{SendingRead}
+use Rattle.coded_stream.specs.declared.sending.SendingRead.TheVariants as one
+use Rattle.coded_stream.specs.declared.sendings.SendsRead.{SendsRead}
+use Rattle.coded_stream.specs.declared.sendings.SendsRead.TheVariants as all
 
--- the rate matching of a unit, where its G is accepted
-abbrev pub MatchIs : List ℕ → Option Match → Type 0
-MatchIs unit None = is_g (slice_index unit 6 * slice_index unit 5) (word unit 10) ≡ false
-MatchIs unit (Some m) = (is_g (slice_index unit 6 * slice_index unit 5) (word unit 10) ≡ true)
-    × (m ≡ match_in unit)
+-- G of version One is accepted
+abbrev pub has_good_g : List ℕ → Bool
+has_good_g unit = is_g (slice_index unit 6 * slice_index unit 5) (word unit 10)
+
+-- the buffer of N_IR, where it is accepted with payloads of up to tb bytes
+abbrev pub BufferIsRead : (limit tb : ℕ) → Option Buffer → Type 0
+BufferIsRead limit tb None = (is_limit (limit_of_code limit) && fits_all (limit_of_code limit) tb) ≡ false
+BufferIsRead limit tb (Some buffer) = (limit_of buffer ≡ limit_of_code limit)
+    × ((is_limit (limit_of_code limit) && fits_all (limit_of_code limit) tb) ≡ true)
 
 -- the numbers of a unit whose fields pass, or the first that doesn't
-abbrev pub AreRead : List Check → List ℕ → Fields → Type 0
-AreRead checks unit (first.Good m tb count) = (first_refusal 18 checks ≡ None) × (m ≡ match_in unit)
-    × (tb ≡ half_word unit 8) × (count ≡ slice_index unit 7)
-AreRead checks unit (first.Bad number place) = first_refusal 18 checks ≡ Some (refused_at number place 18)
+abbrev pub AreRead : Version → List Check → List ℕ → Fields → Type 0
+AreRead v checks unit (first.Good buffer tb count) = (first_refusal (first_size v) checks ≡ None)
+    × (limit_of buffer ≡ limit_in v unit) × (tb ≡ tb_in v unit) × (count ≡ count_in v unit)
+AreRead v checks unit (first.Bad number place) =
+    first_refusal (first_size v) checks ≡ Some (refused_at number place (first_size v))
 
-abbrev pub VersionsAreRead : List ℕ → Versions → Type 0
-VersionsAreRead unit (second.Good rvs) = (rvs ≡ unit)
-    × ((size : ℕ) → first_refusal size (version_fields 18 unit) ≡ None)
-VersionsAreRead unit (second.Bad index) = (index < length unit)
-    × ((size : ℕ) → first_refusal size (version_fields 18 unit) ≡ Some (refused_at 3 (18 + index) size))
+-- what version One says of all transmissions in its first unit is a matching
+abbrev pub IsFirst : Version → List ℕ → Type 0
+IsFirst One unit = IsMatch (match_in unit)
+IsFirst Two unit = Unit {0}
+
+-- a transmission whose fields pass, or where the first stands that doesn't
+abbrev pub SendingIsRead : Version → (unit bytes : List ℕ) → SendingRead → Type 0
+SendingIsRead v unit bytes (one.Good m rv) = (sending_in v unit bytes ≡ record { m = m; rv = rv })
+    × (rv ≤ 3) × (m.limit ≡ limit_in v unit)
+    × ((size place : ℕ) → first_refusal size (sending_fields v place bytes) ≡ None)
+SendingIsRead v unit bytes (one.Bad at) = (at < length bytes)
+    × ((size place : ℕ) → first_refusal size (sending_fields v place bytes)
+    ≡ Some (refused_at 3 (place + at) size))
+
+abbrev pub SendsAreRead : Version → List ℕ → (count : ℕ) → List ℕ → SendsRead → Type 0
+SendsAreRead v unit count bytes (all.Good sends) = (sends ≡ sends_in v unit count bytes)
+    × ((size place : ℕ) → first_refusal size (sends_fields v count place bytes) ≡ None)
+SendsAreRead v unit count bytes (all.Bad at) = (at < length bytes)
+    × ((size place : ℕ) → first_refusal size (sends_fields v count place bytes)
+    ≡ Some (refused_at 3 (place + at) size))

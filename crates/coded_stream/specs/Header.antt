@@ -1,24 +1,23 @@
 -- The header of a coded stream, and its bytes. Numbers are big-endian.
-use Rattle.std.specs.Prelude.{◌≡◌, ℕ, zero, suc, ◌+◌, ◌≤◌, true, List, [], ◌∷◌, ◌++◌, length, map, slice_index, All, Some, None}
+use Rattle.std.specs.Prelude.{◌≡◌, ℕ, zero, suc, ◌+◌, ◌≤◌, true, List, [], ◌∷◌, ◌++◌, length, flat_map, slice_index, Some, None}
 use Rattle.std.specs.declared.option.Option.{Option}
 use Rattle.std.specs.Int.{w16, w32, to_be_bytes, from_be_bytes}
-use Rattle.sender_model.specs.CircularBuffer.{Match}
-use Rattle.rate_match.specs.Matching.{IsMatch}
 use Rattle.rate_match.specs.Fitting.{FitsAll}
+use Rattle.rate_match.specs.Sendings.{AreSendings, AreEven, common}
+use Rattle.rate_match.specs.declared.sends.Sending.{Sending}
 use Rattle.coded_stream.specs.Limit.{is_limit}
+use Rattle.coded_stream.specs.declared.version.Version.{Version}
+use Rattle.coded_stream.specs.declared.version.Version.TheVariants.{One, Two}
 use Rattle.coded_stream.specs.declared.kind.Kind.{Kind}
 use Rattle.coded_stream.specs.declared.kind.Kind.TheVariants.{Hard, Soft}
 
--- one transmission of each block: its rate matching and its redundancy version
-pub record Sending : Type 0 where
-  pub m : Match
-  pub rv : ℕ
-
--- what the transmissions are, the greatest payload in bytes, and the transmissions of each block
+-- the version of the container, what the transmissions are, the greatest payload in bytes, and the
+-- transmissions of each block
 pub record Header : Type 0 where
+  pub version : Version
   pub kind : Kind
   pub tb : ℕ
-  pub sendings : List Sending
+  pub sends : List Sending
 
 -- ---- numbers in bytes
 
@@ -39,9 +38,10 @@ half_word bytes i = from_be_bytes w16 (slice_index bytes i ∷ slice_index bytes
 
 -- ---- fields
 
--- `LTC1`
-abbrev pub magic : ℕ
-magic = 0x4C544331
+-- `LTC1` and `LTC2`
+abbrev pub magic : Version → ℕ
+magic One = 0x4C544331
+magic Two = 0x4C544332
 
 abbrev pub kind_code : Kind → ℕ
 kind_code Hard = 0
@@ -62,33 +62,34 @@ limit_of_code (suc n) = Some (suc n)
 
 -- ---- the text
 
--- the rate matching of the first transmission, which is that of all; there is always one
-abbrev pub common : List Sending → Match
-common [] = record { qm = 0; nl = 0; g = 0; limit = None }
-common (s ∷ ss) = s.m
-
-abbrev pub versions : List Sending → List ℕ
-versions sendings = map (λ s. s.rv) sendings
-
--- the bytes before the redundancy versions
-unfoldable pub first_text : Header → List ℕ
-first_text h =
-    let m = common h.sendings in
-    word_text magic ++ kind_code h.kind ∷ m.qm ∷ m.nl ∷ length h.sendings ∷ []
+-- the bytes before the transmissions; version One has the rate matching of all of them there
+unfoldable pub first_text : Version → Header → List ℕ
+first_text One h =
+    let m = common h.sends in
+    word_text (magic One) ++ kind_code h.kind ∷ m.qm ∷ m.nl ∷ length h.sends ∷ []
     ++ half_word_text h.tb ++ word_text m.g ++ word_text (limit_code m.limit)
+first_text Two h =
+    word_text (magic Two) ++ kind_code h.kind ∷ length h.sends ∷ []
+    ++ half_word_text h.tb ++ word_text (limit_code (common h.sends).limit)
+
+-- what the header says of a transmission alone
+abbrev pub sending_text : Version → Sending → List ℕ
+sending_text One s = s.rv ∷ []
+sending_text Two s = s.m.qm ∷ s.m.nl ∷ s.rv ∷ word_text s.m.g
 
 abbrev pub header_text : Header → List ℕ
-header_text h = first_text h ++ versions h.sendings
+header_text h = first_text h.version h ++ flat_map (sending_text h.version) h.sends
 
 -- ---- which headers are accepted
+
+-- version One holds transmissions with one rate matching alone
+abbrev pub AreHeld : Version → List Sending → Type 0
+AreHeld version sends = version ≡ One → AreEven sends
 
 pub record IsHeader (h : Header) : Type 0 where
   pub some : 1 ≤ h.tb
   pub few : h.tb ≤ 18722
-  pub sent : 1 ≤ length h.sendings
-  pub most : length h.sendings ≤ 8
-  pub even : All (λ s. s.m ≡ common h.sendings) h.sendings
-  pub lawful : IsMatch (common h.sendings)
-  pub limited : is_limit (common h.sendings).limit ≡ true
-  pub fits : FitsAll (common h.sendings).limit h.tb
-  pub redundancies : All (λ rv. rv ≤ 3) (versions h.sendings)
+  pub sent : AreSendings h.sends
+  pub held : AreHeld h.version h.sends
+  pub limited : is_limit (common h.sends).limit ≡ true
+  pub fits : FitsAll (common h.sends).limit h.tb

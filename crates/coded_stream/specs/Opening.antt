@@ -1,16 +1,18 @@
--- How a stream begins: the units of its header, each read whole before its fields are checked, in order of
--- place.
-use Rattle.std.specs.Prelude.{ℕ, ◌+◌, ◌*◌, Bool, ◌&&◌, nat_le, nat_lt, ◌==◌, if◌then◌else◌, List, [], ◌∷◌, length, take, drop, slice_index, Some, None}
-use Rattle.std.specs.List.{list_any}
+-- How a stream begins: the two units of its header, each read whole before its fields are checked, in order
+-- of place.
+use Rattle.std.specs.Prelude.{ℕ, zero, suc, ◌+◌, ◌*◌, Bool, ◌&&◌, ◌||◌, nat_le, nat_lt, ◌==◌, if◌then◌else◌, List, [], ◌∷◌, ◌++◌, length, take, drop, slice_index, Some, None}
 use Rattle.std.specs.declared.option.Option.{Option}
 use Rattle.sender_model.specs.CircularBuffer.{Match}
 use Rattle.rate_match.specs.Matching.{is_qm, is_nl, is_g}
 use Rattle.rate_match.specs.Fitting.{fits_all}
+use Rattle.rate_match.specs.declared.sends.Sending.{Sending}
 use Rattle.coded_stream.specs.Limit.{is_limit}
-use Rattle.coded_stream.specs.Header.{Header, word, half_word, magic, kind_code, kind_of, limit_of_code}
-use Rattle.coded_stream.specs.Shown.{sendings_of}
+use Rattle.coded_stream.specs.Header.{Header, word, half_word, magic, kind_of, limit_of_code}
 use Rattle.coded_stream.specs.Units.{Refusal, refused_at, truncated}
-use Rattle.coded_stream.specs.declared.kind.Kind.{Kind}
+use Rattle.coded_stream.specs.declared.version.Version.{Version}
+use Rattle.coded_stream.specs.declared.version.Version.TheVariants.{One, Two}
+use Rattle.coded_stream.specs.declared.kind.Want.{Want}
+use Rattle.coded_stream.specs.declared.kind.Want.TheVariants.{Hard, Soft, Any}
 
 -- a field is accepted, or it is refused with a number at its first byte
 pub record Check : Type 0 where
@@ -27,35 +29,121 @@ first_refusal size [] = None
 first_refusal size (c ∷ cs) =
     if c.passes then first_refusal size cs else Some (refused_at c.number c.place size)
 
--- the kinds that are wanted have this code among theirs
-abbrev pub is_wanted : List Kind → ℕ → Bool
-is_wanted wanted code = list_any (λ k. kind_code k == code) wanted
+-- the code is that of a kind that is wanted
+abbrev pub is_wanted : Want → ℕ → Bool
+is_wanted Hard code = code == 0
+is_wanted Soft code = code == 1
+is_wanted Any code = code == 0 || code == 1
 
--- the fields of the first unit from the number of transmissions on
-abbrev pub size_fields : List ℕ → List Check
-size_fields unit =
-    let count = slice_index unit 7 in
-    let tb = half_word unit 8 in
-    let limit = limit_of_code (word unit 14) in
-    check (nat_le 1 count && nat_le count 8) 3 7
-    ∷ check (nat_le 1 tb && nat_le tb 18722) 3 8
+-- ---- the first unit
+
+-- of a stream that begins so
+abbrev pub version_of : List ℕ → Version
+version_of input = if word input 0 == magic Two then Two else One
+
+abbrev pub first_size : Version → ℕ
+first_size One = 18
+first_size Two = 12
+
+-- the number of transmissions
+abbrev pub count_in : Version → List ℕ → ℕ
+count_in One unit = slice_index unit 7
+count_in Two unit = slice_index unit 5
+
+abbrev pub tb_in : Version → List ℕ → ℕ
+tb_in One unit = half_word unit 8
+tb_in Two unit = half_word unit 6
+
+abbrev pub limit_in : Version → List ℕ → Option ℕ
+limit_in One unit = limit_of_code (word unit 14)
+limit_in Two unit = limit_of_code (word unit 8)
+
+abbrev pub count_check : (count place : ℕ) → Check
+count_check count place = check (nat_le 1 count && nat_le count 8) 3 place
+
+abbrev pub tb_check : (tb place : ℕ) → Check
+tb_check tb place = check (nat_le 1 tb && nat_le tb 18722) 3 place
+
+abbrev pub limit_check : Option ℕ → (tb place : ℕ) → Check
+limit_check limit tb place = check (is_limit limit && fits_all limit tb) 3 place
+
+-- from the number of transmissions on
+abbrev pub size_fields : Version → List ℕ → List Check
+size_fields One unit =
+    count_check (count_in One unit) 7
+    ∷ tb_check (tb_in One unit) 8
     ∷ check (is_g (slice_index unit 6 * slice_index unit 5) (word unit 10)) 3 10
-    ∷ check (is_limit limit && fits_all limit tb) 3 14
+    ∷ limit_check (limit_in One unit) (tb_in One unit) 14
+    ∷ []
+size_fields Two unit =
+    count_check (count_in Two unit) 5
+    ∷ tb_check (tb_in Two unit) 6
+    ∷ limit_check (limit_in Two unit) (tb_in Two unit) 8
     ∷ []
 
--- all of its fields
-abbrev pub fields : List Kind → List ℕ → List Check
-fields wanted unit =
-    check (word unit 0 == magic) 1 0
-    ∷ check (is_wanted wanted (slice_index unit 4)) 2 4
-    ∷ check (is_qm (slice_index unit 5)) 3 5
+-- behind the kind
+abbrev pub further_fields : Version → List ℕ → List Check
+further_fields One unit =
+    check (is_qm (slice_index unit 5)) 3 5
     ∷ check (is_nl (slice_index unit 6)) 3 6
-    ∷ size_fields unit
+    ∷ size_fields One unit
+further_fields Two unit = size_fields Two unit
 
--- the redundancy versions, from a place on
-abbrev pub version_fields : ℕ → List ℕ → List Check
-version_fields place [] = []
-version_fields place (rv ∷ rvs) = check (nat_le rv 3) 3 place ∷ version_fields (place + 1) rvs
+abbrev pub fields : Version → Want → List ℕ → List Check
+fields v want unit =
+    check (word unit 0 == magic v) 1 0
+    ∷ check (is_wanted want (slice_index unit 4)) 2 4
+    ∷ further_fields v unit
+
+-- ---- the second unit, of so many transmissions
+
+abbrev pub sending_size : Version → ℕ
+sending_size One = 1
+sending_size Two = 7
+
+-- the fields of one, from a place on
+abbrev pub sending_fields : Version → ℕ → List ℕ → List Check
+sending_fields One place bytes = check (nat_le (slice_index bytes 0) 3) 3 place ∷ []
+sending_fields Two place bytes =
+    check (is_qm (slice_index bytes 0)) 3 place
+    ∷ check (is_nl (slice_index bytes 1)) 3 (place + 1)
+    ∷ check (nat_le (slice_index bytes 2) 3) 3 (place + 2)
+    ∷ check (is_g (slice_index bytes 1 * slice_index bytes 0) (word bytes 3)) 3 (place + 3)
+    ∷ []
+
+abbrev pub sends_fields : Version → (count place : ℕ) → List ℕ → List Check
+sends_fields v zero place bytes = []
+sends_fields v (suc count) place bytes =
+    let size = sending_size v in
+    sending_fields v place (take size bytes) ++ sends_fields v count (place + size) (drop size bytes)
+
+-- the rate matching of version One
+abbrev pub match_in : List ℕ → Match
+match_in unit = record {
+  qm = slice_index unit 5;
+  nl = slice_index unit 6;
+  g = word unit 10;
+  limit = limit_in One unit;
+}
+
+-- one transmission, behind a first unit
+abbrev pub sending_in : Version → List ℕ → List ℕ → Sending
+sending_in One unit bytes = record { m = match_in unit; rv = slice_index bytes 0 }
+sending_in Two unit bytes = record {
+  m = record {
+    qm = slice_index bytes 0;
+    nl = slice_index bytes 1;
+    g = word bytes 3;
+    limit = limit_in Two unit;
+  };
+  rv = slice_index bytes 2;
+}
+
+abbrev pub sends_in : Version → List ℕ → ℕ → List ℕ → List Sending
+sends_in v unit zero bytes = []
+sends_in v unit (suc count) bytes =
+    let size = sending_size v in
+    sending_in v unit (take size bytes) ∷ sends_in v unit count (drop size bytes)
 
 -- ---- how the input begins
 
@@ -68,32 +156,33 @@ abbrev pub unless : Option Refusal → Opening → Opening
 unless None opening = opening
 unless (Some refusal) opening = refuses refusal
 
-abbrev pub match_in : List ℕ → Match
-match_in unit = record {
-  qm = slice_index unit 5;
-  nl = slice_index unit 6;
-  g = word unit 10;
-  limit = limit_of_code (word unit 14);
-}
-
--- the header of these two units
-abbrev pub header_in : List ℕ → List ℕ → Header
-header_in unit rvs = record {
+-- the header of a first unit and these transmissions
+abbrev pub header_in : Version → List ℕ → List Sending → Header
+header_in v unit sends = record {
+  version = v;
   kind = kind_of (slice_index unit 4);
-  tb = half_word unit 8;
-  sendings = sendings_of (match_in unit) rvs;
+  tb = tb_in v unit;
+  sends = sends;
 }
 
--- the second unit, of so many versions
-abbrev pub second_opening : ℕ → List ℕ → List ℕ → Opening
-second_opening count unit left = if nat_lt (length left) count
-    then refuses (truncated 0 (18 + length left))
-    else unless (first_refusal (18 + count) (version_fields 18 (take count left)))
-    (opens (header_in unit (take count left)) (drop count left))
+-- behind a first unit
+abbrev pub second_opening : Version → List ℕ → List ℕ → Opening
+second_opening v unit left =
+    let count = count_in v unit in
+    let size = count * sending_size v in
+    if nat_lt (length left) size
+    then refuses (truncated 0 (first_size v + length left))
+    else unless (first_refusal (first_size v + size) (sends_fields v count (first_size v) (take size left)))
+    (opens (header_in v unit (sends_in v unit count (take size left))) (drop size left))
+
+abbrev pub first_opening : Version → Want → List ℕ → Opening
+first_opening v want input =
+    let size = first_size v in
+    if nat_lt (length input) size
+    then refuses (truncated 0 (length input))
+    else unless (first_refusal size (fields v want (take size input)))
+    (second_opening v (take size input) (drop size input))
 
 -- of a stream of a kind that is wanted
-abbrev pub opening : List Kind → List ℕ → Opening
-opening wanted input = if nat_lt (length input) 18
-    then refuses (truncated 0 (length input))
-    else unless (first_refusal 18 (fields wanted (take 18 input)))
-    (second_opening (slice_index (take 18 input) 7) (take 18 input) (drop 18 input))
+abbrev pub opening : Want → List ℕ → Opening
+opening want input = first_opening (version_of input) want input

@@ -3,12 +3,12 @@ use Rattle.std.specs.Prelude.{◌≡◌, ℕ, ◌+◌, ◌-◌, ◌<◌, Bool, t
 use Rattle.std.specs.declared.option.Option.{Option}
 use Rattle.std.specs.declared.result.Result.{Result}
 use Rattle.edge_io.specs.Edge.{Takes}
-use Rattle.coded_stream.specs.Header.{Header, header_text, IsHeader}
+use Rattle.coded_stream.specs.Header.{Header, kind_code, header_text, IsHeader}
 use Rattle.coded_stream.specs.Blocks.{Block, IsBlock}
-use Rattle.coded_stream.specs.Opening.{Opening, opens, refuses}
+use Rattle.coded_stream.specs.Opening.{Opening, opens, refuses, is_wanted}
 use Rattle.coded_stream.specs.Body.{Ending, whole, bad, Body, body, no_more, onto, next_start}
 use Rattle.coded_stream.specs.Stream.{most_blocks}
-use Rattle.coded_stream.specs.declared.kind.Kind.{Kind}
+use Rattle.coded_stream.specs.declared.kind.Want.{Want}
 use Rattle.coded_stream.specs.declared.stop.StreamStop.{StreamStop}
 use Rattle.coded_stream.specs.declared.stop.StreamStop.TheVariants.{Bad, Fault, NoMemory}
 
@@ -68,9 +68,9 @@ GoesOn all after into old new (Err NoMemory) = new ≡ old
 
 -- ---- whether it tells them or not
 
--- a reader of a header that is accepted, of one of the kinds wanted, that stands behind it
-pub record IsBegun (kind : Kind) (r : Reading) : Type 0 where
-  pub kind_is : r.header.kind ≡ kind
+-- a reader of a header that is accepted, of a kind that is wanted, that stands behind it
+pub record IsBegun (want : Want) (r : Reading) : Type 0 where
+  pub kind : is_wanted want (kind_code r.header.kind) ≡ true
   pub header : IsHeader r.header
   pub place : r.place ≡ length (header_text r.header)
   pub blocks : r.blocks ≡ 0

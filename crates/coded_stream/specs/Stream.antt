@@ -4,7 +4,7 @@ use Rattle.coded_stream.specs.Header.{Header, header_text, IsHeader}
 use Rattle.coded_stream.specs.Blocks.{Block, IsBlock}
 use Rattle.coded_stream.specs.Opening.{Opening, opens, refuses, opening}
 use Rattle.coded_stream.specs.Body.{Ending, whole, bad, body}
-use Rattle.coded_stream.specs.declared.kind.Kind.{Kind}
+use Rattle.coded_stream.specs.declared.kind.Want.{Want}
 
 -- the most blocks of a stream
 abbrev pub most_blocks : ℕ
@@ -23,9 +23,9 @@ opened_as (opens h left) =
     let rest = body h most_blocks (length (header_text h)) left in ended_as h rest.blocks rest.ending
 opened_as (refuses refusal) = refused refusal.number refusal.place
 
--- of an input, where streams of these kinds are wanted
-abbrev pub stream_of : List Kind → List ℕ → Stream
-stream_of wanted input = opened_as (opening wanted input)
+-- of an input, where these streams are wanted
+abbrev pub stream_of : Want → List ℕ → Stream
+stream_of want input = opened_as (opening want input)
 
 -- ---- which streams are accepted
 

@@ -1,13 +1,18 @@
 -- What reading the parts of a stream takes, answers and leaves.
-use Rattle.std.specs.Prelude.{◌≡◌, ℕ, ◌+◌, ◌<◌, true, false, List, [], ◌++◌, length, take, Some, None}
+use Rattle.std.specs.Prelude.{◌≡◌, ℕ, ◌+◌, ◌*◌, ◌<◌, true, false, List, [], ◌++◌, length, take, Some}
 use Rattle.std.specs.declared.option.Option.{Option}
 use Rattle.std.specs.Io.KnownBytes.{IsAtEnd}
 use Rattle.edge_io.specs.Edge.{Takes}
-use Rattle.coded_stream.specs.Header.{Header}
+use Rattle.rate_match.specs.Sendings.{AreSendings, common}
+use Rattle.rate_match.specs.declared.sends.Sending.{Sending}
+use Rattle.coded_stream.specs.Header.{Header, AreHeld}
 use Rattle.coded_stream.specs.Blocks.{has_bad_bit, IsBlock, AreTransmissions}
-use Rattle.coded_stream.specs.Opening.{refuses, first_refusal, version_fields, second_opening}
+use Rattle.coded_stream.specs.Opening.{opens, refuses, version_of, first_size, sending_size, count_in, limit_in, header_in, second_opening}
 use Rattle.coded_stream.specs.Body.{Step, block, ended, refused, end_step}
 use Rattle.coded_stream.specs.declared.kind.Kind.{Kind}
+use Rattle.coded_stream.specs.declared.version.Version.{Version}
+use Rattle.coded_stream.specs.declared.opening.First.{First}
+use Rattle.coded_stream.specs.declared.opening.First.TheVariants as first
 use Rattle.coded_stream.specs.declared.opening.Second.{Second}
 use Rattle.coded_stream.specs.declared.opening.Second.TheVariants as second
 use Rattle.coded_stream.specs.declared.transmission.Transmission.{Transmission}
@@ -17,18 +22,41 @@ use Rattle.coded_stream.specs.declared.word.Word.TheVariants as word
 use Rattle.coded_stream.specs.declared.block.Next.{Next}
 use Rattle.coded_stream.specs.declared.block.Next.TheVariants as next
 
--- ---- the header's second unit, of so many versions, where the source tells its bytes
+-- ---- the header's first unit
 
-abbrev pub TakesVersions : ℕ → List ℕ → Option (List ℕ) → Option (List ℕ) → Second → Type 0
-TakesVersions count input old new (second.Good rvs) = (left : List ℕ) × (input ≡ rvs ++ left)
-    × (new ≡ Some left) × (length rvs ≡ count)
-    × (first_refusal (18 + count) (version_fields 18 rvs) ≡ None)
-TakesVersions count input old new (second.Bad number place) = (bytes left : List ℕ) × (due : ℕ)
+-- its first four bytes tell its version, and so how long it is
+abbrev pub TakesFirst : Option (List ℕ) → Option (List ℕ) → List ℕ → First → Type 0
+TakesFirst old new unit (first.Whole version) = Takes old new (take (first_size version) unit)
+    × ((left : List ℕ) → version_of (take (first_size version) unit ++ left) ≡ version)
+TakesFirst old new unit (first.Short got) = (part : List ℕ) × (length part ≡ got) × Takes old new part
+    × IsAtEnd new × (length part < first_size (version_of part))
+TakesFirst old new unit first.Fault = (part : List ℕ) × Takes old new part
+    × ((left : List ℕ) → length part < first_size (version_of (part ++ left)))
+
+-- ---- its second unit, behind a first one
+
+-- where the source tells its bytes
+abbrev pub TakesSends : Version → List ℕ → List ℕ → Option (List ℕ) → Option (List ℕ) → Second → Type 0
+TakesSends v unit input old new (second.Good sends) = (bytes left : List ℕ)
+    × (input ≡ bytes ++ left) × (new ≡ Some left) × (length bytes ≡ count_in v unit * sending_size v)
+    × (second_opening v unit input ≡ opens (header_in v unit sends) left)
+TakesSends v unit input old new (second.Bad number place) = (bytes left : List ℕ) × (due : ℕ)
     × (input ≡ bytes ++ left) × (new ≡ Some left)
-    × ((unit : List ℕ) → second_opening count unit input
-    ≡ refuses (record { number = number; place = place; size = 18 + length bytes; due = due }))
-TakesVersions count input old new second.Fault = (bytes : List ℕ) × Takes old new bytes
-    × (length bytes < count)
+    × (second_opening v unit input
+    ≡ refuses (record { number = number; place = place; size = first_size v + length bytes; due = due }))
+TakesSends v unit input old new second.Fault = (bytes : List ℕ) × Takes old new bytes
+    × (length bytes < count_in v unit * sending_size v)
+
+-- the transmissions of an accepted header
+pub record AreSentBy (v : Version) (unit : List ℕ) (sends : List Sending) : Type 0 where
+  pub sent : AreSendings sends
+  pub held : AreHeld v sends
+  pub limit : (common sends).limit ≡ limit_in v unit
+  pub count : length sends ≡ count_in v unit
+
+abbrev pub AreSent : Version → List ℕ → Second → Type 0
+AreSent v unit (second.Good sends) = AreSentBy v unit sends
+AreSent v unit _ = Unit {0}
 
 -- ---- one transmission
 

@@ -1,7 +1,7 @@
 //! Reading a block, or the end of a stream.
 ghost use Rattle.std.specs.Prelude.{◌≡◌, ◌≤◌, ◌<◌, ◌*◌, ◌^◌, ℕ, List, Some, length};
 ghost use Rattle.edge_io.specs.Edge.{Rose};
-ghost use Rattle.coded_stream.specs.Blocks.{transmission_size};
+ghost use Rattle.coded_stream.specs.Blocks.{block_size, lengths};
 ghost use Rattle.coded_stream.specs.Body.{step};
 ghost use Rattle.coded_stream.specs.Shown.{header_of};
 ghost use Rattle.coded_stream.specs.Takes.{TakesStep, IsAccepted};
@@ -33,7 +33,7 @@ pub fn read_block<S: Source>(
     into: &mut [u8],
 ) -> Next
     requires place { start < 2 ^ 60 }
-    requires size { length into.old ≡ length header.now.rvs * transmission_size header.now.kind header.now.m.g }
+    requires size { length into.old ≡ block_size header.now.kind (lengths (header_of header.now)) }
     ensures told { (input : List ℕ) → S.left source.old ≡ Some input →
         TakesStep (step (header_of header.now) more start input) 0 into.new
         (S.left source.old) (S.left source.new) result }

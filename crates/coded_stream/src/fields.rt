@@ -1,33 +1,32 @@
-//! The fields of a header.
-ghost use Rattle.std.specs.Prelude.{◌≡◌, ◌≤◌, ◌∷◌, [], length};
-ghost use Rattle.coded_stream.specs.Header.{limit_of_code};
-ghost use Rattle.coded_stream.specs.Opening.{fields, size_fields};
-ghost use Rattle.coded_stream.specs.Fields.{AreRead, MatchIs, VersionsAreRead};
+//! The fields of a header's first unit.
+ghost use Rattle.std.specs.Prelude.{◌≡◌, ◌≤◌, length};
 ghost use Rattle.rate_match.specs.Matching.{limit_of};
+ghost use Rattle.rate_match.specs.Fitting.{fits_all};
+ghost use Rattle.coded_stream.specs.Header.{limit_of_code};
+ghost use Rattle.coded_stream.specs.Opening.{first_size, fields, further_fields, size_fields};
+ghost use Rattle.coded_stream.specs.Fields.{AreRead, BufferIsRead, has_good_g};
 
-use crate::kind::Kind;
+use crate::kind::Want;
 use crate::unit::{half_word, word};
-use rate_match::{BadMatch, Buffer, Match, Rvs, fits};
-
-/// `LTC1`.
-const MAGIC: u32 = 0x4C54_4331;
+use crate::version::Version;
+use rate_match::{BadMatch, Buffer, Match, fits_buffer};
+use segmentation::planning::plan;
 
 /// What the first unit of a header says.
 #[derive(Clone, Copy)]
 pub enum Fields {
-    /// The rate matching of each transmission, the bytes of the greatest payload, and the number
-    /// of transmissions of each block.
-    Good { m: Match, tb: usize, count: usize },
+    /// The soft buffer, the bytes of the greatest payload, and the number of transmissions of each
+    /// block.
+    Good {
+        buffer: Buffer,
+        tb: usize,
+        count: usize,
+    },
     /// A field isn't accepted.
-    Bad { number: u8, place: u64 },
-}
-
-/// The redundancy versions of a header.
-#[derive(Clone, Copy)]
-pub enum Versions {
-    Good { rvs: Rvs },
-    /// The version at this index isn't accepted.
-    Bad { index: usize },
+    Bad {
+        number: u8,
+        place: u64,
+    },
 }
 
 /// The buffer that a header's number for it stands for.
@@ -41,89 +40,117 @@ fn buffer_of(limit: u32) -> Buffer
     }
 }
 
-/// The fields from the number of transmissions on. `m` is the rate matching of the unit, where
-/// its G is accepted.
-fn read_sizes(unit: &[u8], m: Option<Match>) -> Fields
+/// Whether a buffer fits the plan of every length from 1 to `tb`.
+fn fits_lengths(buffer: Buffer, tb: usize) -> bool
+    requires some { 1 ≤ tb }
+    requires few { tb ≤ 18722 }
+    ensures { result ≡ fits_all (limit_of buffer) tb }
+{
+    match plan(tb) {
+        Ok(plan) => fits_buffer(buffer, &plan),
+        Err(_) => unreachable!(),
+    }
+}
+
+/// The buffer of a header's number for it, where that is accepted with payloads of up to `tb`
+/// bytes.
+fn read_buffer(limit: u32, tb: usize) -> Option<Buffer>
+    requires some { 1 ≤ tb }
+    requires few { tb ≤ 18722 }
+    ensures { BufferIsRead limit tb result }
+{
+    let buffer = buffer_of(limit);
+    if limit > 1_000_000 || !fits_lengths(buffer, tb) {
+        None
+    } else {
+        Some(buffer)
+    }
+}
+
+/// A field that isn't accepted, but for the magic and the kind.
+fn bad_field(place: u64) -> Fields
+    ensures { result ≡ Fields.Bad 3 place }
+{
+    Fields::Bad { number: 3, place }
+}
+
+/// The fields of version One from the number of transmissions on. `good` tells whether G is
+/// accepted.
+fn read_first_sizes(unit: &[u8], good: bool) -> Fields
     requires whole { length unit.now ≡ 18 }
-    requires matching { MatchIs unit.now m }
-    ensures { AreRead (size_fields unit.now) unit.now result }
+    requires good { good ≡ has_good_g unit.now }
+    ensures { AreRead Version.One (size_fields Version.One unit.now) unit.now result }
 {
     let count = unit[7] as usize;
     if count < 1 || count > 8 {
-        return Fields::Bad {
-            number: 3,
-            place: 7,
-        };
+        return bad_field(7);
     }
     let tb = half_word(unit, 8) as usize;
     if tb < 1 || tb > 18722 {
-        return Fields::Bad {
-            number: 3,
-            place: 8,
-        };
+        return bad_field(8);
     }
-    let Some(m) = m else {
-        return Fields::Bad {
-            number: 3,
-            place: 10,
-        };
-    };
-    if word(unit, 14) > 1_000_000 || !fits(&m, tb) {
-        return Fields::Bad {
-            number: 3,
-            place: 14,
-        };
+    if !good {
+        return bad_field(10);
     }
-    Fields::Good { m, tb, count }
+    match read_buffer(word(unit, 14), tb) {
+        Some(buffer) => Fields::Good { buffer, tb, count },
+        None => bad_field(14),
+    }
+}
+
+/// The fields of version One behind the kind, checked in order of place.
+fn read_one(unit: &[u8]) -> Fields
+    requires { length unit.now ≡ 18 }
+    ensures { AreRead Version.One (further_fields Version.One unit.now) unit.now result }
+{
+    match Match::new(unit[5], unit[6], word(unit, 10), Buffer::Full) {
+        Ok(_) => read_first_sizes(unit, true),
+        Err(cause) => match cause {
+            BadMatch::BadQm => bad_field(5),
+            BadMatch::BadNl => bad_field(6),
+            BadMatch::BadG => read_first_sizes(unit, false),
+        },
+    }
+}
+
+/// The same of version Two.
+fn read_two(unit: &[u8]) -> Fields
+    requires { length unit.now ≡ 12 }
+    ensures { AreRead Version.Two (further_fields Version.Two unit.now) unit.now result }
+{
+    let count = unit[5] as usize;
+    if count < 1 || count > 8 {
+        return bad_field(5);
+    }
+    let tb = half_word(unit, 6) as usize;
+    if tb < 1 || tb > 18722 {
+        return bad_field(6);
+    }
+    match read_buffer(word(unit, 8), tb) {
+        Some(buffer) => Fields::Good { buffer, tb, count },
+        None => bad_field(8),
+    }
 }
 
 /// The fields of the first unit, checked in order of place.
-pub fn read_fields(unit: &[u8], want: Kind) -> Fields
-    requires { length unit.now ≡ 18 }
-    ensures { AreRead (fields (want ∷ []) unit.now) unit.now result }
+pub fn read_fields(version: Version, unit: &[u8], want: Want) -> Fields
+    requires { length unit.now ≡ first_size version }
+    ensures { AreRead version (fields version want unit.now) unit.now result }
 {
-    if word(unit, 0) != MAGIC {
+    if word(unit, 0) != version.magic() {
         return Fields::Bad {
             number: 1,
             place: 0,
         };
     }
-    if unit[4] != want.code() {
+    if !want.takes(unit[4]) {
         return Fields::Bad {
             number: 2,
             place: 4,
         };
     }
-    let buffer = buffer_of(word(unit, 14));
-    match Match::new(unit[5], unit[6], word(unit, 10), buffer) {
-        Ok(m) => read_sizes(unit, Some(m)),
-        Err(cause) => match cause {
-            BadMatch::BadQm => Fields::Bad {
-                number: 3,
-                place: 5,
-            },
-            BadMatch::BadNl => Fields::Bad {
-                number: 3,
-                place: 6,
-            },
-            BadMatch::BadG => read_sizes(unit, None),
-        },
+    match version {
+        Version::One => read_one(unit),
+        Version::Two => read_two(unit),
     }
-}
-
-/// The redundancy versions, one to eight.
-pub fn read_versions(unit: &[u8]) -> Versions
-    requires some { 1 ≤ length unit.now }
-    requires few { length unit.now ≤ 8 }
-    ensures { VersionsAreRead unit.now result }
-{
-    let Some(mut rvs) = Rvs::one(unit[0]) else {
-        return Versions::Bad { index: 0 };
-    };
-    for index in 1..unit.len() {
-        if !rvs.add(unit[index]) {
-            return Versions::Bad { index };
-        }
-    }
-    Versions::Good { rvs }
 }

@@ -1,26 +1,28 @@
 //! The header of a stream.
 ghost use Rattle.std.specs.Prelude.{◌≡◌, ◌≤◌, true};
-ghost use Rattle.rate_match.specs.Matching.{IsMatch};
-ghost use Rattle.rate_match.specs.Versions.{AreVersions};
+ghost use Rattle.rate_match.specs.Sendings.{AreSendings, common};
 ghost use Rattle.rate_match.specs.Fitting.{fits_all};
+ghost use Rattle.coded_stream.specs.Header.{AreHeld};
 ghost use Rattle.coded_stream.specs.Limit.{is_limit};
 
 use crate::kind::Kind;
-use rate_match::{Match, Rvs};
+use crate::version::Version;
+use rate_match::Sends;
 
-/// The header of a stream: what its transmissions are, the rate matching of each, the bytes of
-/// the greatest payload, 1 to 18,722, and the redundancy versions in which each block is sent. A
-/// limited buffer has room for 1 to 1,000,000 values and fits every payload.
+/// The header of a stream: the version of the container, what its transmissions are, the bytes of
+/// the greatest payload, 1 to 18,722, and the transmissions in which each block is sent. A limited
+/// buffer has room for 1 to 1,000,000 values and fits every payload. Version One holds only
+/// transmissions that all have the same rate matching.
 #[derive(Clone, Copy, Debug, PartialEq, Eq)]
 pub struct Header {
+    pub version: Version,
     pub kind: Kind,
-    pub m: Match,
     pub tb: usize,
-    pub rvs: Rvs,
+    pub sends: Sends,
     pub ghost some: { 1 ≤ tb },
     pub ghost few: { tb ≤ 18722 },
-    pub ghost lawful: { IsMatch m },
-    pub ghost versions: { AreVersions rvs },
-    pub ghost limited: { is_limit m.limit ≡ true },
-    pub ghost fits: { fits_all m.limit tb ≡ true },
+    pub ghost sent: { AreSendings sends },
+    pub ghost held: { AreHeld version sends },
+    pub ghost limited: { is_limit (common sends).limit ≡ true },
+    pub ghost fits: { fits_all (common sends).limit tb ≡ true },
 }

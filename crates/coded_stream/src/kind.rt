@@ -1,6 +1,7 @@
 //! What the transmissions of a stream are.
 ghost use Rattle.std.specs.Prelude.{◌≡◌};
-ghost use Rattle.coded_stream.specs.Header.{kind_code};
+ghost use Rattle.coded_stream.specs.Header.{kind_code, kind_of};
+ghost use Rattle.coded_stream.specs.Opening.{is_wanted};
 
 /// What the transmissions of a stream are.
 #[derive(Clone, Copy, Debug, PartialEq, Eq, Hash)]
@@ -11,6 +12,17 @@ pub enum Kind {
     Soft,
 }
 
+/// Which streams are wanted.
+#[derive(Clone, Copy, Debug, PartialEq, Eq, Hash)]
+pub enum Want {
+    /// Those of bits.
+    Hard,
+    /// Those of soft values.
+    Soft,
+    /// Those of either kind.
+    Any,
+}
+
 impl Kind {
     /// The kind as the header has it.
     pub(crate) fn code(self) -> u8
@@ -19,6 +31,26 @@ impl Kind {
         match self {
             Kind::Hard => 0,
             Kind::Soft => 1,
+        }
+    }
+
+    /// The kind of a code.
+    pub(crate) fn of(code: u8) -> Kind
+        ensures { result ≡ kind_of code }
+    {
+        if code == 0 { Kind::Hard } else { Kind::Soft }
+    }
+}
+
+impl Want {
+    /// Whether a code is that of a kind that is wanted.
+    pub(crate) fn takes(self, code: u8) -> bool
+        ensures { result ≡ is_wanted self code }
+    {
+        match self {
+            Want::Hard => code == 0,
+            Want::Soft => code == 1,
+            Want::Any => code == 0 || code == 1,
         }
     }
 }

@@ -5,26 +5,26 @@ ghost use Rattle.coded_stream.specs.Blocks.{Block};
 ghost use Rattle.coded_stream.specs.Opening.{is_wanted};
 ghost use Rattle.coded_stream.specs.Text.{stream_text};
 ghost use Rattle.coded_stream.specs.Stream.{stream_of, accepted, IsStream, AreBytes};
-ghost use Rattle.coded_stream.specs.declared.kind.Kind.{Kind};
+ghost use Rattle.coded_stream.specs.declared.kind.Want.{Want};
 
 /// The text of an accepted header of a wanted kind and of at most 4,096 accepted blocks is read as
 /// this header and these blocks.
 pub fn texts_are_accepted()
-    ensures { (wanted : List Kind) (h : Header) (blocks : List Block) →
-        is_wanted wanted (kind_code h.kind) ≡ true → IsStream h blocks →
-        stream_of wanted (stream_text h blocks) ≡ accepted h blocks }
+    ensures { (want : Want) (h : Header) (blocks : List Block) →
+        is_wanted want (kind_code h.kind) ≡ true → IsStream h blocks →
+        stream_of want (stream_text h blocks) ≡ accepted h blocks }
 {}
 
 /// Nothing else is accepted: an input of bytes that is read as a header and blocks is their text,
 /// and they are accepted ones.
 pub fn only_texts_are_accepted()
-    ensures text { (wanted : List Kind) (input : List ℕ) (h : Header) (blocks : List Block) →
-        AreBytes input → stream_of wanted input ≡ accepted h blocks → input ≡ stream_text h blocks }
-    ensures stream { (wanted : List Kind) (input : List ℕ) (h : Header) (blocks : List Block) →
-        AreBytes input → stream_of wanted input ≡ accepted h blocks → IsStream h blocks }
-    ensures want { (wanted : List Kind) (input : List ℕ) (h : Header) (blocks : List Block) →
-        AreBytes input → stream_of wanted input ≡ accepted h blocks →
-        is_wanted wanted (kind_code h.kind) ≡ true }
+    ensures text { (want : Want) (input : List ℕ) (h : Header) (blocks : List Block) →
+        AreBytes input → stream_of want input ≡ accepted h blocks → input ≡ stream_text h blocks }
+    ensures stream { (want : Want) (input : List ℕ) (h : Header) (blocks : List Block) →
+        AreBytes input → stream_of want input ≡ accepted h blocks → IsStream h blocks }
+    ensures want { (want : Want) (input : List ℕ) (h : Header) (blocks : List Block) →
+        AreBytes input → stream_of want input ≡ accepted h blocks →
+        is_wanted want (kind_code h.kind) ≡ true }
 {}
 
 /// A text says one header and one list of blocks.

@@ -1,5 +1,5 @@
-//! The container of coded transport blocks: a header, and then for each block its length and its
-//! transmissions, hard bits or soft values.
+//! The container of coded transport blocks: a header of either version, and then for each block its
+//! length and its transmissions, hard bits or soft values.
 #![tactic(auto)]
 
 mod block;
@@ -9,15 +9,19 @@ pub mod kind;
 pub mod laws;
 mod opening;
 pub mod reader;
+mod sending;
+mod sendings;
 pub mod stop;
 mod transmission;
 mod transmissions;
 mod unit;
+pub mod version;
 mod word;
 mod writing;
 
 pub use header::Header;
-pub use kind::Kind;
+pub use kind::{Kind, Want};
 pub use reader::StreamReader;
 pub use stop::StreamStop;
+pub use version::Version;
 pub use writing::{write_header, write_length};

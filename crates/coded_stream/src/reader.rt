@@ -1,5 +1,5 @@
 //! Reading a stream block by block.
-ghost use Rattle.std.specs.Prelude.{◌≡◌, ◌≤◌, ◌∷◌, [], ℕ, List, Some, IfOk, true};
+ghost use Rattle.std.specs.Prelude.{◌≡◌, ◌≤◌, ℕ, List, Some, IfOk, true};
 ghost use Rattle.edge_io.specs.Edge.{Rose};
 ghost use Rattle.coded_stream.specs.Opening.{opening};
 ghost use Rattle.coded_stream.specs.Shown.{header_of};
@@ -8,11 +8,10 @@ ghost use Rattle.coded_stream.specs.Steps.{Begins, IsBegun, GoesOn, Advances, re
 use crate::block::{Next, read_block};
 use crate::fields::{Fields, read_fields};
 use crate::header::Header;
-use crate::kind::Kind;
-use crate::opening::{Second, read_second};
+use crate::kind::{Kind, Want};
+use crate::opening::{First, Second, read_first, read_second};
 use crate::stop::StreamStop;
-use crate::transmission::transmission_size;
-use crate::unit::{Unit, read_unit};
+use crate::transmissions::block_size;
 use edge_io::Source;
 use lte_bits::List;
 use std::marker::Model;
@@ -42,14 +41,14 @@ impl Model for StreamReader {
 }
 
 impl StreamReader {
-    /// Reads the header of a stream of the kind that is wanted. It takes no memory, so that it
+    /// Reads the header of a stream that is wanted, of either version. It takes no memory, so that it
     /// never answers `NoMemory`. After `Bad` and `Fault` no byte past the unit that was being
     /// read was taken.
-    pub fn begin<S: Source>(source: &mut S, want: Kind) -> Result<StreamReader, StreamStop>
+    pub fn begin<S: Source>(source: &mut S, want: Want) -> Result<StreamReader, StreamStop>
         // Where the source tells its bytes: the header that they begin with, or where they are
         // refused.
         ensures begins { (input : List ℕ) → S.left source.old ≡ Some input →
-            Begins (opening (want ∷ []) input) (S.left source.old) (S.left source.new) result }
+            Begins (opening want input) (S.left source.old) (S.left source.new) result }
 
         // Whether it tells them or not.
         ensures accepted { IfOk result (IsBegun want) }
@@ -57,37 +56,37 @@ impl StreamReader {
         ensures later { S.faults source.old ≤ S.faults source.new }
         ensures fault { result ≡ Err StreamStop.Fault → Rose (S.faults source.old) (S.faults source.new) }
     {
-        let mut unit = [0u8; 18];
-        match read_unit(source, &mut unit) {
-            Unit::Whole => {}
-            Unit::Short { got } => {
+        let mut room = [0u8; 18];
+        let version = match read_first(source, &mut room) {
+            First::Whole { version } => version,
+            First::Short { got } => {
                 return Err(StreamStop::Bad {
                     number: 6,
                     place: got as u64,
                 });
             }
-            Unit::Fault => return Err(StreamStop::Fault),
-        }
-        match read_fields(&unit, want) {
+            First::Fault => return Err(StreamStop::Fault),
+        };
+        let unit = &room[..version.first_size()];
+        match read_fields(version, unit, want) {
             Fields::Bad { number, place } => Err(StreamStop::Bad { number, place }),
-            Fields::Good { m, tb, count } => match read_second(source, count) {
-                Second::Bad { number, place } => Err(StreamStop::Bad { number, place }),
-                Second::Fault => Err(StreamStop::Fault),
-                Second::Good { rvs } => {
-                    let versions = rvs.as_slice().len();
-                    Ok(StreamReader {
+            Fields::Good { buffer, tb, count } => {
+                match read_second(source, version, unit, buffer, count) {
+                    Second::Bad { number, place } => Err(StreamStop::Bad { number, place }),
+                    Second::Fault => Err(StreamStop::Fault),
+                    Second::Good { sends } => Ok(StreamReader {
                         header: Header {
-                            kind: want,
-                            m,
+                            version,
+                            kind: Kind::of(unit[4]),
                             tb,
-                            rvs,
+                            sends,
                         },
-                        place: 18 + versions as u64,
+                        place: (version.first_size() + version.second_size(count)) as u64,
                         blocks: 0,
                         live: true,
-                    })
+                    }),
                 }
-            },
+            }
         }
     }
 
@@ -144,8 +143,7 @@ impl StreamReader {
         ensures later { S.faults source.old ≤ S.faults source.new }
         ensures fault { result ≡ Err StreamStop.Fault → Rose (S.faults source.old) (S.faults source.new) }
     {
-        let size = transmission_size(self.header.kind, self.header.m.g());
-        let total = self.header.rvs.as_slice().len() * size;
+        let total = block_size(&self.header);
         if into.resize(total, 0).is_err() {
             return Err(StreamStop::NoMemory);
         }

@@ -1,7 +1,7 @@
 //! Reading the transmissions of a block.
-ghost use Rattle.std.specs.Prelude.{◌≡◌, ◌≤◌, ◌<◌, ◌*◌, ◌^◌, ℕ, List, [], Some, length};
+ghost use Rattle.std.specs.Prelude.{◌≡◌, ◌≤◌, ◌<◌, ◌*◌, ◌^◌, ℕ, List, [], Some, length, slice_get};
 ghost use Rattle.edge_io.specs.Edge.{Rose};
-ghost use Rattle.coded_stream.specs.Blocks.{lengths, transmission_size, AreTransmissions};
+ghost use Rattle.coded_stream.specs.Blocks.{lengths, block_size, AreTransmissions};
 ghost use Rattle.coded_stream.specs.Body.{transmissions_step};
 ghost use Rattle.coded_stream.specs.Shown.{header_of};
 ghost use Rattle.coded_stream.specs.Takes.{TakesStep, AreTaken};
@@ -10,6 +10,29 @@ use crate::block::Next;
 use crate::header::Header;
 use crate::transmission::{Transmission, read_transmission, transmission_size};
 use edge_io::Source;
+
+/// G of a transmission.
+#[tactic(auto, using(crate::proofs::Sizes::match_bounded, crate::proofs::Turns::length_of))]
+fn length_at(header: &Header, turn: usize) -> usize
+    requires { turn < length header.now.sends }
+    ensures value { slice_get (lengths (header_of header.now)) turn ≡ Some result }
+    ensures some { 1 ≤ result }
+    ensures few { result ≤ 1000000 }
+{
+    header.sends.at(turn).0.g()
+}
+
+/// The bytes of the transmissions of a block, at most 8,000,000.
+pub fn block_size(header: &Header) -> usize
+    ensures value { result ≡ block_size header.now.kind (lengths (header_of header.now)) }
+    ensures few { result ≤ 8000000 }
+{
+    let mut total = 0usize;
+    for turn in 0..header.sends.len() {
+        total += transmission_size(header.kind, length_at(header, turn));
+    }
+    total
+}
 
 /// Reads the transmissions of a block of `payload` bytes that begins at a place of the stream,
 /// one after the other.
@@ -21,7 +44,7 @@ pub fn read_transmissions<S: Source>(
     into: &mut [u8],
 ) -> Next
     requires place { start < 2 ^ 60 }
-    requires size { length into.old ≡ length header.now.rvs * transmission_size header.now.kind header.now.m.g }
+    requires size { length into.old ≡ block_size header.now.kind (lengths (header_of header.now)) }
     ensures told { (input : List ℕ) → S.left source.old ≡ Some input →
         TakesStep (transmissions_step header.now.kind start (record { payload = payload; bytes = [] }) (lengths (header_of header.now)) input)
         4 into.new (S.left source.old) (S.left source.new) result }
@@ -29,10 +52,10 @@ pub fn read_transmissions<S: Source>(
     ensures later { S.faults source.old ≤ S.faults source.new }
     ensures fault { result ≡ Next.Fault → Rose (S.faults source.old) (S.faults source.new) }
 {
-    let g = header.m.g();
-    let size = transmission_size(header.kind, g);
-    for turn in 0..header.rvs.as_slice().len() {
-        let read = turn * size;
+    let mut read = 0usize;
+    for turn in 0..header.sends.len() {
+        let g = length_at(header, turn);
+        let size = transmission_size(header.kind, g);
         let place = start + 4 + read as u64;
         match read_transmission(source, header.kind, g, &mut into[read..read + size]) {
             Transmission::Whole => {}
@@ -50,6 +73,7 @@ pub fn read_transmissions<S: Source>(
             }
             Transmission::Fault => return Next::Fault,
         }
+        read += size;
     }
     Next::Block { payload }
 }

@@ -1,5 +1,5 @@
 -- The header of the example.
-use Rattle.std.proofs.Common.{◌≡◌, ℕ, List, [], ◌∷◌, ◌++◌, length, Some, Ok, refl, ap, sym, subst, ◌∙◌, ◌==◌, true, false, Bool, if◌then◌else◌, slice_index_or, arith}
+use Rattle.std.proofs.Common.{◌≡◌, ℕ, List, [], ◌∷◌, length, Some, refl, ap, sym, subst, ◌∙◌, ◌==◌, false, Bool, if◌then◌else◌, slice_index_or, arith}
 use Rattle.std.proofs.lemmas.Grind.{common_steps}
 use Rattle.std.specs.declared.option.Option.{Option}
 use Rattle.edge_io.specs.Edge.{Takes}

@@ -1,5 +1,5 @@
 -- The rounds of the example's work.
-use Rattle.std.proofs.Common.{◌≡◌, ℕ, zero, suc, ◌+◌, ◌-◌, ◌<◌, ◌≤◌, List, [], ◌∷◌, ◌++◌, length, Some, refl, ap, sym, subst, ◌∙◌, arith}
+use Rattle.std.proofs.Common.{◌≡◌, ℕ, zero, suc, ◌-◌, ◌<◌, ◌≤◌, List, [], ◌∷◌, ◌++◌, length, Some, refl, ap, sym, subst, ◌∙◌, arith}
 use Rattle.std.proofs.lemmas.Grind.{common_steps}
 use Rattle.std.proofs.lemmas.List.{length-append}
 use Rattle.std.specs.declared.option.Option.{Option}
@@ -15,7 +15,7 @@ use Rattle.run_loop.specs.declared.work.Stop.{Stop}
 use Rattle.run_loop.specs.declared.work.Stop.TheVariants.{Go, End, Bad, Fault, NoMemory}
 use Rattle.run_loop.proofs.Alone.{step_alone}
 use Rattle.edge_io.proofs.Told.{told_rest, told_all}
-use Rattle.loop_example.specs.Pairs.{copied, ending, pairs}
+use Rattle.loop_example.specs.Pairs.{ending, pairs}
 use Rattle.loop_example.specs.Making.{copies, MakesGoing, MakesEnd}
 
 whole_pair : (more : ℕ) (bytes rest : List ℕ) → 0 < more → length bytes ≡ 2 → pairs more (bytes ++ rest) ≡ behind (copies bytes) (pairs (more - 1) rest)

@@ -1,7 +1,7 @@
 //! Streams as they are written, and each refusal at its byte.
-use crate::lists::list_of;
+use crate::memory::{list_of, sink_of};
 use coded_stream::{Kind, StreamReader, StreamStop, write_header, write_length};
-use edge_io::{MemSink, MemSource};
+use edge_io::MemSource;
 use std::alloc::{AllocError, Global};
 use std::test::Fail;
 
@@ -139,26 +139,29 @@ fn streams_of_other_kinds_and_lengths(rt: HostRuntime) -> Result<(), Fail> {
     Ok(())
 }
 
+/// A reader behind the small header.
+fn small_reader(alloc: Global) -> Result<Result<StreamReader, StreamStop>, AllocError> {
+    let mut source = MemSource::new(list_of(alloc, &SMALL)?, 7, list_of(alloc, &[])?);
+    Ok(StreamReader::begin(&mut source, Kind::Soft))
+}
+
 #[test]
-fn a_header_is_written_and_read(rt: HostRuntime) -> Result<(), Fail> {
-    let bytes = list_of(rt.alloc(), &SMALL)?;
-    let mut source = MemSource::new(bytes, 7, list_of(rt.alloc(), &[])?);
-    let reader = StreamReader::begin(&mut source, Kind::Soft).expect(&rt, "a header");
+fn a_header_is_read_and_written(rt: HostRuntime) -> Result<(), Fail> {
+    let reader = small_reader(rt.alloc())?.expect(&rt, "a header");
     assert!(rt; reader.header().kind == Kind::Soft);
     assert_eq!(rt; reader.header().m.g(), 132);
     assert_eq!(rt; reader.place(), 19);
-    let mut sink = MemSink::new(rt.alloc(), 7, list_of(rt.alloc(), &[])?);
-    sink.reserve(100)?;
-    write_header(&mut sink, reader.header()).expect(&rt, "a header");
-    write_length(&mut sink, 0x0102_0304).expect(&rt, "a word");
-    assert_eq!(rt;
-        &sink.bytes()[..19.min(sink.bytes().len())],
-        SMALL.as_slice()
-    );
-    assert_eq!(rt;
-        &sink.bytes()[19.min(sink.bytes().len())..],
-        [1, 2, 3, 4].as_slice()
-    );
+    let mut sink = sink_of(rt.alloc(), 7)?;
+    write_header(&mut sink, reader.header()).expect(&rt, "room for a header");
+    assert_eq!(rt; sink.bytes(), SMALL.as_slice());
+    Ok(())
+}
+
+#[test]
+fn a_length_is_written_highest_byte_first(rt: HostRuntime) -> Result<(), Fail> {
+    let mut sink = sink_of(rt.alloc(), 7)?;
+    write_length(&mut sink, 0x0102_0304).expect(&rt, "room for a word");
+    assert_eq!(rt; sink.bytes(), [1, 2, 3, 4].as_slice());
     Ok(())
 }
 

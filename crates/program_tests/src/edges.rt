@@ -1,7 +1,7 @@
 //! Reads and writes in small pieces, with failures in mid-stream.
 ghost use Rattle.std.specs.Prelude.{◌≤◌};
 
-use crate::lists::list_of;
+use crate::memory::list_of;
 use edge_io::{
     MemSink, MemSource, ReadStop, Sink, SinkFault, Source, SourceFault, StdSink, StdSource,
     SteadySource, read_exactly, write_all,

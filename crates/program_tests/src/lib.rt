@@ -6,7 +6,7 @@ mod container;
 #[cfg(test)]
 mod edges;
 #[cfg(test)]
-mod lists;
+mod memory;
 #[cfg(test)]
 mod pairs;
 #[cfg(test)]

@@ -1,6 +1,6 @@
 //! The example of a command over the run loop, run over memory.
-use crate::lists::list_of;
-use edge_io::{MemSink, MemSource};
+use crate::memory::{list_of, sink_of};
+use edge_io::MemSource;
 use loop_example::copy_pairs;
 use run_loop::Status;
 use std::process::Abort;
@@ -15,10 +15,8 @@ fn assert_run(
 ) -> Result<(), Fail> {
     let input = list_of(rt.alloc(), input)?;
     let mut source = MemSource::new(input, 1, list_of(rt.alloc(), failing)?);
-    let mut out = MemSink::new(rt.alloc(), 1, list_of(rt.alloc(), &[])?);
-    let mut report = MemSink::new(rt.alloc(), 1, list_of(rt.alloc(), &[])?);
-    out.reserve(100)?;
-    report.reserve(100)?;
+    let mut out = sink_of(rt.alloc(), 1)?;
+    let mut report = sink_of(rt.alloc(), 1)?;
     let status = copy_pairs(rt.alloc(), &mut source, &mut out, &mut report);
     assert_eq!(rt; status, want.0);
     assert_eq!(rt; out.bytes(), want.1);

@@ -1,7 +1,7 @@
 //! Runs of the command `codeword` over memory, against worked codewords.
 ghost use Rattle.std.specs.Prelude.{◌≤◌};
 
-use crate::lists::list_of;
+use crate::memory::list_of;
 use edge_io::{MemSink, MemSource, SteadySource};
 use std::process::Abort;
 use std::test::Fail;

@@ -1,15 +1,14 @@
 -- The streams of a transport block's code blocks.
-use Rattle.std.proofs.Common.{◌≡◌, ℕ, ◌+◌, ◌<◌, ◌≤◌, List, [], ◌∷◌, ◌++◌, length, map, get_or, flat_map, Contains, refl, sym, ap, subst, ◌∙◌, arith}
+use Rattle.std.proofs.Common.{◌≡◌, ℕ, ◌+◌, ◌<◌, List, [], ◌∷◌, ◌++◌, length, map, get_or, flat_map, Contains, sym, ap, subst, ◌∙◌, arith}
 use Rattle.std.specs.List.{range_with_len}
 use Rattle.std.proofs.lemmas.List.FromFn.{get_or-map-range_with_len, length-map-range_with_len}
 use Rattle.std.proofs.Math.ListN.{get_or-map}
 use Rattle.std.proofs.lemmas.Grind.{flat_map-append}
-use Rattle.std.proofs.lemmas.List.{append-nil}
+use Rattle.std.proofs.lemmas.List.{append-nil, length-map}
 use Rattle.rate_match.proofs.Walked.{range-split}
 use Rattle.lte_bits.specs.declared.block.Block.{Block}
-use Rattle.lte_bits.specs.declared.block.Streams.{Streams}
 use Rattle.sender_model.specs.Interleaver.{sizes}
-use Rattle.sender_model.specs.Segmentation.{Plan, plan_of, size, fill}
+use Rattle.sender_model.specs.Segmentation.{Plan, size, fill}
 use Rattle.sender_model.specs.CodeBlocks.{block, blocks}
 use Rattle.sender_model.specs.CodedStreams.{streams}
 use Rattle.sender_model.specs.CircularBuffer.{AreStreams}
@@ -31,18 +30,27 @@ pub record IsCoded (p : Plan) (payload : List ℕ) (r : ℕ) (b : Block) : Type 
   pub inside : Contains sizes (length b.bits)
   pub are : AreStreams (size p r) (fill p r) (streams b)
 
-pub block-coded : (p : Plan) (payload : List ℕ) (bs : List Block) (r : ℕ) (b : Block) → IsBlockOf p r → bs ≡ blocks p payload → AreBlocksOf p bs → r < p.c → b ≡ get_or bs r b → IsCoded p payload r b
-block-coded p payload bs r b numbers all shape within is =
+-- what blocks of a plan's shape are coded to
+pub block-streams : (p : Plan) (bs : List Block) (r : ℕ) (b : Block) → IsBlockOf p r → AreBlocksOf p bs → r < p.c → b ≡ get_or bs r b → AreStreams (size p r) (fill p r) (streams b)
+block-streams p bs r b numbers shape within is =
     let long : length b.bits ≡ size p r = at-map (λ (x : Block). length x.bits) (size p) bs p.c r b shape.sizes within is in
     let fillers : b.fill ≡ fill p r = at-map (λ (x : Block). x.fill) (fill p) bs p.c r b shape.fillers within is in
-    record {
-      is = at-range (block p payload) bs p.c r b all within is;
-      inside = subst (λ (k : ℕ). Contains sizes k) (sym long) numbers.inside;
-      are = placed long fillers (streams-nulls b (omega (arith, long, fillers, numbers.fills)));
-    }
+    placed long fillers (streams-nulls b (omega (arith, long, fillers, numbers.fills)))
   where
     placed : {k l f g : ℕ} → k ≡ l → f ≡ g → AreStreams k f (streams b) → AreStreams l g (streams b)
     placed {k} {l} {f} {g} size fill are = subst (λ (n : ℕ). AreStreams l n (streams b)) fill (subst (λ (n : ℕ). AreStreams n f (streams b)) size are)
+
+pub block-coded : (p : Plan) (payload : List ℕ) (bs : List Block) (r : ℕ) (b : Block) → IsBlockOf p r → bs ≡ blocks p payload → AreBlocksOf p bs → r < p.c → b ≡ get_or bs r b → IsCoded p payload r b
+block-coded p payload bs r b numbers all shape within is =
+    let long : length b.bits ≡ size p r = at-map (λ (x : Block). length x.bits) (size p) bs p.c r b shape.sizes within is in
+    record {
+      is = at-range (block p payload) bs p.c r b all within is;
+      inside = subst (λ (k : ℕ). Contains sizes k) (sym long) numbers.inside;
+      are = block-streams p bs r b numbers shape within is;
+    }
+
+pub shape-count : (p : Plan) (bs : List Block) → AreBlocksOf p bs → length bs ≡ p.c
+shape-count p bs shape = sym (length-map bs (λ (b : Block). length b.bits)) ∙ ap length shape.sizes ∙ length-map-range_with_len (size p) 0 p.c
 
 pub blocks-count : (p : Plan) (payload : List ℕ) (bs : List Block) → bs ≡ blocks p payload → length bs ≡ p.c
 blocks-count p payload bs all = ap length all ∙ length-map-range_with_len (block p payload) 0 p.c

@@ -7,3 +7,4 @@ pub mod Walked
 pub mod Selected
 pub mod CursorSteps
 pub mod BlockStreams
+pub mod Lengths

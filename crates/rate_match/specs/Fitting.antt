@@ -7,7 +7,8 @@ use Rattle.sender_model.specs.CircularBuffer.{FitsIn, rows_of}
 
 -- the buffer fits the plan of every length from 1 to tb
 abbrev pub FitsAll : Option ℕ → ℕ → Type 0
-FitsAll limit tb = (bytes : ℕ) → 1 ≤ bytes → bytes ≤ tb → FitsIn limit (plan_of bytes).c (plan_of bytes).k_plus
+FitsAll limit tb =
+    (bytes : ℕ) → 1 ≤ bytes → bytes ≤ tb → FitsIn limit (plan_of bytes).c (plan_of bytes).k_plus
 
 -- ---- The same as a test.
 
@@ -16,4 +17,5 @@ fits_in None c k = true
 fits_in (Some limit) c k = nat_le (32 * rows_of k) (limit / c)
 
 unfoldable pub fits_all : Option ℕ → ℕ → Bool
-fits_all limit tb = list_all (λ bytes. fits_in limit (plan_of bytes).c (plan_of bytes).k_plus) (range_with_len 1 tb)
+fits_all limit tb =
+    list_all (λ bytes. fits_in limit (plan_of bytes).c (plan_of bytes).k_plus) (range_with_len 1 tb)

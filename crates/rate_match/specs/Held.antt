@@ -1,5 +1,5 @@
 -- What contracts see of `Sends`: the transmissions held, behind which the places repeat the first.
-use Rattle.std.proofs.Common.{◌≡◌, ℕ, ◌≤◌, List, [], ◌∷◌, length, take, arith}
+use Rattle.std.proofs.Common.{◌≡◌, ◌≤◌, List, [], ◌∷◌, length, take, arith}
 use Rattle.std.proofs.lemmas.List.{length-take-le}
 use Rattle.lte_bits.specs.Lists.{resized}
 use Rattle.rate_match.specs.declared.sends.Sending.{Sending}

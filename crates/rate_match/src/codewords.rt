@@ -18,7 +18,8 @@ pub fn codeword(alloc: Global, payload: &[u8], m: &Match, rv: u8) -> Result<List
     requires few { length payload.now ≤ 18722 }
     requires fits { Fits m.now (plan_of (length payload.now)) }
     requires version { rv ≤ 3 }
-    ensures { IfOk result (λ bits. bits ≡ codeword payload.now m.now rv) }
+    ensures codeword { IfOk result (λ bits. bits ≡ codeword payload.now m.now rv) }
+    ensures long { IfOk result (λ bits. length bits ≡ m.now.g) }
 {
     let plan = plan(payload.len()).unwrap();
     let blocks = cut(alloc, payload, &plan)?;

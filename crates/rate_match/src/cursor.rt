@@ -23,7 +23,7 @@ fn column(i: usize) -> usize
 /// The first `size` places of the circular buffer of a block of `k` bits, whose first `fill` are
 /// fillers and whose streams take `rows` rows.
 #[derive(Clone, Copy)]
-pub(crate) struct Ring {
+pub struct Ring {
     pub k: usize,
     pub fill: usize,
     pub rows: usize,
@@ -57,7 +57,7 @@ fn padded(ring: Ring, number: u8, nulls: usize, p: usize) -> Option<Spot>
 /// Place `n` of the buffer: the column that stands there, counted in the order of reading, and the
 /// place in the stream by rows.
 #[derive(Clone, Copy)]
-pub(crate) struct Cursor {
+pub struct Cursor {
     pub n: usize,
     pub column: usize,
     pub by_rows: usize,

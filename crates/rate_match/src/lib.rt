@@ -3,17 +3,20 @@
 #![tactic(auto)]
 
 mod codewords;
-mod cursor;
+pub mod cursor;
 pub mod fitting;
 pub mod matching;
 pub mod numbers;
+pub mod rings;
 pub mod selecting;
 pub mod sends;
 
 pub use codewords::codeword;
+pub use cursor::{Cursor, Ring};
 pub use fitting::{fits, fits_buffer, fits_plan};
 pub use matching::{BadMatch, Buffer, Match};
 pub use numbers::{buffer_len, piece_len, start};
+pub use rings::ring_of;
 pub use selecting::{select, spot};
 pub use sender_model::Spot;
 pub use sends::Sends;

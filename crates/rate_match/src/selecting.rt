@@ -3,7 +3,7 @@ ghost use Rattle.std.specs.Prelude.{◌≡◌, ◌≤◌, ◌<◌, ◌+◌, ◌+
 ghost use Rattle.lte_bits.specs.declared.bit.Cell.{Cell};
 ghost use Rattle.sender_model.specs.Interleaver.{sizes};
 ghost use Rattle.sender_model.specs.Segmentation.{plan_of, size, fill};
-ghost use Rattle.sender_model.specs.CircularBuffer.{AreStreams, Fits, buffer_size, cell_at, spot, stream_of, w};
+ghost use Rattle.sender_model.specs.CircularBuffer.{AreStreams, Fits, buffer_size, cell_at, piece_length, spot, stream_of, w};
 ghost use Rattle.sender_model.specs.Selection.{bit_of_cell, bits_from, holds_bit, repeated, sent};
 
 use crate::cursor::{Cursor, Ring};
@@ -76,7 +76,7 @@ fn push_bits(
     requires some { 0 < length (bits_from (holds_bit ring.k ring.fill) start ring.size) }
     ensures { OnOk result (bits.new.items ≡ bits.old.items
         ++ map (λ n. bit_of_cell (w ring.k ring.fill streams.now n))
-            (repeated (bits_from (holds_bit ring.k ring.fill) start ring.size) count)) }
+        (repeated (bits_from (holds_bit ring.k ring.fill) start ring.size) count)) }
 {
     let mut cursor = Cursor::at(ring, start % ring.size);
     let mut left = count;
@@ -117,7 +117,13 @@ pub(crate) fn push_piece(
         rows: rows_of(k),
         size,
     };
-    push_bits(bits, streams, ring, start(k, size, rv), piece_len(m, plan, r))
+    push_bits(
+        bits,
+        streams,
+        ring,
+        start(k, size, rv),
+        piece_len(m, plan, r),
+    )
 }
 
 /// The E_r bits that redundancy version `rv` sends of block `r`, whose coded streams these are: of
@@ -135,7 +141,8 @@ pub fn select(
     requires streams { AreStreams (size (plan_of plan.now.bytes) r) (fill (plan_of plan.now.bytes) r) streams.now }
     requires fits { Fits m.now (plan_of plan.now.bytes) }
     requires version { rv ≤ 3 }
-    ensures { IfOk result (λ bits. bits ≡ sent (plan_of plan.now.bytes) m.now streams.now r rv) }
+    ensures sent { IfOk result (λ bits. bits ≡ sent (plan_of plan.now.bytes) m.now streams.now r rv) }
+    ensures long { IfOk result (λ bits. length bits ≡ piece_length m.now (plan_of plan.now.bytes).c r) }
 {
     let mut bits = Vec::with_capacity(alloc, piece_len(m, plan, r))?;
     push_piece(&mut bits, streams, m, r, plan, rv)?;

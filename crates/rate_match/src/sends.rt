@@ -102,6 +102,8 @@ impl Sends {
         ensures lawful { AreSendings self.now }
     {
         let first = self.values[0].m;
-        self.values[..self.held].iter().all(|sending| sending.m == first)
+        self.values[..self.held]
+            .iter()
+            .all(|sending| sending.m == first)
     }
 }

@@ -5,3 +5,4 @@ pub mod FirstOfRange
 pub mod PlacesFilled
 pub mod PlacesOfPositions
 pub mod DecodedOnce
+pub mod SoftSums

@@ -3,3 +3,4 @@ pub mod Paths
 pub mod Windows
 pub mod HalfIteration
 pub mod Decoding
+pub mod SoftCells

@@ -5,6 +5,7 @@ pub mod decoding;
 pub mod paths;
 pub mod positions;
 pub mod result;
+pub mod soft_cells;
 pub mod windows;
 
 pub use result::{CheckKind, CodeResult};

@@ -4,6 +4,8 @@
 #[cfg(test)]
 mod block;
 #[cfg(test)]
+mod transmissions;
+#[cfg(test)]
 mod values;
 #[cfg(test)]
 mod window;

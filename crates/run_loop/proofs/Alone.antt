@@ -1,8 +1,8 @@
 -- A round without blocks.
-use Rattle.std.proofs.Common.{◌≡◌, ℕ, List, [], Some, refl, sym, ap, subst}
+use Rattle.std.proofs.Common.{◌≡◌, ℕ, List, [], sym, ap, subst}
 use Rattle.std.specs.declared.option.Option.{Option}
 use Rattle.edge_io.proofs.Known.{takes_none}
-use Rattle.run_loop.specs.Answer.{Part, Answer, behind, size_of}
+use Rattle.run_loop.specs.Answer.{Answer, behind, size_of}
 use Rattle.run_loop.specs.Step.{Steps, Stops, parts_of}
 use Rattle.run_loop.specs.declared.work.Block.{Block}
 use Rattle.run_loop.specs.declared.work.Round.{Round}

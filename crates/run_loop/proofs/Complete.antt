@@ -1,8 +1,7 @@
 -- Where no count rose, a run ends as its answer says.
-use Rattle.std.proofs.Common.{◌≡◌, ℕ, sym, ◌∙◌, ap}
-use Rattle.run_loop.specs.Answer.{Answer, bad}
+use Rattle.std.proofs.Common.{ℕ, sym, ◌∙◌, ap}
+use Rattle.run_loop.specs.Answer.{bad}
 use Rattle.run_loop.specs.Edges.{Held, Counts, Causes, IsQuiet}
-use Rattle.run_loop.specs.Ended.{Ended}
 use Rattle.run_loop.specs.Reply.{Reply, unopened, begun, unread, EndsReply, ending_of_reply, IsEndingOf}
 use Rattle.run_loop.specs.declared.status.SinkName.TheVariants.{Out, Report}
 use Rattle.run_loop.specs.declared.status.Status.{Status}

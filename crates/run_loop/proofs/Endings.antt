@@ -2,13 +2,12 @@
 use Rattle.std.proofs.Common.{◌≡◌, ℕ, ◌+◌, List, [], ◌∷◌, ◌++◌, length, take, Some, Ok, Err, refl, ap, sym, subst, ◌∙◌, append_assoc, inr}
 use Rattle.std.proofs.lemmas.List.{append-nil, length-append}
 use Rattle.std.specs.declared.option.Option.{Option}
-use Rattle.edge_io.specs.Edge.{Takes, Adds}
+use Rattle.edge_io.specs.Edge.{Adds}
 use Rattle.std.specs.Io.KnownBytes.{prepend_known}
 use Rattle.edge_io.proofs.Known.{takes_then, adds_then, takes_none, adds_none}
-use Rattle.run_loop.specs.Answer.{Part, Answer, Ending, finished, some_failed, behind, opened, texts, lines, size_of}
-use Rattle.run_loop.specs.Due.{IsDue, IsWithin}
+use Rattle.run_loop.specs.Answer.{Part, Answer, behind, opened, texts, lines, size_of}
 use Rattle.run_loop.specs.Edges.{Held, held}
-use Rattle.run_loop.specs.Ended.{Ended, Stands, IsWhole, TookPast}
+use Rattle.run_loop.specs.Ended.{Ended, IsWhole, TookPast}
 use Rattle.run_loop.specs.Puts.{Puts, PutsEach}
 use Rattle.run_loop.specs.Step.{Steps, Stops, parts_of}
 use Rattle.run_loop.specs.declared.work.Round.{Round}

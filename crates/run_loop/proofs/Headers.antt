@@ -1,5 +1,5 @@
 -- A run behind a header, and one that has none.
-use Rattle.std.proofs.Common.{◌≡◌, ℕ, List, [], ◌++◌, length, Some, refl, sym, subst, inr}
+use Rattle.std.proofs.Common.{◌≡◌, ℕ, List, [], ◌++◌, length, Some, refl, subst, inr}
 use Rattle.std.specs.declared.option.Option.{Option}
 use Rattle.run_loop.specs.Answer.{Answer}
 use Rattle.run_loop.specs.Edges.{Held}

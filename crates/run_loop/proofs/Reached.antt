@@ -1,7 +1,6 @@
 -- How far a run has come: the blocks in front were finished, and the answer to what is left is still to come.
-use Rattle.std.proofs.Common.{◌≡◌, ℕ, ◌+◌, List, [], ◌∷◌, ◌++◌, length, Some, ap, ◌∙◌, arith}
+use Rattle.std.proofs.Common.{◌≡◌, ℕ, ◌+◌, List, ◌++◌, length, Some, arith}
 use Rattle.std.proofs.lemmas.Grind.{common_steps, flat_map-append}
-use Rattle.std.proofs.lemmas.List.{append-nil}
 use Rattle.edge_io.specs.Edge.{Takes, Adds}
 use Rattle.run_loop.specs.Answer.{Part, Answer, behind, texts, lines, size_of}
 use Rattle.run_loop.specs.Edges.{Held}

@@ -1,5 +1,5 @@
 -- Counts that rose, seen over a longer time.
-use Rattle.std.proofs.Common.{◌≡◌, ℕ, ◌≤◌, ◌<◌, inl, inr, arith}
+use Rattle.std.proofs.Common.{ℕ, ◌≤◌, inl, inr, arith}
 use Rattle.std.proofs.lemmas.Bool.{cases_lt}
 use Rattle.edge_io.specs.Edge.{Rose}
 use Rattle.run_loop.specs.Edges.{counts, Causes}

@@ -1,7 +1,7 @@
 -- How a command ends whose answer is known, and what stands then.
 use Rattle.std.specs.Prelude.{◌≡◌, ℕ, List, [], ◌∷◌, ◌++◌, length, take, Some, ◌⊎◌}
 use Rattle.edge_io.specs.Edge.{Takes, Adds}
-use Rattle.run_loop.specs.Answer.{Part, Answer, Ending, finished, some_failed, bad, texts, lines, size_of}
+use Rattle.run_loop.specs.Answer.{Part, Answer, finished, some_failed, bad, texts, lines, size_of}
 use Rattle.run_loop.specs.Due.{IsDue, IsWithin}
 use Rattle.run_loop.specs.Edges.{Held}
 use Rattle.run_loop.specs.declared.status.SinkName.TheVariants.{Out, Report}

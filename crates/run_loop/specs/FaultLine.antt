@@ -1,5 +1,5 @@
 -- The line that tells a fault, written once behind what the command left.
-use Rattle.std.specs.Prelude.{◌≡◌, ℕ, List, [], ◌∷◌, take, codes, decimal, flat_map}
+use Rattle.std.specs.Prelude.{ℕ, List, [], ◌∷◌, take, codes, decimal, flat_map}
 use Rattle.std.specs.declared.option.Option.{Option}
 use Rattle.edge_io.specs.Edge.{Adds, Rose}
 use Rattle.run_loop.specs.Edges.{Held, held}

@@ -4,7 +4,7 @@ use Rattle.edge_io.specs.Edge.{Takes, Adds}
 use Rattle.run_loop.specs.Answer.{Answer, Ending, finished, some_failed, bad}
 use Rattle.run_loop.specs.Edges.{Held}
 use Rattle.run_loop.specs.Ended.{Ended}
-use Rattle.run_loop.specs.declared.status.SinkName.TheVariants.{Out, Report}
+use Rattle.run_loop.specs.declared.status.SinkName.TheVariants.{Report}
 use Rattle.run_loop.specs.declared.status.Status.{Status}
 use Rattle.run_loop.specs.declared.status.Status.TheVariants as status
 

@@ -36,7 +36,8 @@ falls k f n d zero u h p = subst (λ (x : ℕ). k ∣ x) (ap (λ y. d * y) (pow-
 falls k f n d (suc j) u h p =
     let x : ℕ = d * n ^ j in
     let e : d * n ^ suc j ≡ x * n = ap (λ y. d * y) (pow-suc n j) ∙ (let s : d * (n ^ j * n) ≡ d * n ^ j * n = omega arith in s) in
-    let a : k ∣ x * (f + n) = subst (λ (y : ℕ). k ∣ y) (let s : n ^ j * (d * (f + n)) ≡ d * n ^ j * (f + n) = omega arith in s) (dvd-mul_left_of_dvd k h (n ^ j)) in
+    let whole : n ^ j * (d * (f + n)) ≡ d * n ^ j * (f + n) = omega arith in
+    let a : k ∣ x * (f + n) = subst (λ (y : ℕ). k ∣ y) whole (dvd-mul_left_of_dvd k h (n ^ j)) in
     let b : k ∣ x * n = subst (λ (y : ℕ). k ∣ y) e p in
     let c : k ∣ x * (f + n) - x * n = dvd-sub k a b in
     let s : x * (f + n) - x * n ≡ x * f = omega arith in
@@ -60,7 +61,10 @@ in_order k f1 f2 i j law le lt e =
     zero_from k d i j q (omega (arith, le)) lt
   where
     difference : (f1 f2 i j d : ℕ) → i + d ≡ j → f1 * j + f2 * j * j - (f1 * i + f2 * i * i) ≡ d * (f1 + f2 * (i + j))
-    difference f1 f2 i j d e = rw (← e) (let s : f1 * (i + d) + f2 * (i + d) * (i + d) - (f1 * i + f2 * i * i) ≡ d * (f1 + f2 * (i + (i + d))) = omega arith in s)
+    difference f1 f2 i j d e =
+        let s : f1 * (i + d) + f2 * (i + d) * (i + d) - (f1 * i + f2 * i * i)
+        ≡ d * (f1 + f2 * (i + (i + d))) = omega arith in
+        rw (← e) s
 
     zero_from : (k d i j : ℕ) → k ∣ d → i + d ≡ j → j < k → i ≡ j
     zero_from k zero i j q e lt = omega (arith, e)
@@ -141,7 +145,9 @@ bank-window k f m j t u law d lj lt lu e =
     let w : ℕ = k / m in
     let rows : f (j + t * w) % w ≡ f (j + u * w) % w = row-window k f m j t law d lj lt ∙ sym (row-window k f m j u law d lj lu) in
     let same : f (j + t * w) ≡ f (j + u * w) =
-    sym (div-add-mod (f (j + t * w)) w) ∙ (ap (λ q. w * q + f (j + t * w) % w) e ∙ (ap (λ r. w * (f (j + u * w) / w) + r) rows ∙ div-add-mod (f (j + u * w)) w)) in
+    sym (div-add-mod (f (j + t * w)) w)
+    ∙ (ap (λ q. w * q + f (j + t * w) % w) e
+    ∙ (ap (λ r. w * (f (j + u * w) / w) + r) rows ∙ div-add-mod (f (j + u * w)) w)) in
     let places : j + t * w ≡ j + u * w =
     law.apart (j + t * w) (j + u * w) (window_place_below k m j t d lj lt) (window_place_below k m j u d lj lu) same in
     cancels w t u (omega (arith, lj)) (omega (arith, places))

@@ -7,6 +7,8 @@ mod check_bits;
 #[cfg(test)]
 mod code_blocks;
 #[cfg(test)]
+mod codewords;
+#[cfg(test)]
 mod interleaver;
 #[cfg(test)]
 mod lists;

@@ -37,8 +37,8 @@ fn are_numbers(cells: &Cells<usize>, n: usize, at: usize, v: usize) -> bool
 
 #[test]
 fn size_40_in_four_windows(rt: HostRuntime) -> Result<(), Fail> {
-    let cells = Cells::new(rt.alloc(), numbers(rt.alloc(), 40)?, 4)?;
-    let mut shares = cells.split(Order::Interleaved(qpp(40).expect(&rt, "40 is a size")));
+    let order = Order::Interleaved(qpp(40).expect(&rt, "40 is a size"));
+    let mut shares = Cells::new(rt.alloc(), numbers(rt.alloc(), 40)?, 4)?.split(order);
     let row = [
         shares[0].get(1),
         shares[1].get(1),
@@ -46,7 +46,9 @@ fn size_40_in_four_windows(rt: HostRuntime) -> Result<(), Fail> {
         shares[3].get(1),
     ];
     assert_eq!(rt; row, [13, 3, 33, 23]);
-    shares[2].set(1, 99);
+    let place = order.place(40, 21);
+    assert_eq!(rt; (place, shares[2].get_at(1, place)), (33, 33));
+    shares[2].set_at(1, place, 99);
     assert!(rt; are_numbers(&join(shares), 40, 33, 99));
     Ok(())
 }

@@ -1,147 +1,121 @@
-use Rattle.std.proofs.Common.{◌≡◌, ℕ, ◌+◌, ◌-◌, ◌*◌, ◌<◌, ◌≤◌, List, [], ◌++◌, length, take, replicate, refl, ap, sym, subst, ◌∙◌, arith}
-use Rattle.std.proofs.Math.Nat.{mul-le-mul_left}
+use Rattle.std.proofs.Common.{◌≡◌, ℕ, ◌+◌, ◌-◌, ◌<◌, ◌≤◌, List, ◌++◌, length, take, refl, ap, sym, subst, ◌∙◌, arith}
 use Rattle.std.proofs.lemmas.List.{take_all, length-take-le}
 use Rattle.std.proofs.lemmas.Slice.{take-put_mid}
 use borrow.Rule.Slice.PartMut.{put_mid}
-use Rattle.coded_stream.specs.Blocks.{lengths, transmission_size, AreTransmissions}
-use Rattle.coded_stream.specs.Body.{transmissions_step}
-use Rattle.coded_stream.specs.Takes.{TakesStep}
+use Rattle.coded_stream.specs.Blocks.{lengths, block_size, transmission_size, AreTransmissions}
 use Rattle.coded_stream.specs.Shown.{header_of}
-use Rattle.coded_stream.specs.declared.block.Next.TheVariants as next
-use Rattle.coded_stream.specs.declared.block.Next.{Next}
 use Rattle.coded_stream.specs.declared.kind.Kind.{Kind}
-use Rattle.std.specs.declared.option.Option.{Option}
-use Rattle.coded_stream.proofs.Sizes.{match-bounded, size-bounded}
+use Rattle.coded_stream.proofs.Sizes.{size-bounded}
+use Rattle.coded_stream.proofs.Turns.{IsTurn, turn-is, lengths-long}
 use Rattle.coded_stream.proofs.Sent.{IsMidway, AreTransmissions-more}
-use Rattle.coded_stream.proofs.Midway.{lengths-are, midway-more, midway-bad, midway-cut, midway-fault, midway-done}
+use Rattle.coded_stream.proofs.Midway.{midway-more, midway-bad, midway-cut, midway-fault, midway-done}
 use Rattle.coded_stream.proofs.transmissions.read_transmissions.Goals as goal
 
--- what was read before a turn is within the block
-within : (turn count size long : ℕ) → turn < count → long ≡ count * size → turn * size + size ≤ long
-within turn count size long less is =
-    let le : size * (turn + 1) ≤ size * count = mul-le-mul_left size (let h : turn + 1 ≤ count = omega (arith, less) in h) in
-    let a : size * (turn + 1) ≡ turn * size + size = omega arith in
-    let b : size * count ≡ count * size = omega arith in
-    omega (arith, le, a, b, is)
+-- what is read at a turn is within the block
+within : (kind : Kind) (gs : List ℕ) (turn g read size long : ℕ) → IsTurn kind gs turn g → read ≡ block_size kind (take turn gs) → size ≡ transmission_size kind g → long ≡ block_size kind gs → read + size ≤ long
+within kind gs turn g read size long t read_is size_is long_is = (let e = t.within in omega (arith, e, read_is, size_is, long_is))
 
-long_is : (kind : Kind) (rvs slice : List ℕ) (of_m g size long : ℕ) → long ≡ length rvs * transmission_size kind of_m → slice ≡ rvs → g ≡ of_m → size ≡ transmission_size kind g → long ≡ length slice * size
-long_is kind rvs slice of_m g size long is slice_is g_is size_is =
-    is
-    ∙ ap (λ (xs : List ℕ). length xs * transmission_size kind of_m) (sym slice_is)
-    ∙ ap (λ (n : ℕ). length slice * transmission_size kind n) (sym g_is)
-    ∙ ap (λ (n : ℕ). length slice * n) (sym size_is)
-
--- a step of transmissions of one length
-one_length : (kind : Kind) (start payload : ℕ) (gs hs input into : List ℕ) (old new : Option (List ℕ)) (n : Next) → gs ≡ hs
-    → TakesStep (transmissions_step kind start (record { payload = payload; bytes = [] }) hs input) 4 into old new n
-    → TakesStep (transmissions_step kind start (record { payload = payload; bytes = [] }) gs input) 4 into old new n
-one_length kind start payload gs hs input into old new n is takes =
-    let P : List ℕ → Type 0 = λ ls. TakesStep (transmissions_step kind start (record { payload = payload; bytes = [] }) ls input) 4 into old new n in
-    subst P (sym is) takes
+pub slice_bounds-read_transmission-end : goal.slice_bounds-read_transmission-end
+slice_bounds-read_transmission-end g c =
+    let h = c.args.header.now in
+    let t = turn-is h.kind (lengths (header_of h)) c.loop-turn.turn c.length_at-g.result c.length_at-g.ensures.value in
+    within h.kind (lengths (header_of h)) c.loop-turn.turn c.length_at-g.result c.loop-turn.read c.transmission_size-size.result _ t c.loop-turn.invariant.read c.transmission_size-size.ensures (c.loop-turn.auto.into ∙ c.requires.size)
 
 pub returns-in-BadBit-clause-told : goal.returns-in-BadBit-clause-told
 returns-in-BadBit-clause-told g c input is =
     let h = c.args.header.now in
-    let slice = c.as_slice-turn-end.result.now in
     let turn : ℕ = c.loop-turn.turn in
     let size : ℕ = c.transmission_size-size.result in
-    let less : turn < length slice = c.loop-turn-test.true in
-    let all : length c.loop-turn.into ≡ length slice * size = c.loop-turn.auto.into ∙ long_is h.kind h.rvs slice h.m.g c.g-g.result size _ c.requires.size c.as_slice-turn-end.ensures.value c.g-g.ensures.value c.transmission_size-size.ensures in
-    let room : turn * size + size ≤ length c.loop-turn.into = within turn (length slice) size (length c.loop-turn.into) less all in
-    let read : length (take (turn * size) c.loop-turn.into) ≡ turn * size = length-take-le (turn * size) c.loop-turn.into (omega (arith, room)) in
-    let unit_long : length c.read_transmission.new.bytes ≡ transmission_size h.kind c.g-g.result = omega (arith, c.read_transmission.auto.bytes, c.transmission_size-size.ensures) in
-    one_length h.kind c.args.start c.args.payload (lengths (header_of h)) (replicate (length slice) c.g-g.result) input c.loop-turn.into _ _ (next.Bad 5 _)
-    (lengths-are h.m h.rvs slice c.g-g.result c.g-g.ensures.value c.as_slice-turn-end.ensures.value)
-    (midway-bad h.kind c.args.start c.args.payload c.g-g.result (length slice) turn _ (take (turn * size) c.loop-turn.into) c.read_transmission.new.bytes input c.loop-turn.into _ _ _ (c.loop-turn.invariant.told input is) less is c.in-BadBit.ensures.bytes.0 unit_long c.in-BadBit.ensures.bytes.1 (omega (arith, read, c.transmission_size-size.ensures, (size-bounded h.kind h.m.g (match-bounded h.m h.lawful)).some, ap (transmission_size h.kind) c.g-g.ensures.value)))
+    let into = c.loop-turn.into in
+    let t = turn-is h.kind (lengths (header_of h)) turn c.length_at-g.result c.length_at-g.ensures.value in
+    let room : c.loop-turn.read + size ≤ length into = within h.kind (lengths (header_of h)) turn c.length_at-g.result c.loop-turn.read size (length into) t c.loop-turn.invariant.read c.transmission_size-size.ensures (c.loop-turn.auto.into ∙ c.requires.size) in
+    let read : length (take c.loop-turn.read into) ≡ c.loop-turn.read = length-take-le c.loop-turn.read into (omega (arith, room)) in
+    let unit_long : length c.read_transmission.new.bytes ≡ transmission_size h.kind c.length_at-g.result = omega (arith, c.read_transmission.auto.bytes, c.transmission_size-size.ensures) in
+    let some = (size-bounded h.kind c.length_at-g.result (record { some = c.length_at-g.ensures.some; few = c.length_at-g.ensures.few })).some in
+    midway-bad h.kind c.args.start c.args.payload c.length_at-g.result turn _ (lengths (header_of h)) (take c.loop-turn.read into) c.read_transmission.new.bytes input into _ _ _
+    (c.loop-turn.invariant.told input is) t is c.in-BadBit.ensures.bytes.0 unit_long c.in-BadBit.ensures.bytes.1
+    (omega (arith, read, c.transmission_size-size.ensures, some))
 
 pub returns-in-Short-clause-told : goal.returns-in-Short-clause-told
 returns-in-Short-clause-told g c input is =
     let h = c.args.header.now in
-    let slice = c.as_slice-turn-end.result.now in
     let turn : ℕ = c.loop-turn.turn in
     let size : ℕ = c.transmission_size-size.result in
-    let less : turn < length slice = c.loop-turn-test.true in
-    let all : length c.loop-turn.into ≡ length slice * size = c.loop-turn.auto.into ∙ long_is h.kind h.rvs slice h.m.g c.g-g.result size _ c.requires.size c.as_slice-turn-end.ensures.value c.g-g.ensures.value c.transmission_size-size.ensures in
-    let room : turn * size + size ≤ length c.loop-turn.into = within turn (length slice) size (length c.loop-turn.into) less all in
-    let read : length (take (turn * size) c.loop-turn.into) ≡ turn * size = length-take-le (turn * size) c.loop-turn.into (omega (arith, room)) in
+    let into = c.loop-turn.into in
+    let t = turn-is h.kind (lengths (header_of h)) turn c.length_at-g.result c.length_at-g.ensures.value in
+    let room : c.loop-turn.read + size ≤ length into = within h.kind (lengths (header_of h)) turn c.length_at-g.result c.loop-turn.read size (length into) t c.loop-turn.invariant.read c.transmission_size-size.ensures (c.loop-turn.auto.into ∙ c.requires.size) in
+    let read : length (take c.loop-turn.read into) ≡ c.loop-turn.read = length-take-le c.loop-turn.read into (omega (arith, room)) in
     let took = c.in-Short.ensures.bytes in
     let part : List ℕ = take c.in-Short.got c.read_transmission.new.bytes in
     let long : length part ≡ c.in-Short.got = length-take-le c.in-Short.got c.read_transmission.new.bytes (omega (arith, took.0)) in
-    let few : length part < transmission_size h.kind c.g-g.result = omega (arith, long, took.0, c.read_transmission.auto.bytes, c.transmission_size-size.ensures) in
-    one_length h.kind c.args.start c.args.payload (lengths (header_of h)) (replicate (length slice) c.g-g.result) input c.loop-turn.into _ _ (next.Bad 6 _)
-    (lengths-are h.m h.rvs slice c.g-g.result c.g-g.ensures.value c.as_slice-turn-end.ensures.value)
-    (midway-cut h.kind c.args.start c.args.payload c.g-g.result (length slice) turn _ (take (turn * size) c.loop-turn.into) part input c.loop-turn.into _ _ _ (c.loop-turn.invariant.told input is) less is took.1 took.2 few (omega (arith, read, long)))
+    let few : length part < transmission_size h.kind c.length_at-g.result = omega (arith, long, took.0, c.read_transmission.auto.bytes, c.transmission_size-size.ensures) in
+    midway-cut h.kind c.args.start c.args.payload c.length_at-g.result turn _ (lengths (header_of h)) (take c.loop-turn.read into) part input into _ _ _
+    (c.loop-turn.invariant.told input is) t is took.1 took.2 few (omega (arith, read, long))
 
 pub returns-in-Fault-clause-told : goal.returns-in-Fault-clause-told
 returns-in-Fault-clause-told g c input is =
     let h = c.args.header.now in
-    let slice = c.as_slice-turn-end.result.now in
     let turn : ℕ = c.loop-turn.turn in
-    let size : ℕ = c.transmission_size-size.result in
-    let less : turn < length slice = c.loop-turn-test.true in
+    let t = turn-is h.kind (lengths (header_of h)) turn c.length_at-g.result c.length_at-g.ensures.value in
     let took = c.in-Fault.ensures.bytes in
-    let few : length took.0 < transmission_size h.kind c.g-g.result = omega (arith, took.1, c.read_transmission.auto.bytes, c.transmission_size-size.ensures) in
-    one_length h.kind c.args.start c.args.payload (lengths (header_of h)) (replicate (length slice) c.g-g.result) input c.loop-turn.into _ _ next.Fault
-    (lengths-are h.m h.rvs slice c.g-g.result c.g-g.ensures.value c.as_slice-turn-end.ensures.value)
-    (midway-fault h.kind c.args.start c.args.payload c.g-g.result (length slice) turn (take (turn * size) c.loop-turn.into) took.0 input c.loop-turn.into _ _ _ (c.loop-turn.invariant.told input is) less is took.2 few)
+    let few : length took.0 < transmission_size h.kind c.length_at-g.result = omega (arith, took.1, c.read_transmission.auto.bytes, c.transmission_size-size.ensures) in
+    midway-fault h.kind c.args.start c.args.payload c.length_at-g.result turn (lengths (header_of h)) (take c.loop-turn.read c.loop-turn.into) took.0 input c.loop-turn.into _ _ _
+    (c.loop-turn.invariant.told input is) t is took.2 few
 
 pub loop-turn-preserved : goal.loop-turn-preserved
 loop-turn-preserved g c =
     let h = c.args.header.now in
-    let slice = c.as_slice-turn-end.result.now in
+    let gs : List ℕ = lengths (header_of h) in
     let turn : ℕ = c.loop-turn.turn in
     let size : ℕ = c.transmission_size-size.result in
     let into = c.loop-turn.into in
+    let read : ℕ = c.loop-turn.read in
     let unit = c.read_transmission.new.bytes in
-    let less : turn < length slice = c.loop-turn-test.true in
-    let all : length into ≡ length slice * size = c.loop-turn.auto.into ∙ long_is h.kind h.rvs slice h.m.g c.g-g.result size _ c.requires.size c.as_slice-turn-end.ensures.value c.g-g.ensures.value c.transmission_size-size.ensures in
-    let room : turn * size + size ≤ length into = within turn (length slice) size (length into) less all in
-    let unit_long : length unit ≡ transmission_size h.kind c.g-g.result = omega (arith, c.read_transmission.auto.bytes, c.transmission_size-size.ensures) in
-    let product : (turn + 1) * size ≡ turn * size + size = omega arith in
-    let front : take ((turn + 1) * size) (put_mid (turn * size) (turn * size + size - turn * size) into unit) ≡ take (turn * size) into ++ unit =
-    take-put_mid (turn * size) (turn * size + size - turn * size) into unit ((turn + 1) * size) (omega (arith, product, unit_long, c.transmission_size-size.ensures)) (omega (arith, room)) in
+    let before = c.loop-turn.invariant in
+    let t = turn-is h.kind (lengths (header_of h)) turn c.length_at-g.result c.length_at-g.ensures.value in
+    let room : read + size ≤ length into = within h.kind gs turn c.length_at-g.result read size (length into) t before.read c.transmission_size-size.ensures (c.loop-turn.auto.into ∙ c.requires.size) in
+    let unit_long : length unit ≡ transmission_size h.kind c.length_at-g.result = omega (arith, c.read_transmission.auto.bytes, c.transmission_size-size.ensures) in
+    let front : take (read + size) (put_mid read (read + size - read) into unit) ≡ take read into ++ unit =
+    take-put_mid read (read + size - read) into unit (read + size) (omega (arith, unit_long, c.transmission_size-size.ensures)) (omega (arith, room)) in
     let took = c.in-Whole.ensures.bytes in
+    let P : List ℕ → Type 0 = λ hs. AreTransmissions h.kind hs (take read into ++ unit) in
     record {
-      told = λ input is. rw front (midway-more h.kind c.args.start c.args.payload c.g-g.result (length slice) turn (take (turn * size) into) unit input _ _ (c.loop-turn.invariant.told input is) less took.0 unit_long took.1);
-      taken = rw front (AreTransmissions-more h.kind c.g-g.result turn (take (turn * size) into) unit c.loop-turn.invariant.taken (record { size = unit_long; good = took.1 }));
-      later = omega (arith, c.loop-turn.invariant.later, c.read_transmission.ensures.later);
+      read = ap (λ (n : ℕ). n + size) before.read ∙ ap (λ (n : ℕ). block_size h.kind (take turn gs) + n) c.transmission_size-size.ensures ∙ sym t.size;
+      told = λ input is. rw front (midway-more h.kind c.args.start c.args.payload c.length_at-g.result turn gs (take read into) unit input _ _ (before.told input is) t took.0 unit_long took.1);
+      taken = rw front (subst P (sym t.front) (AreTransmissions-more h.kind (take turn gs) c.length_at-g.result (take read into) unit before.taken (record { size = unit_long; good = took.1 })));
+      later = omega (arith, before.later, c.read_transmission.ensures.later);
     }
 
 -- after the last turn all of the block was read
-record IsDone (turn count size : ℕ) (into : List ℕ) : Type 0 where
-  is : turn ≡ count
-  whole : take (turn * size) into ≡ into
+record IsDone (kind : Kind) (gs : List ℕ) (turn read : ℕ) (into : List ℕ) : Type 0 where
+  is : turn ≡ length gs
+  all : take turn gs ≡ gs
+  whole : take read into ≡ into
 
-done : (turn count size : ℕ) (into : List ℕ) → turn ≤ count → count ≤ turn → length into ≡ count * size → IsDone turn count size into
-done turn count size into le ge all =
-    let is : turn ≡ count = omega (arith, le, ge) in
-    record { is = is; whole = take_all (turn * size) into (omega (arith, all, ap (λ (n : ℕ). n * size) is)) }
+done : (kind : Kind) (gs : List ℕ) (turn count read : ℕ) (into : List ℕ) → turn ≤ count → count ≤ turn → count ≡ length gs → read ≡ block_size kind (take turn gs) → length into ≡ block_size kind gs → IsDone kind gs turn read into
+done kind gs turn count read into le ge count_is read_is long =
+    let is : turn ≡ length gs = omega (arith, le, ge, count_is) in
+    let all : take turn gs ≡ gs = take_all turn gs (omega (arith, is)) in
+    record { is = is; all = all; whole = take_all read into (omega (arith, long, read_is, ap (block_size kind) all)) }
 
 pub returns-clause-told : goal.returns-clause-told
 returns-clause-told g c input is =
     let h = c.args.header.now in
-    let slice = c.as_slice-turn-end.result.now in
+    let gs : List ℕ = lengths (header_of h) in
     let turn : ℕ = c.loop-turn.turn in
-    let size : ℕ = c.transmission_size-size.result in
     let into = c.loop-turn.into in
-    let all : length into ≡ length slice * size = c.loop-turn.auto.into ∙ long_is h.kind h.rvs slice h.m.g c.g-g.result size _ c.requires.size c.as_slice-turn-end.ensures.value c.g-g.ensures.value c.transmission_size-size.ensures in
-    let end = done turn (length slice) size into c.loop-turn.auto.turn-end c.loop-turn-test.false all in
-    let P : ℕ → Type 0 = λ n. IsMidway h.kind c.args.start c.args.payload c.g-g.result (length slice) n into input (g.S.Source.left c.loop-turn.source) in
-    let Q : List ℕ → Type 0 = λ xs. IsMidway h.kind c.args.start c.args.payload c.g-g.result (length slice) turn xs input (g.S.Source.left c.loop-turn.source) in
-    one_length h.kind c.args.start c.args.payload (lengths (header_of h)) (replicate (length slice) c.g-g.result) input into _ _ (next.Block c.args.payload)
-    (lengths-are h.m h.rvs slice c.g-g.result c.g-g.ensures.value c.as_slice-turn-end.ensures.value)
-    (midway-done h.kind c.args.start c.args.payload c.g-g.result (length slice) into input _ _ (subst P end.is (subst Q end.whole (c.loop-turn.invariant.told input is))) is)
+    let end = done h.kind gs turn c.len-turn-end.result c.loop-turn.read into c.loop-turn.auto.turn-end c.loop-turn-test.false (c.len-turn-end.ensures.value ∙ sym (lengths-long h.sends)) c.loop-turn.invariant.read (c.loop-turn.auto.into ∙ c.requires.size) in
+    let P : ℕ → Type 0 = λ n. IsMidway h.kind c.args.start c.args.payload gs n into input (g.S.Source.left c.loop-turn.source) in
+    let Q : List ℕ → Type 0 = λ xs. IsMidway h.kind c.args.start c.args.payload gs turn xs input (g.S.Source.left c.loop-turn.source) in
+    midway-done h.kind c.args.start c.args.payload gs into input _ _ (subst P end.is (subst Q end.whole (c.loop-turn.invariant.told input is))) is
 
 pub returns-clause-taken : goal.returns-clause-taken
 returns-clause-taken g c =
     let h = c.args.header.now in
-    let slice = c.as_slice-turn-end.result.now in
+    let gs : List ℕ = lengths (header_of h) in
     let turn : ℕ = c.loop-turn.turn in
-    let size : ℕ = c.transmission_size-size.result in
     let into = c.loop-turn.into in
-    let all : length into ≡ length slice * size = c.loop-turn.auto.into ∙ long_is h.kind h.rvs slice h.m.g c.g-g.result size _ c.requires.size c.as_slice-turn-end.ensures.value c.g-g.ensures.value c.transmission_size-size.ensures in
-    let end = done turn (length slice) size into c.loop-turn.auto.turn-end c.loop-turn-test.false all in
-    let P : ℕ → Type 0 = λ n. AreTransmissions h.kind (replicate n c.g-g.result) into in
-    let Q : List ℕ → Type 0 = λ xs. AreTransmissions h.kind (replicate turn c.g-g.result) xs in
-    let R : List ℕ → Type 0 = λ gs. AreTransmissions h.kind gs into in
-    (refl, subst R (sym (lengths-are h.m h.rvs slice c.g-g.result c.g-g.ensures.value c.as_slice-turn-end.ensures.value)) (subst P end.is (subst Q end.whole c.loop-turn.invariant.taken)))
+    let end = done h.kind gs turn c.len-turn-end.result c.loop-turn.read into c.loop-turn.auto.turn-end c.loop-turn-test.false (c.len-turn-end.ensures.value ∙ sym (lengths-long h.sends)) c.loop-turn.invariant.read (c.loop-turn.auto.into ∙ c.requires.size) in
+    let P : List ℕ → Type 0 = λ hs. AreTransmissions h.kind hs into in
+    let Q : List ℕ → Type 0 = λ xs. AreTransmissions h.kind (take turn gs) xs in
+    (refl, subst P end.all (subst Q end.whole c.loop-turn.invariant.taken))

@@ -20,7 +20,7 @@ returns-in-Short-clause-told g c input is =
     let took = c.in-Short.ensures.bytes in
     let t = told_all _ _ bytes input took.1 took.2 is in
     let few : c.in-Short.got < 4 = omega (arith, took.0, c.read_unit.auto.unit) in
-    let long : length bytes ≡ c.in-Short.got = length-take-le c.in-Short.got c.read_unit.new.unit (omega (arith, took.0)) in
+    let long : length bytes ≡ c.in-Short.got = length-take-le c.in-Short.got c.read_unit.new.unit (let few = took.0 in omega (arith, few)) in
     let h = header_of c.args.header.now in (
       bytes,
       [],

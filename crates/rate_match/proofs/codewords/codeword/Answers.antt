@@ -1,4 +1,4 @@
-use Rattle.std.proofs.Common.{◌≡◌, ℕ, ◌+◌, ◌<◌, ◌≤◌, List, ◌++◌, length, flat_map, get_or, subst, sym, ap, ◌∙◌, arith}
+use Rattle.std.proofs.Common.{◌≡◌, ℕ, ◌<◌, ◌≤◌, List, ◌++◌, length, flat_map, get_or, subst, sym, ap, ◌∙◌, arith}
 use Rattle.std.specs.List.{range_with_len}
 use Rattle.lte_bits.specs.declared.bit.Bit.{Bit}
 use Rattle.lte_bits.specs.declared.block.Block.{Block}
@@ -7,10 +7,12 @@ use Rattle.segmentation.specs.Shape.{AreBlocksOf}
 use Rattle.sender_model.specs.Segmentation.{Plan, plan_of, size, fill}
 use Rattle.sender_model.specs.CodeBlocks.{block, blocks}
 use Rattle.sender_model.specs.CodedStreams.{streams}
-use Rattle.sender_model.specs.CircularBuffer.{AreStreams, Fits, Match}
+use Rattle.sender_model.specs.CircularBuffer.{AreStreams}
 use Rattle.sender_model.specs.Selection.{sent}
 use Rattle.sender_model.specs.Codeword.{codeword}
-use Rattle.rate_match.proofs.BlockNumbers.{IsBlockOf, block-numbers}
+use Rattle.sender_model.proofs.PlanLaws.{plan-sound}
+use Rattle.rate_match.proofs.Lengths.{codeword-long}
+use Rattle.rate_match.proofs.BlockNumbers.{block-numbers}
 use Rattle.rate_match.proofs.BlockStreams.{IsCoded, block-coded, blocks-count, flat_map-more}
 use Rattle.rate_match.proofs.codewords.codeword.Goals as goal
 
@@ -87,9 +89,9 @@ loop-r-preserved c =
     ∙ ap (λ (bits : List Bit). bits ++ sent p m (streams (block p payload r)) r c.args.rv) c.loop-r.invariant
     ∙ sym (flat_map-more (λ i. sent p m (streams (block p payload i)) i c.args.rv) r)
 
-pub returns : goal.returns
+pub returns-clause-codeword : goal.returns-clause-codeword
 unfolding codeword
-returns c =
+returns-clause-codeword c =
     let payload = c.args.payload.now in
     let plan = c.unwrap-plan.result in
     let bs = c.as_slice-block-items.result.now in
@@ -99,3 +101,11 @@ returns c =
     let all : c.loop-r.r ≡ p.c = omega (arith, c.loop-r-test.false, c.loop-r.auto.r-end, cut.long) in
     c.from_vec.ensures ∙ c.loop-r.invariant
     ∙ ap (λ (n : ℕ). flat_map (λ i. sent p c.args.m.now (streams (block p payload i)) i c.args.rv) (range_with_len 0 n)) all
+
+pub returns-clause-long : goal.returns-clause-long
+unfolding codeword
+returns-clause-long c =
+    let payload = c.args.payload.now in
+    let some : 1 ≤ (plan_of (length payload)).c = (plan-sound (length payload) c.requires.some c.requires.few).some in
+    ap (λ (bits : List Bit). length bits) (returns-clause-codeword c)
+    ∙ codeword-long (plan_of (length payload)) payload c.args.m.now c.args.rv some c.g.ensures.lawful

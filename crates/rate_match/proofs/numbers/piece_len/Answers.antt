@@ -1,6 +1,5 @@
-use Rattle.std.proofs.Common.{◌≡◌, ℕ, ◌/◌, ◌%◌, ◌<◌, ◌≤◌, arith}
+use Rattle.std.proofs.Common.{◌≡◌, ℕ, ◌<◌, ◌≤◌, arith}
 use Rattle.std.specs.List.{range_with_len, sum_by}
-use Rattle.std.proofs.lemmas.Nat.{mod_below}
 use Rattle.sender_model.specs.CircularBuffer.{Match, piece_length}
 use Rattle.sender_model.specs.Segmentation.{plan_of}
 use Rattle.sender_model.proofs.Pieces.{pieces-sum}

@@ -1,4 +1,4 @@
-use Rattle.std.proofs.Common.{ℕ, ◌≡◌, ◌+◌, ◌*◌, ◌%◌, Bool, List, length, Vec, Global, Some, ap, sym, ◌∙◌, is_some, arith}
+use Rattle.std.proofs.Common.{ℕ, ◌≡◌, ◌+◌, ◌*◌, ◌%◌, Bool, Vec, Global, ap, sym, ◌∙◌, is_some, arith}
 use Rattle.lte_bits.specs.declared.bit.Bit.{Bit}
 use Rattle.lte_bits.specs.declared.block.Streams.{Streams}
 use Rattle.sender_model.specs.CircularBuffer.{cell_at, w}

@@ -1,10 +1,10 @@
-use Rattle.std.proofs.Common.{◌≡◌, ℕ, ◌+◌, ◌*◌, ◌<◌, ◌≤◌, List, ◌++◌, length, map, Contains, subst, sym, ap, ◌∙◌, arith}
+use Rattle.std.proofs.Common.{◌≡◌, ℕ, ◌*◌, ◌<◌, ◌≤◌, List, ◌++◌, length, map, Contains, subst, sym, ap, ◌∙◌, arith}
 use Rattle.std.proofs.lemmas.Result.{on_ok_weaker}
 use Rattle.lte_bits.specs.declared.bit.Bit.{Bit}
 use Rattle.lte_bits.specs.declared.block.Streams.{Streams}
 use Rattle.sender_model.specs.Interleaver.{sizes}
 use Rattle.sender_model.specs.Segmentation.{Plan, plan_of, size, fill}
-use Rattle.sender_model.specs.CircularBuffer.{rows_of, buffer_size, buffer_length, start, w}
+use Rattle.sender_model.specs.CircularBuffer.{rows_of, buffer_size, start, w}
 use Rattle.sender_model.specs.Selection.{bit_of_cell, bits_from, holds_bit, repeated, sent}
 use Rattle.sender_model.proofs.SelectionLaws.{rows-bounds, fitting_bit}
 use Rattle.rate_match.proofs.BlockNumbers.{IsBlockOf, block-numbers}

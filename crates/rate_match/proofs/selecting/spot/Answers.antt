@@ -1,5 +1,4 @@
 use Rattle.std.proofs.Common.{arith}
-use Rattle.sender_model.proofs.SelectionLaws.{rows-bounds}
 use Rattle.rate_match.proofs.SizeSteps.{size-step}
 use Rattle.rate_match.proofs.selecting.spot.Goals as goal
 

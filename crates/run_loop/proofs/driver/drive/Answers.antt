@@ -1,11 +1,11 @@
-use Rattle.std.proofs.Common.{◌≡◌, ℕ, List, Some, [], refl, ap, sym, subst, ◌∙◌, arith}
+use Rattle.std.proofs.Common.{ℕ, refl, subst, ◌∙◌, arith}
 use Rattle.run_loop.specs.Answer.{opened}
 use Rattle.run_loop.specs.Edges.{held}
 use Rattle.run_loop.specs.Ended.{Ended}
 use Rattle.run_loop.specs.declared.status.Status.TheVariants as status
 use Rattle.run_loop.specs.Step.{Stops}
 use Rattle.run_loop.specs.declared.work.Stop.{Stop}
-use Rattle.run_loop.proofs.Endings.{started, wrote, went_on, faulted, starved, refused, blocked, closed_whole, unclosed}
+use Rattle.run_loop.proofs.Endings.{started, wrote, went_on, faulted, starved, refused, blocked, unclosed}
 use Rattle.run_loop.proofs.driver.drive.Goals as goal
 
 pub loop-sink-init : goal.loop-sink-init

@@ -1,4 +1,4 @@
-use Rattle.std.proofs.Common.{◌≡◌, List, ℕ, Err, sym, subst, arith}
+use Rattle.std.proofs.Common.{List, ℕ, Err, sym, subst, arith}
 use Rattle.edge_io.specs.Edge.{Adds}
 use Rattle.edge_io.proofs.Known.{adds_then}
 use Rattle.run_loop.specs.Puts.{Puts}

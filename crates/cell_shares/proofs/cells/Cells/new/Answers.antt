@@ -2,7 +2,7 @@ use Rattle.std.proofs.Common.{ℕ, ◌≡◌, ◌∙◌, ◌*◌, ◌/◌, lengt
 use Rattle.std.specs.List.{range_with_len}
 use Rattle.sender_model.specs.InterleaverLaws.{windows-whole}
 use Rattle.core.specs.Mem.Slots.{slots_counts, slots_items}
-use Rattle.cell_shares.specs.Parts.{places, values, numbered}
+use Rattle.cell_shares.specs.Parts.{places, values}
 use Rattle.cell_shares.proofs.Numbers.{places-numbered, values-numbered}
 use Rattle.cell_shares.proofs.cells.Cells.new.Goals as goal
 

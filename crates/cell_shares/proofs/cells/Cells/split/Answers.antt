@@ -1,5 +1,5 @@
 use Rattle.std.proofs.Common.{ℕ, ◌≡◌, ◌+◌, ◌-◌, ◌*◌, ◌<◌, ◌≤◌, ◌++◌, List, [], ◌∷◌, sym, ap, subst, refl, ◌∙◌, arith}
-use Rattle.std.specs.Prelude.{vec_len, vec_capacity}
+use Rattle.std.specs.Prelude.{vec_len}
 use Rattle.cell_shares.specs.Orders.{order_places}
 use Rattle.cell_shares.specs.Parts.{places, Shuffled}
 use Rattle.cell_shares.specs.Rights.{IsRightTo}

@@ -31,7 +31,6 @@ module _ {X : Type 0} (lend : X → Lft → Fml) where
     lends_each one (x ∷ xs) = Lends-both 𝓛 (own x) (each_owned own xs) (lend x) (each_lent lend xs) l (one x) (lends_each one xs)
 
 module _ (R : RattleType) where
-
   lent_laws : Laws R → (p : Ptr) (n : ℕ) (cells : List (ℕ × R.Denot)) → ShrLaws (part_lent R p n cells)
   lent_laws L p n cells =
       let each = laws_of_each (λ c. lent_at R (cell_ptr R p c) c.1) (λ c. lent_at_shr_laws R L.shr_laws (cell_ptr R p c) c.1) cells in

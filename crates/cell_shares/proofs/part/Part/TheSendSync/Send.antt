@@ -1,8 +1,7 @@
 -- A part goes to another thread where its values do: it owns cells, and nothing else.
-use Rattle.cell_shares.proofs.Names.{ℕ, ◌*◌, List, [], ◌∷◌, full_share, RattleType, Ptr, block_ptr, null_ptr, in_block, ◌+ₚ◌}
+use Rattle.cell_shares.proofs.Names.{ℕ, List, [], ◌∷◌, full_share, RattleType, Ptr, block_ptr, null_ptr, in_block}
 use base.Shift.{Keyless}
 use denote.Param.Send.{IsSend, part_keyless}
-use Rattle.core.specs.Mem.Slots.Ownership.{bytes_of}
 use Rattle.cell_shares.specs.Ownership.{cells_at}
 use Rattle.cell_shares.specs.contracts.part.Part.{the_row}
 

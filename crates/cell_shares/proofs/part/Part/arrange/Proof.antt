@@ -1,6 +1,6 @@
 -- The cells stay where they lie, and the ghost list has them in another order.
 use denote.Param.Laws.{param_laws}
-use Rattle.cell_shares.proofs.Names.{ℕ, ◌≡◌, List, [], ◌∷◌, ◌++◌, refl, sym, subst, a_type, named, inst_fn, Val, vptr, SProp, ent, id⊢, Lft, Share, ftrue, flft, ‵, raw, ◌⊛◌, ◌$◌, ◌∵◌, !, qed, move, keep, split, join, fsplit, fjoin, use1, suffices, done, agg, sub, whole, enter, of_opd, stop, fld, no_more, and_then, returns, alloc_all, pass_all, free_all, look_at, get, get_in, sets, ◌⊑◌, fact, WpFn, tables, RattleType, owns, RefOf, no, yes, param, layouts, Ptr, block_ptr, plain, types_at, nothing, heard, Stays, walk_of, says, stay_dropped, Goes-dropped, ends_at}
+use Rattle.cell_shares.proofs.Names.{ℕ, List, [], ◌∷◌, ◌++◌, refl, a_type, named, inst_fn, Val, vptr, SProp, Lft, Share, ftrue, flft, ‵, raw, ◌⊛◌, ◌$◌, ◌∵◌, !, qed, move, keep, split, fsplit, fjoin, use1, suffices, done, agg, sub, whole, enter, of_opd, stop, fld, no_more, and_then, returns, alloc_all, pass_all, free_all, look_at, get, get_in, sets, ◌⊑◌, fact, WpFn, tables, RattleType, owns, RefOf, no, yes, param, layouts, block_ptr, plain, types_at, nothing, heard, Stays, walk_of, says, stay_dropped, Goes-dropped, ends_at}
 use denote.Ref.{shr_Tells}
 use Rattle.cell_shares.specs.Orders.{order_places}
 use Rattle.cell_shares.specs.contracts.order.Order as order
@@ -23,7 +23,7 @@ arrange_spec 𝓤 𝓛 𝓜 𝓡 wired T L =
     proved_at 𝓛 E spent c 𝓜 𝓡 (Goes-dropped 𝓛 2 (plain (λ _. PartOf R)) no (λ κs x f. refl), (Goes-dropped 𝓛 2 (RefOf (0 ∷ []) tt (plain (λ _. O)) (λ _. tt)) yes (λ κs x f. refl), tt))
     (#self inst) fn (code.unfolded 𝓤 𝓛.H 𝓜 𝓡 wired (T, tt)) (λ y are.
     let κ : Lft = y.0.0.0 in let κ₁ : Lft = y.0.0.1.0 in let q : Share = y.0.1.0 in let q₁ : Share = y.0.1.1.0 in let d : (PartOf R).Denot = y.0.3.0 in let r = y.0.3.1.0 in let to : List ℕ = order_places r.now d.count in let vss = y.0.4 in
-    let End : Val → SProp 𝓤 = (walk_of 𝓛 E spent c).post y in 
+    let End : Val → SProp 𝓤 = (walk_of 𝓛 E spent c).post y in
     qed 𝓛 (((‵ (flft κ q) ⊛ ‵ (flft κ₁ q₁) ⊛ ‵ ftrue) ⊛ ‵ (owns (types_at E.signature.params y.0.0) y.0.3 vss)) ∷ raw (fact 𝓤 (κ₁ ⊑ T.lives)) ∷ raw (fact 𝓤 (Shuffled (places d.cells) to)) ∷ []) ∵
     move ! (2 ∷ []) $ heard ! (Shuffled (places d.cells) to) (λ mixed. split ! $ move ! (1 ∷ []) $ fsplit ! $ keep ! (0 ∷ 2 ∷ []) $
     opened R (param_laws 0 T L) ! d vss.0 (λ s is.

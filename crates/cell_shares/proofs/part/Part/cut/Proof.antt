@@ -1,5 +1,5 @@
 -- The cells are cut in two: both parts have the same pointer.
-use Rattle.cell_shares.proofs.Names.{ℕ, ◌≡◌, List, [], ◌∷◌, ◌++◌, take, drop, refl, sym, subst, a_type, inst_fn, Val, vstruct, vcons, vnil, of_list, SProp, ent, id⊢, Lft, Share, ftrue, fsep, feq, flft, ‵, raw, ◌⊛◌, ◌$◌, ◌∵◌, !, qed, move, keep, split, join, fsplit, fjoin, fjoin3, fpack, feq_i, use1, rewrite, suffices, done, agg, sub, whole, enter, of_opd, stop, fld, no_more, and_then, returns, alloc_all, pass_all, free_all, look_at, get, get_in, sets, WpFn, tables, RattleType, Valss, owns, no, yes, usize, param, layouts, Ptr, block_ptr, plain, types_at, nothing, Stays, walk_of, says, stay_dropped, Goes-dropped, ends_at}
+use Rattle.cell_shares.proofs.Names.{ℕ, List, [], ◌∷◌, ◌++◌, take, drop, refl, sym, a_type, inst_fn, Val, vstruct, vcons, vnil, of_list, SProp, Lft, Share, ftrue, fsep, feq, flft, ‵, raw, ◌⊛◌, ◌$◌, ◌∵◌, !, qed, move, keep, split, join, fsplit, fjoin, fjoin3, fpack, feq_i, use1, rewrite, suffices, done, agg, sub, whole, enter, of_opd, stop, fld, no_more, and_then, returns, alloc_all, pass_all, free_all, look_at, get, get_in, sets, WpFn, tables, RattleType, Valss, owns, no, yes, usize, param, layouts, block_ptr, plain, types_at, nothing, Stays, walk_of, says, stay_dropped, Goes-dropped, ends_at}
 use denote.Param.Laws.{param_laws}
 use Rattle.std.proofs.lemmas.List.{take-append-drop}
 use Rattle.cell_shares.proofs.Owns.{cut_cells}

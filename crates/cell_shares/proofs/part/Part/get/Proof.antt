@@ -1,5 +1,5 @@
 -- What the `&` to the part holds of the cell is handed on.
-use Rattle.cell_shares.proofs.Names.{◌≡◌, ℕ, ◌+◌, ◌*◌, ◌^◌, ◌<◌, List, [], ◌∷◌, ◌++◌, refl, a_type, named, w64, inst_fn, Val, vptr, vint, SProp, ftrue, flt, flft, ‵, raw, ◌⊛◌, at_ret, ◌$◌, ◌∵◌, !, qed, done, move, keep, leave, split, split3, join, fsplit, fjoin, feq_i, flt_l, use1, suffices, enter, of_opd, addr, load, look, stop, fld, bin, size_lit, first, blocks, exec, returns, alloc_all, pass_all, free_all, look_at, get, through, sets, sets_last, env, ◌⊑◌, fact, WpFn, tables, RattleType, usize, RefOf, RawPtr, owns, hidden_shr, yes, param, layouts, in_a_block, plain, types_at, nothing, heard, Stays, walk_of, says, stay_dropped, Goes-dropped, ends_at}
+use Rattle.cell_shares.proofs.Names.{ℕ, ◌+◌, ◌*◌, ◌^◌, ◌<◌, List, [], ◌∷◌, ◌++◌, refl, a_type, named, w64, inst_fn, Val, vptr, vint, SProp, ftrue, flt, flft, ‵, raw, ◌⊛◌, at_ret, ◌$◌, ◌∵◌, !, qed, done, move, keep, leave, split, split3, join, fsplit, fjoin, feq_i, flt_l, use1, suffices, enter, of_opd, addr, load, look, stop, fld, bin, size_lit, first, blocks, exec, returns, alloc_all, pass_all, free_all, look_at, get, through, sets, sets_last, env, ◌⊑◌, fact, WpFn, tables, RattleType, usize, RefOf, RawPtr, owns, hidden_shr, yes, param, layouts, in_a_block, plain, types_at, nothing, heard, Stays, walk_of, says, stay_dropped, Goes-dropped, ends_at}
 use denote.Ref.{shr_Tells}
 use Rattle.std.proofs.VecSteps.Shapes.{after}
 use Rattle.std.proofs.raw_atomic.Walks.{proved_at}

@@ -1,6 +1,6 @@
 -- Two parts of one buffer become one: the pointer of either serves.
 use denote.Param.Laws.{param_laws}
-use Rattle.cell_shares.proofs.Names.{ℕ, ◌≡◌, List, [], ◌∷◌, ◌++◌, refl, sym, ◌∙◌, subst, a_type, inst_fn, Val, SProp, ent, id⊢, Lft, Share, ftrue, flft, ‵, raw, ◌⊛◌, ◌$◌, ◌∵◌, !, qed, move, keep, split, join, fsplit, fjoin, use2, rewrite, suffices, done, agg, sub, whole, enter, of_opd, stop, fld, no_more, and_then, returns, alloc_all, pass_all, free_all, look_at, get, get_in, sets, ◌⊑◌, fact, WpFn, tables, RattleType, owns, no, param, layouts, Ptr, block_ptr, plain, types_at, nothing, heard, Stays, walk_of, says, stay_dropped, Goes-dropped, ends_at}
+use Rattle.cell_shares.proofs.Names.{◌≡◌, List, [], ◌∷◌, ◌++◌, refl, sym, ◌∙◌, a_type, inst_fn, Val, SProp, Lft, Share, ftrue, flft, ‵, raw, ◌⊛◌, ◌$◌, ◌∵◌, !, qed, move, keep, split, join, fsplit, fjoin, use2, rewrite, suffices, done, agg, sub, whole, enter, of_opd, stop, fld, no_more, and_then, returns, alloc_all, pass_all, free_all, look_at, get, get_in, sets, ◌⊑◌, fact, WpFn, tables, RattleType, owns, no, param, layouts, Ptr, block_ptr, plain, types_at, nothing, heard, Stays, walk_of, says, stay_dropped, Goes-dropped, ends_at}
 use Rattle.cell_shares.specs.Ownership.{cells_at}
 use Rattle.cell_shares.proofs.Owns.{glue_cells}
 use Rattle.cell_shares.proofs.Sites.{PartOf, word, lie, part_of, opened, closed}
@@ -18,7 +18,7 @@ glue_spec 𝓤 𝓛 𝓜 𝓡 wired T L =
     let spent : Stays E.signature.params E.kept = (stay_dropped (plain (λ _. PartOf R)) no, (stay_dropped (plain (λ _. PartOf R)) no, tt)) in
     proved_at 𝓛 E spent c 𝓜 𝓡 (goes, (goes, tt)) (#self inst) fn (code.unfolded 𝓤 𝓛.H 𝓜 𝓡 wired (T, tt)) (λ y are.
     let κ : Lft = y.0.0.0 in let q : Share = y.0.1.0 in let d : (PartOf R).Denot = y.0.3.0 in let f : (PartOf R).Denot = y.0.3.1.0 in let vss = y.0.4 in
-    let End : Val → SProp 𝓤 = (walk_of 𝓛 E spent c).post y in 
+    let End : Val → SProp 𝓤 = (walk_of 𝓛 E spent c).post y in
     let Same : Type 0 = (f.ptr ≡ d.ptr) × (f.count ≡ d.count) in let new : (PartOf R).Denot = part_of R d.ptr d.count (d.cells ++ f.cells) in
     qed 𝓛 (((‵ (flft κ q) ⊛ ‵ ftrue) ⊛ ‵ (owns (types_at E.signature.params y.0.0) y.0.3 vss)) ∷ raw (fact 𝓤 (κ ⊑ T.lives)) ∷ raw (fact 𝓤 Same) ∷ []) ∵
     move ! (2 ∷ []) $ heard ! Same (λ same. split ! $ split ! $ move ! (2 ∷ []) $ fsplit ! $ move ! (1 ∷ []) $ fsplit ! $ keep ! (2 ∷ 0 ∷ 3 ∷ []) $

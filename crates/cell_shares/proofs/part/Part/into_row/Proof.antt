@@ -11,7 +11,7 @@ use Rattle.core.specs.Mem.Slots.{slots_items, slots_filled, slots_ptr, slots_len
 use Rattle.core.specs.Mem.Slots.Ownership.{slots, bytes_of}
 use Rattle.core.specs.contracts.slots.Slots.from_raw_parts as whole_row
 use Rattle.core.proofs.slots.Slots.from_raw_parts.Met as callee
-use Rattle.cell_shares.specs.Parts.{numbered, places, values}
+use Rattle.cell_shares.specs.Parts.{places, values}
 use Rattle.cell_shares.proofs.Alone.{respelled}
 use Rattle.cell_shares.proofs.Numbers.{renumbered, values-long}
 use Rattle.cell_shares.proofs.Owns.{to_row}

@@ -1,5 +1,5 @@
 -- A full row is taken apart, and its places become cells.
-use Rattle.cell_shares.proofs.Names.{◌≡◌, ℕ, ◌+◌, ◌*◌, ◌^◌, ◌<◌, List, [], ◌∷◌, ◌++◌, length, refl, sym, ap, ◌∙◌, subst, arith, a_type, inst_fn, Val, SProp, id⊢, never, T as Holds, has_ty, WT, ftrue, fsep, flft, ‵, raw, ◌⊛◌, some, later, at_ret, ◌$◌, ◌∵◌, !, qed, done, move, keep, leave, split, join, fsplit, fjoin, flt_l, pick, await, rewrite, use1, use2, suffices, agg, sub, whole, enter, of_opd, stop, fld, no_more, and_then, first, blocks, exec, returns, alloc_all, pass_all, free_all, look_at, get, get_in, sets, lands_last, is as equals, env, ◌⊑◌, fact, WpFn, tables, RattleType, owns, no, param, layout, layouts, Ptr, block_ptr, in_block, in_a_block, plain, types_at, nothing, heard, triple_of, Is, shows, Bool, Stays, walk_of, says, stay_dropped, Goes-dropped, ends_at}
+use Rattle.cell_shares.proofs.Names.{◌≡◌, ℕ, ◌+◌, ◌*◌, List, [], ◌∷◌, ◌++◌, length, refl, sym, ◌∙◌, subst, arith, a_type, inst_fn, Val, SProp, id⊢, never, T as Holds, has_ty, WT, ftrue, fsep, flft, ‵, raw, ◌⊛◌, some, later, at_ret, ◌$◌, ◌∵◌, !, qed, done, move, keep, leave, split, join, fsplit, fjoin, flt_l, pick, await, rewrite, use1, suffices, agg, sub, whole, enter, of_opd, stop, fld, no_more, and_then, first, blocks, exec, returns, alloc_all, pass_all, free_all, look_at, get, get_in, sets, lands_last, is as equals, env, ◌⊑◌, fact, WpFn, tables, RattleType, owns, no, param, layout, layouts, block_ptr, in_block, in_a_block, plain, types_at, nothing, heard, triple_of, Is, shows, Bool, Stays, walk_of, says, stay_dropped, Goes-dropped, ends_at}
 use denote.Param.Laws.{param_laws}
 use denote.Steps.{peeks}
 use denote.Triple.Call.{calls_at_last}
@@ -14,7 +14,7 @@ use Rattle.cell_shares.specs.Parts.{numbered}
 use Rattle.cell_shares.proofs.Alone.{Alone, word_of, respelled}
 use Rattle.cell_shares.proofs.Owns.{of_row}
 use Rattle.cell_shares.proofs.RawRows.{Row, RawParts, row-laws, pair_word, parts_word}
-use Rattle.cell_shares.proofs.Sites.{PartOf, Site, word, lie, part_of, closed}
+use Rattle.cell_shares.proofs.Sites.{Site, word, lie, part_of, closed}
 use Rattle.cell_shares.specs.contracts.part.Part.of.{ended, clauses}
 use Rattle.cell_shares.specs.contracts.part.Part.of.Key.{name as #self}
 use Rattle.cell_shares.proofs.part.Part.of.Statement.{statement}

@@ -1,5 +1,5 @@
 -- The `&mut` is opened and the cell made room, which takes the new value.
-use Rattle.cell_shares.proofs.Names.{◌≡◌, ℕ, ◌+◌, ◌*◌, ◌^◌, ◌<◌, List, [], ◌∷◌, ◌++◌, refl, a_type, named, w64, inst_fn, Val, vunit, vptr, vint, SProp, full_share, ftrue, froom, flft, ‵, raw, ◌⊛◌, at_ret, ◌$◌, ◌∵◌, !, qed, done, move, keep, split, join, fsplit, fsplit3, fjoin, fjoin3, feq_i, rewrite, use1, use3, suffices, sub, whole, look_in, enter, of_opd, load, init, stop, fld, bin, size_lit, unit_lit, assigns_last, first, blocks, exec, returns, alloc_all, pass_all, free_all, look_at, get, through, sets, env, ◌⊑◌, fact, WpFn, tables, RattleType, usize, owns, yes, no, param, layout, layouts, cell_at, plain, types_at, nothing, heard, opens, closes, Stays, walk_of, says, stay_dropped, stay_ref, Goes-dropped, Goes-ref, ends_at}
+use Rattle.cell_shares.proofs.Names.{ℕ, ◌+◌, ◌*◌, ◌<◌, List, [], ◌∷◌, ◌++◌, refl, a_type, named, w64, inst_fn, Val, vunit, vptr, vint, SProp, full_share, ftrue, froom, flft, ‵, raw, ◌⊛◌, at_ret, ◌$◌, ◌∵◌, !, qed, done, move, keep, split, join, fsplit, fsplit3, fjoin, fjoin3, feq_i, rewrite, use1, use3, suffices, sub, whole, look_in, enter, of_opd, load, init, stop, fld, bin, size_lit, unit_lit, assigns_last, first, blocks, exec, returns, alloc_all, pass_all, free_all, look_at, get, through, sets, env, ◌⊑◌, fact, WpFn, tables, RattleType, usize, owns, yes, no, param, layout, layouts, cell_at, plain, types_at, nothing, heard, opens, closes, Stays, walk_of, says, stay_dropped, stay_ref, Goes-dropped, Goes-ref, ends_at}
 use denote.Param.Laws.{Laws, param_laws}
 use denote.Ref.{mut_Tells}
 use Rattle.std.proofs.VecSteps.Shapes.{after}
@@ -21,7 +21,7 @@ set_spec 𝓤 𝓛 𝓜 𝓡 wired T L =
     let 𝓣 = tables 𝓤 𝓛.H 𝓜 𝓡 𝓡.env in let R : RattleType = param 0 T in let laws : Laws R = param_laws 0 T L in
     let E = ended T in let c = clauses T 𝓛 𝓜.mem 𝓡.returns in let types = layouts (a_type ∷ []) (T, tt) in let fn = inst_fn types code.function in
     let kept : Stays E.signature.params E.kept =
-        (stay_ref (0 ∷ []) tt (plain (λ _. PartOf R)), (stay_dropped (plain (λ _. usize)) yes, (stay_dropped (plain (λ _. usize)) yes, (stay_dropped (plain (λ _. R)) no, tt)))) in
+    (stay_ref (0 ∷ []) tt (plain (λ _. PartOf R)), (stay_dropped (plain (λ _. usize)) yes, (stay_dropped (plain (λ _. usize)) yes, (stay_dropped (plain (λ _. R)) no, tt)))) in
     let number = Goes-dropped 𝓛 2 (plain (λ _. usize)) yes (λ κs n f. refl) in
     proved_at 𝓛 E kept c 𝓜 𝓡 (Goes-ref 𝓛 2 0 tt (plain (λ _. PartOf R)), (number, (number, (Goes-dropped 𝓛 2 (plain (λ _. R)) no (λ κs x f. refl), tt))))
     (#self types) fn (code.unfolded 𝓤 𝓛.H 𝓜 𝓡 wired (T, tt)) (λ y are.

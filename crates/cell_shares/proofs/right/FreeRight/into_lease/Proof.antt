@@ -1,5 +1,5 @@
 -- The struct is taken apart, and its one field is the lease's word.
-use Rattle.cell_shares.proofs.Names.{◌≡◌, List, [], ◌∷◌, ◌++◌, refl, sym, ap, subst, ◌∙◌, a_type, inst_fn, Val, vstruct, vcons, vnil, of_list, SProp, ent, id⊢, ftrue, flft, ‵, raw, ◌⊛◌, ◌$◌, ◌∵◌, !, qed, done, move, keep, leave, split, join, fjoin, fsplit, fpick, feq_l, rewrite, suffices, sub, whole, enter, of_opd, stop, fld, returns, alloc_all, pass_all, free_all, look_at, get, get_in, sets, WpFn, tables, RattleType, owns, Is, shows, no, param, layout, layouts, plain, types_at, nothing, Stays, walk_of, says, stay_dropped, ends_at}
+use Rattle.cell_shares.proofs.Names.{◌≡◌, List, [], ◌∷◌, ◌++◌, refl, sym, ap, subst, ◌∙◌, a_type, inst_fn, Val, vstruct, vcons, vnil, of_list, SProp, ent, id⊢, ftrue, flft, ‵, raw, ◌⊛◌, ◌$◌, ◌∵◌, !, qed, done, move, keep, split, fjoin, fsplit, fpick, feq_l, rewrite, suffices, sub, whole, enter, of_opd, stop, fld, returns, alloc_all, pass_all, free_all, look_at, get, get_in, sets, WpFn, tables, RattleType, owns, Is, shows, no, param, layout, layouts, plain, types_at, nothing, Stays, walk_of, says, stay_dropped, ends_at}
 use denote.Param.Laws.{param_laws}
 use denote.Steps.{peeks}
 use Rattle.std.proofs.raw_atomic.Walks.{proved_at}

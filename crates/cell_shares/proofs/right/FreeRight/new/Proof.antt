@@ -1,5 +1,5 @@
 -- The lease's word becomes the one field of a struct.
-use Rattle.cell_shares.proofs.Names.{◌≡◌, List, [], ◌∷◌, ◌++◌, refl, sym, subst, a_type, inst_fn, Val, vstruct, vcons, vnil, of_list, SProp, ent, id⊢, ftrue, flft, fsep, feq, ‵, raw, ◌⊛◌, ◌$◌, ◌∵◌, !, qed, done, move, keep, leave, split, join, fjoin, fpack, feq_i, rewrite, fsplit, suffices, agg, enter, of_opd, no_more, and_then, returns, alloc_all, pass_all, free_all, look_at, get, sets, WpFn, tables, RattleType, Valss, owns, no, param, layout, layouts, plain, types_at, nothing, Stays, walk_of, says, stay_dropped, Goes-dropped, ends_at}
+use Rattle.cell_shares.proofs.Names.{List, [], ◌∷◌, ◌++◌, refl, sym, subst, a_type, inst_fn, Val, vstruct, vcons, vnil, of_list, SProp, ent, id⊢, ftrue, flft, fsep, feq, ‵, raw, ◌⊛◌, ◌$◌, ◌∵◌, !, qed, done, move, keep, split, fjoin, fpack, feq_i, rewrite, fsplit, suffices, agg, enter, of_opd, no_more, and_then, returns, alloc_all, pass_all, free_all, look_at, get, sets, WpFn, tables, RattleType, Valss, owns, no, param, layout, layouts, plain, types_at, nothing, Stays, walk_of, says, stay_dropped, Goes-dropped, ends_at}
 use denote.Param.Laws.{param_laws}
 use Rattle.std.proofs.raw_atomic.Walks.{proved_at}
 use Rattle.cell_shares.proofs.Alone.{Alone, word_of, wrapped}

@@ -1,5 +1,5 @@
-use Rattle.std.proofs.Common.{ℕ, ◌≡◌, ◌<◌, ◌+◌, ◌^◌, ◌∙◌, sym, arith}
-use Rattle.cell_shares.proofs.Positions.{position_below, place_is}
+use Rattle.std.proofs.Common.{arith}
+use Rattle.cell_shares.proofs.Positions.{position_below}
 use Rattle.cell_shares.proofs.share.Share.set.Goals as goal
 
 pub overflow_add-self : goal.overflow_add-self
@@ -7,6 +7,3 @@ overflow_add-self g c = let s = c.args.self.now in let below = position_below s 
 
 pub place-place-requires-clause-position : goal.place-place-requires-clause-position
 place-place-requires-clause-position g c = position_below c.args.self.now c.args.j c.requires
-
-pub set_at-requires-clause-place : goal.set_at-requires-clause-place
-set_at-requires-clause-place g c = c.place-place.ensures.place ∙ sym (place_is c.args.self.now c.args.j c.requires)

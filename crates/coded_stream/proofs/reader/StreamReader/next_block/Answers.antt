@@ -1,4 +1,4 @@
-use Rattle.std.proofs.Common.{◌≡◌, ℕ, ◌+◌, ◌-◌, ◌*◌, ◌<◌, List, ◌++◌, length, take, drop, ap, sym, ◌∙◌, arith}
+use Rattle.std.proofs.Common.{◌≡◌, ℕ, ◌+◌, ◌-◌, ◌<◌, List, ◌++◌, length, take, drop, ap, sym, ◌∙◌, arith}
 use Rattle.std.proofs.lemmas.Grind.{common_steps}
 use Rattle.coded_stream.specs.Shown.{header_of}
 use Rattle.coded_stream.specs.Body.{bad, no_more, onto, body, next_start}
@@ -42,7 +42,7 @@ returns-in-Block-clause-goes_on g c input is =
     let w = c.in-Block.ensures.told input is in
     let room : 0 < 4096 - r.blocks = c.in-Block.ensures.accepted.0 in
     let long : length into ≡ length c.resize.new.self = c.read_block.auto.into ∙ ap length c.as_mut_slice.ensures.value in
-    let total : length c.resize.new.self ≡ length c.as_slice.result.now * c.transmission_size-size.result = grind (arith, common_steps) in
+    let total : length c.resize.new.self ≡ c.block_size-total.result = grind (arith, common_steps) in
     let kept : take (length c.resize.new.self) (into ++ drop (length into) c.resize.new.self) ≡ into = take_front into (drop (length into) c.resize.new.self) (length c.resize.new.self) long in
     let size = w.4 in (
       w.0,
@@ -53,6 +53,6 @@ returns-in-Block-clause-goes_on g c input is =
       ap (λ (s : Reading). remaining s input) (sym c.self.view_is)
           ∙ body-block h (4096 - r.blocks) r.place input (record { payload = c.in-Block.payload; bytes = into }) w.1 room w.5
           ∙ ap (λ (n : ℕ). onto (record { payload = c.in-Block.payload; bytes = into }) (body h n (next_start r.place (record { payload = c.in-Block.payload; bytes = into })) w.1)) (let e : 4096 - r.blocks - 1 ≡ 4096 - (r.blocks + 1) = omega arith in e)
-          ∙ ap (λ (p : ℕ). onto (record { payload = c.in-Block.payload; bytes = into }) (body h (4096 - (r.blocks + 1)) p w.1)) (let e : r.place + (4 + length into) ≡ r.place + (4 + length c.as_slice.result.now * c.transmission_size-size.result) = omega (arith, long, total) in e)
-          ∙ ap (λ (xs : List ℕ). onto (record { payload = c.in-Block.payload; bytes = xs }) (body h (4096 - (r.blocks + 1)) (r.place + (4 + length c.as_slice.result.now * c.transmission_size-size.result)) w.1)) (sym kept),
+          ∙ ap (λ (p : ℕ). onto (record { payload = c.in-Block.payload; bytes = into }) (body h (4096 - (r.blocks + 1)) p w.1)) (let e : r.place + (4 + length into) ≡ r.place + (4 + c.block_size-total.result) = omega (arith, long, total) in e)
+          ∙ ap (λ (xs : List ℕ). onto (record { payload = c.in-Block.payload; bytes = xs }) (body h (4096 - (r.blocks + 1)) (r.place + (4 + c.block_size-total.result)) w.1)) (sym kept),
     )

@@ -1,6 +1,5 @@
-use Rattle.std.proofs.Common.{◌≡◌, ◌<◌, ℕ, List, [], length, take, subst, sym, arith}
+use Rattle.std.proofs.Common.{take, subst, arith}
 use Rattle.std.proofs.lemmas.Grind.{common_steps}
-use Rattle.std.proofs.lemmas.List.{length-take-le}
 use Rattle.std.proofs.Common.{◌-◌, Err}
 use Rattle.edge_io.specs.Exactly.{ReadsExactly}
 use Rattle.edge_io.specs.declared.exactly.ReadStop.{ReadStop}

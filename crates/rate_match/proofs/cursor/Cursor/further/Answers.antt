@@ -1,4 +1,4 @@
-use Rattle.std.proofs.Common.{◌≡◌, ℕ, ◌+◌, ◌*◌, ◌<◌, ◌≤◌, ap, ◌∙◌, arith}
+use Rattle.std.proofs.Common.{ℕ, ◌+◌, ap, ◌∙◌, arith}
 use Rattle.rate_match.proofs.SizeSteps.{places-most}
 use Rattle.rate_match.proofs.CursorSteps.{made, place-below, next_row, next_column, column-left}
 use Rattle.rate_match.proofs.cursor.Cursor.further.Goals as goal

@@ -1,4 +1,4 @@
-use Rattle.std.proofs.Common.{◌≡◌, ℕ, ◌<◌, List, length, take, Some, refl, ap, subst, arith}
+use Rattle.std.proofs.Common.{◌≡◌, List, length, take, Some, refl, ap, subst, arith}
 use Rattle.std.specs.List.{slice_get}
 use Rattle.std.proofs.lemmas.Option.{slice_get_read}
 use Rattle.rate_match.specs.declared.sends.Sending.{Sending}

@@ -1,0 +1,84 @@
+-- The header that was read from two units.
+use Rattle.std.proofs.Common.{◌≡◌, ℕ, ◌+◌, ◌*◌, ◌≤◌, true, List, ◌++◌, length, take, slice_index, None, ap, sym, subst, ◌∙◌, arith}
+use Rattle.std.specs.declared.option.Option.{Option}
+use Rattle.std.proofs.lemmas.List.{length-take-le}
+use Rattle.edge_io.specs.Edge.{Takes}
+use Rattle.rate_match.specs.Sendings.{common}
+use Rattle.rate_match.specs.Fitting.{fits_all}
+use Rattle.rate_match.proofs.FitTest.{fits_all-true}
+use Rattle.rate_match.specs.declared.sends.Sending.{Sending}
+use Rattle.coded_stream.specs.Limit.{is_limit}
+use Rattle.coded_stream.specs.Header.{Header, kind_of, header_text, IsHeader}
+use Rattle.coded_stream.specs.Opening.{unless, first_refusal, version_of, first_size, sending_size, count_in, tb_in, fields, header_in, second_opening, first_opening, opening}
+use Rattle.coded_stream.specs.Takes.{AreSentBy}
+use Rattle.coded_stream.specs.declared.version.Version.{Version}
+use Rattle.coded_stream.specs.declared.version.Version.TheVariants.{One, Two}
+use Rattle.coded_stream.specs.declared.kind.Kind.{Kind}
+use Rattle.coded_stream.specs.declared.kind.Want.{Want}
+use Rattle.coded_stream.proofs.Passed.{ArePassed}
+use Rattle.coded_stream.proofs.OpeningSteps.{first-whole, text-long}
+
+-- the first unit, as it was read
+pub record IsUnit (v : Version) (unit : List ℕ) (old new : Option (List ℕ)) : Type 0 where
+  pub long : length unit ≡ first_size v
+  pub took : Takes old new unit
+  pub version : (left : List ℕ) → version_of (unit ++ left) ≡ v
+
+most : (v : Version) → first_size v ≤ 18
+most One = omega arith
+most Two = omega arith
+
+pub unit-is : (v : Version) (size : ℕ) (room : List ℕ) (old new : Option (List ℕ)) → size ≡ first_size v → length room ≡ 18 → Takes old new (take (first_size v) room)
+    → ((left : List ℕ) → version_of (take (first_size v) room ++ left) ≡ v) → IsUnit v (take size room) old new
+unit-is v size room old new is long took version =
+    let P : ℕ → Type 0 = λ n. IsUnit v (take n room) old new in
+    subst P (sym is) (record { long = length-take-le (first_size v) room (omega (arith, long, most v)); took = took; version = version })
+
+-- the beginning, by its first unit
+pub by-unit : (v : Version) (want : Want) (unit left input : List ℕ) (old new : Option (List ℕ)) → IsUnit v unit old new → input ≡ unit ++ left
+    → opening want input ≡ unless (first_refusal (first_size v) (fields v want unit)) (second_opening v unit left)
+by-unit v want unit left input old new u is =
+    ap (opening want) is ∙ ap (λ (w : Version). first_opening w want (unit ++ left)) (u.version left) ∙ first-whole v want unit left u.long
+
+-- where its fields pass, by the second
+pub by-second : (v : Version) (want : Want) (unit left input : List ℕ) (old new : Option (List ℕ)) → IsUnit v unit old new → input ≡ unit ++ left → first_refusal (first_size v) (fields v want unit) ≡ None
+    → opening want input ≡ second_opening v unit left
+by-second v want unit left input old new u is pass =
+    by-unit v want unit left input old new u is ∙ ap (λ r. unless r (second_opening v unit left)) pass
+
+pub header-is : (v : Version) (kind : Kind) (tb : ℕ) (unit : List ℕ) (sends : List Sending) → kind ≡ kind_of (slice_index unit 4) → tb ≡ tb_in v unit
+    → header_in v unit sends ≡ record { version = v; kind = kind; tb = tb; sends = sends }
+header-is v kind tb unit sends kind_is tb_is i = record { version = v; kind = sym kind_is i; tb = sym tb_is i; sends = sends }
+
+-- what the program says of it
+pub record IsLawful (tb : ℕ) (sends : List Sending) : Type 0 where
+  pub some : 1 ≤ tb
+  pub few : tb ≤ 18722
+  pub limited : is_limit (common sends).limit ≡ true
+  pub fits : fits_all (common sends).limit tb ≡ true
+
+pub lawful : (v : Version) (want : Want) (unit : List ℕ) (tb : ℕ) (sends : List Sending) → ArePassed v want unit → AreSentBy v unit sends → tb ≡ tb_in v unit → IsLawful tb sends
+lawful v want unit tb sends passed are tb_is =
+    let P : ℕ → Type 0 = λ n. IsLawful n sends in
+    subst P (sym tb_is) (record {
+      some = passed.some;
+      few = passed.few;
+      limited = ap is_limit are.limit ∙ passed.limited;
+      fits = ap (λ limit. fits_all limit (tb_in v unit)) are.limit ∙ passed.fits;
+    })
+
+pub header-accepted : (v : Version) (kind : Kind) (unit : List ℕ) (tb : ℕ) (sends : List Sending) → IsLawful tb sends → AreSentBy v unit sends → IsHeader (record { version = v; kind = kind; tb = tb; sends = sends })
+header-accepted v kind unit tb sends is are = record {
+  some = is.some;
+  few = is.few;
+  sent = are.sent;
+  held = are.held;
+  limited = is.limited;
+  fits = fits_all-true (common sends).limit tb is.fits;
+}
+
+-- how long it is, as the program counts it
+pub place-is : (h : Header) (unit : List ℕ) (first second : ℕ) → AreSentBy h.version unit h.sends → first ≡ first_size h.version → second ≡ count_in h.version unit * sending_size h.version
+    → first + second ≡ length (header_text h)
+place-is h unit first second are first_is second_is =
+    (λ i. first_is i + second_is i) ∙ ap (λ (n : ℕ). first_size h.version + n * sending_size h.version) (sym are.count) ∙ sym (text-long h)

@@ -1,0 +1,30 @@
+//! The part of a code block's circular buffer that is sent (36.212 5.1.4.1.2).
+ghost use Rattle.std.specs.Prelude.{◌≡◌, ◌<◌};
+ghost use Rattle.sender_model.specs.Segmentation.{plan_of, size, fill};
+ghost use Rattle.sender_model.specs.CircularBuffer.{Fits, buffer_length};
+
+use crate::cursor::Ring;
+use crate::matching::Match;
+use crate::numbers::{buffer_len, rows_of};
+use segmentation::planning::{fill, size};
+use segmentation::plans::Plan;
+
+/// The first N_cb places of the circular buffer of block `r`, from which it is sent. `r` is below C,
+/// and the buffer fits the plan.
+pub fn ring_of(m: &Match, plan: &Plan, r: usize) -> Ring
+    requires block { r < plan.now.c }
+    requires fits { Fits m.now (plan_of plan.now.bytes) }
+    ensures size { result.k ≡ size (plan_of plan.now.bytes) r }
+    ensures fillers { result.fill ≡ fill (plan_of plan.now.bytes) r }
+    ensures places { result.size
+        ≡ buffer_length m.now.limit (plan_of plan.now.bytes).c (size (plan_of plan.now.bytes) r) }
+{
+    let k = size(plan, r);
+    let places = buffer_len(m, plan, r);
+    Ring {
+        k,
+        fill: fill(plan, r),
+        rows: rows_of(k),
+        size: places,
+    }
+}

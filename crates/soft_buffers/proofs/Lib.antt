@@ -1,0 +1,5 @@
+pub mod Sums
+pub mod Adding
+pub mod Codewords
+pub mod Fresh
+pub mod StreamCells

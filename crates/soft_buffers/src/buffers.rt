@@ -1,0 +1,96 @@
+//! The soft buffers of a transport block.
+ghost use Rattle.std.specs.Prelude.{◌≡◌, ◌≤◌, ◌<◌, ◌+◌, ◌*◌, ◌++◌, [], ◌∷◌, List, IfOk, length, pos, replicate};
+ghost use Rattle.sender_model.specs.Segmentation.{plan_of};
+ghost use Rattle.sender_model.specs.CircularBuffer.{FitsIn};
+ghost use Rattle.rate_match.specs.Matching.{limit_of};
+ghost use Rattle.receiver_model.specs.SoftCells.{Reception, reception, soft_streams};
+ghost use Rattle.soft_buffers.specs.Buffers.{Hold};
+
+use crate::pieces::add_codeword;
+use crate::streams::streams_of;
+use lte_bits::{List, NoMemory, Soft, SoftStreams};
+use rate_match::{Buffer, Match};
+use segmentation::plans::Plan;
+use segmentation::{fill, size};
+use std::alloc::Global;
+use std::marker::Model;
+
+/// A cell for each bit of the coded streams of each code block of a transport block. The cells keep, for
+/// each bit, the sum of the soft values that came of it, from -127 to 127.
+#[derive(Drop)]
+pub struct HarqBuffers {
+    plan: Plan,
+    buffer: Buffer,
+    blocks: Vec<List<Soft>>,
+}
+
+impl Model for HarqBuffers {
+    ghost use Rattle.soft_buffers.specs.Buffers.{Buffers};
+
+    ghost Value = { Buffers };
+
+    ghost use Rattle.soft_buffers.specs.Shown.{shown, IsKept};
+
+    ghost view = { shown };
+
+    ghost invariant = { IsKept };
+}
+
+/// The cells of a block of `k` bits before the first transmission.
+fn fresh_cells(alloc: Global, k: usize) -> Result<List<Soft>, NoMemory>
+    requires { k ≤ 6144 }
+    ensures { IfOk result (λ cells. cells ≡ replicate (3 * (k + 4)) (pos 0)) }
+{
+    Ok(List::from_vec(vec![in alloc; Soft::ZERO; 3 * (k + 4)]?))
+}
+
+impl HarqBuffers {
+    /// The buffers of a transport block of this plan, which the soft buffer fits, before the first
+    /// transmission: every cell is 0.
+    pub fn new(alloc: Global, plan: &Plan, buffer: Buffer) -> Result<HarqBuffers, NoMemory>
+        requires { FitsIn (limit_of buffer) (plan_of plan.now.bytes).c (plan_of plan.now.bytes).k_plus }
+        ensures plan { IfOk result (λ b. b.plan ≡ plan_of plan.now.bytes) }
+        ensures limit { IfOk result (λ b. b.limit ≡ limit_of buffer) }
+        ensures cells { IfOk result (λ b. Hold b []) }
+    {
+        let mut blocks = Vec::with_capacity(alloc, plan.c)?;
+        for r in 0..plan.c {
+            blocks.push(fresh_cells(alloc, size(plan, r))?)?;
+        }
+        Ok(HarqBuffers {
+            plan: *plan,
+            buffer,
+            blocks,
+        })
+    }
+
+    /// Takes the G soft values of one transmission more, sent with redundancy version `rv`, 0 to 3, by a
+    /// matching with this soft buffer. Each is added to the cell of the bit that the sender takes at its
+    /// place of the codeword, and the sum is clamped at once.
+    pub fn combine(&mut self, m: &Match, rv: u8, softs: &[Soft])
+        requires buffer { m.now.limit ≡ self.old.limit }
+        requires version { rv ≤ 3 }
+        requires values { length softs.now ≡ m.now.g }
+        ensures plan { self.new.plan ≡ self.old.plan }
+        ensures limit { self.new.limit ≡ self.old.limit }
+        ensures cells { (xs : List Reception) → Hold self.old xs →
+            Hold self.new (xs ++ reception m.now rv softs.now ∷ []) }
+    {
+        add_codeword(self.blocks.as_mut_slice(), &self.plan, m, rv, softs);
+    }
+
+    /// The soft streams of block `r`, which is below C: its cells, with 127 at the fillers of d0 and 0 at
+    /// those of d1.
+    pub fn streams(&self, alloc: Global, r: usize) -> Result<SoftStreams, NoMemory>
+        requires { r < self.now.plan.c }
+        ensures { (xs : List Reception) → Hold self.now xs →
+            IfOk result (λ streams. streams ≡ soft_streams self.now.plan xs r) }
+    {
+        streams_of(
+            alloc,
+            size(&self.plan, r),
+            fill(&self.plan, r),
+            self.blocks[r].as_slice(),
+        )
+    }
+}

@@ -1,0 +1,47 @@
+//! Soft values that are added to the cells of one code block.
+ghost use Rattle.std.specs.Prelude.{◌≡◌, ◌≤◌, ◌<◌, ◌+◌, ◌*◌, length, fold};
+ghost use Rattle.std.specs.List.{zip};
+ghost use Rattle.sender_model.specs.declared.spot.Spot.{Spot as Bit};
+ghost use Rattle.sender_model.specs.Selection.{bits_from, holds_bit, repeated};
+ghost use Rattle.receiver_model.specs.SoftCells.{added, has_bit, values_where};
+ghost use Rattle.soft_buffers.specs.Buffers.{IsBit, cell_index, cell_of};
+
+use lte_bits::Soft;
+use rate_match::{Cursor, Ring, Spot};
+
+/// Where the cell of a bit stands among those of a block of `k` bits.
+fn cell_index(k: usize, spot: Spot) -> usize
+    requires few { k ≤ 6144 }
+    requires stream { spot.stream ≤ 2 }
+    requires index { spot.index < k + 4 }
+    ensures value { result ≡ cell_index k spot }
+    ensures within { result < 3 * (k + 4) }
+{
+    usize::from(spot.stream) * (k + 4) + spot.index
+}
+
+/// Adds each value at once to the cell of the bit that it is of: the bits stand in the ring from place
+/// `start` on, round and round.
+pub fn add_values(cells: &mut [Soft], ring: Ring, start: usize, values: &[Soft])
+    requires cells { length cells.old ≡ 3 * (ring.k + 4) }
+    requires few { length values.now ≤ 1000000 }
+    requires some { 0 < length (bits_from (holds_bit ring.k ring.fill) start ring.size) }
+    ensures cells { (s : Bit) → IsBit ring.k s → cell_of ring.k cells.new s
+        ≡ fold added (cell_of ring.k cells.old s) (values_where (has_bit ring.k ring.fill s)
+        (zip (repeated (bits_from (holds_bit ring.k ring.fill) start ring.size) (length values.now)) values.now)) }
+    ensures long { length cells.new ≡ length cells.old }
+{
+    let mut cursor = Cursor::at(ring, start % ring.size);
+    let mut taken = 0;
+    for _step in 0..values.len() * ring.size {
+        if taken == values.len() {
+            return;
+        }
+        if let Some(spot) = cursor.spot(ring) {
+            let n = cell_index(ring.k, spot);
+            cells[n] = cells[n].add_sat(values[taken]);
+            taken += 1;
+        }
+        cursor = cursor.next(ring);
+    }
+}
