@@ -8,7 +8,7 @@ use Rattle.edge_io.specs.Edge.{Takes}
 use Rattle.edge_io.proofs.Known.{takes_none}
 use Rattle.sender_model.specs.CircularBuffer.{Match}
 use Rattle.std.proofs.lemmas.Bool.{cases_lt}
-use Rattle.run_loop.specs.Answer.{Part, Answer, Ending, finished, behind, refusal, closed, opened, size_of}
+use Rattle.run_loop.specs.Answer.{Part, Answer, finished, behind, refusal, closed, opened, size_of}
 use Rattle.run_loop.specs.Due.{IsDue, IsWithin}
 use Rattle.run_loop.specs.Step.{Steps, Stops, parts_of, ending_of}
 use Rattle.run_loop.specs.declared.work.Block.{Block}

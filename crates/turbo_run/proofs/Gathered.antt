@@ -1,14 +1,13 @@
 -- Numbers taken one after the other are the numbers of all texts.
-use Rattle.std.proofs.Common.{◌≡◌, ℕ, ◌+◌, ◌<◌, ◌≤◌, Bool, true, false, ◌&&◌, ◌||◌, not, nat_lt, if◌then◌else◌, List, [], ◌∷◌, ◌++◌, length, map, Ok, Err, arith, refl, ap, sym, ◌∙◌}
+use Rattle.std.proofs.Common.{◌≡◌, ℕ, ◌+◌, ◌≤◌, true, false, ◌||◌, not, nat_lt, if◌then◌else◌, List, [], ◌∷◌, ◌++◌, length, map, Ok, Err, arith, refl, ap, ◌∙◌}
 use Rattle.std.proofs.lemmas.Grind.{common_steps}
 use Rattle.std.specs.List.{list_all}
-use Rattle.std.specs.declared.result.Result.{Result}
 use Rattle.std.proofs.lemmas.List.{length-map}
 use Rattle.turbo_run.specs.Number.{is_spelt, worth}
 use Rattle.turbo_run.specs.Operands.{texts_in, numbers_of}
 use Rattle.turbo_run.specs.declared.rules.Form.{Form}
 use Rattle.turbo_run.specs.Rules.{most, in_range}
-use Rattle.turbo_run.specs.Taken.{with_number, gathered, none_taken}
+use Rattle.turbo_run.specs.Taken.{gathered, none_taken}
 use Rattle.turbo_run.specs.declared.lists.Taken.{Taken}
 use Rattle.turbo_run.specs.declared.rules.Rule.{Rule}
 

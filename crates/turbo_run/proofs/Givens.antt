@@ -1,7 +1,6 @@
 -- A word that gives what a rule asks for.
 use Rattle.std.proofs.Common.{◌≡◌, ℕ, zero, suc, ◌+◌, ◌<◌, Bool, true, false, if◌then◌else◌, List, [], ◌∷◌, length, slice_index_or, Some, None, refl, ap, arith, ◌∙◌}
 use Rattle.std.specs.Prelude.{drop}
-use Rattle.std.proofs.lemmas.Grind.{common_steps}
 use denote.Ref.{Bor}
 use Rattle.turbo_run.specs.Operands.{accepted, given_from, is_named, numbers_of, value_in, value_under}
 use Rattle.turbo_run.specs.Rules.{name_text}

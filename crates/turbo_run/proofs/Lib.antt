@@ -4,3 +4,7 @@ mod Gathered
 mod Givens
 mod Ranged
 mod FullBuffer
+mod Sendings
+mod Fitting
+mod Asked
+mod EncodeSteps

@@ -1,8 +1,8 @@
 -- Texts cut at their first mark.
-use Rattle.std.proofs.Common.{◌≡◌, ℕ, ◌<◌, ◌≤◌, Bool, true, false, ◌==◌, List, [], ◌∷◌, length, arith, refl, ap, sym, subst}
+use Rattle.std.proofs.Common.{◌≡◌, ℕ, ◌<◌, true, false, ◌==◌, List, [], ◌∷◌, length, arith, refl, sym, subst}
 use Rattle.std.proofs.lemmas.Grind.{common_steps}
 use Rattle.std.specs.List.{before_first, after_first, list_any, position_or_len}
-use Rattle.turbo_run.specs.Operands.{is_comma, listed, onto_first}
+use Rattle.turbo_run.specs.Operands.{is_comma, listed}
 
 pub none_at : (mark : ℕ) (text : List ℕ) → position_or_len (λ c. c == mark) text ≡ length text → list_any (λ c. c == mark) text ≡ false
 none_at mark [] at = refl

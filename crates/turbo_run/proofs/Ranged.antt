@@ -1,5 +1,5 @@
 -- Numbers that are accepted are some, few and in range.
-use Rattle.std.proofs.Common.{◌≡◌, ℕ, zero, suc, ◌+◌, ◌<◌, ◌≤◌, Bool, true, false, ◌&&◌, ◌||◌, not, nat_le, nat_lt, ◌==◌, if◌then◌else◌, List, [], ◌∷◌, length, map, slice_index, Ok, Err, refl, ap, sym, arith, ◌∙◌}
+use Rattle.std.proofs.Common.{◌≡◌, ℕ, zero, suc, ◌<◌, ◌≤◌, Bool, true, false, ◌||◌, not, nat_lt, if◌then◌else◌, List, [], ◌∷◌, length, map, slice_index, Ok, Err, refl, ap, sym, arith, ◌∙◌}
 use Rattle.std.proofs.lemmas.Grind.{common_steps}
 use Rattle.std.proofs.lemmas.List.{length-map}
 use Rattle.std.specs.List.{list_all}
@@ -8,7 +8,7 @@ use Rattle.rate_match.specs.Matching.{is_qm, is_nl}
 use Rattle.turbo_run.specs.Given.{IsGiven}
 use Rattle.turbo_run.specs.Number.{is_spelt, worth}
 use Rattle.turbo_run.specs.Operands.{listed, onto_first, numbers_of, texts_in, is_comma}
-use Rattle.turbo_run.specs.Rules.{most, in_range}
+use Rattle.turbo_run.specs.Rules.{most, in_range, modulations, layers}
 use Rattle.turbo_run.specs.declared.rules.Form.{Form}
 use Rattle.turbo_run.specs.declared.rules.Form.TheVariants.{Number, ListOfOne, ForTransmissions}
 use Rattle.turbo_run.specs.declared.rules.Rule.{Rule}
@@ -55,3 +55,18 @@ pub ranged_at : (p : ℕ → Bool) (numbers : List ℕ) (i : ℕ) → list_all p
 ranged_at p [] i all within = absurd (omega (arith, within))
 ranged_at p (n ∷ numbers) zero all within = grind (arith, common_steps, all)
 ranged_at p (n ∷ numbers) (suc i) all within = ranged_at p numbers i (grind (arith, common_steps, all)) (omega (arith, within))
+
+-- ---- numbers of the rate matching
+
+pub modulation_is_qm : (n : ℕ) → in_range modulations n ≡ true → is_qm n ≡ true
+modulation_is_qm zero is = cc
+modulation_is_qm (suc zero) is = cc
+modulation_is_qm (suc (suc zero)) is = refl
+modulation_is_qm (suc (suc (suc zero))) is = cc
+modulation_is_qm (suc (suc (suc (suc zero)))) is = refl
+modulation_is_qm (suc (suc (suc (suc (suc zero))))) is = cc
+modulation_is_qm (suc (suc (suc (suc (suc (suc zero)))))) is = refl
+modulation_is_qm (suc (suc (suc (suc (suc (suc (suc n))))))) is = grind (arith, common_steps, is)
+
+pub layers_are_nl : (n : ℕ) → in_range layers n ≡ true → is_nl n ≡ true
+layers_are_nl n is = grind (arith, common_steps, is)

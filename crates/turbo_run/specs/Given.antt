@@ -1,9 +1,7 @@
 -- What is known of the numbers that were given for a rule.
-use Rattle.std.specs.Prelude.{◌≡◌, ℕ, ◌≤◌, List, length, true, ◌==◌, if◌then◌else◌, slice_index, Some, None}
+use Rattle.std.specs.Prelude.{◌≡◌, ℕ, ◌≤◌, List, length, true, Some}
 use Rattle.std.specs.List.{list_all}
-use Rattle.std.specs.declared.option.Option.{Option}
 use Rattle.turbo_run.specs.Rules.{most, in_range}
-use Rattle.turbo_run.specs.declared.operands.Operand.{Operand}
 use Rattle.turbo_run.specs.declared.rules.Rule.{Rule}
 
 pub record IsGiven (rule : Rule) (numbers : List ℕ) : Type 0 where

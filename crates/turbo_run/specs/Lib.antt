@@ -5,8 +5,11 @@ pub mod Rules
 pub mod Operands
 pub mod Given
 pub mod Taken
+pub mod Transmissions
 pub mod Words
 pub mod Reading
 pub mod Codeword
 pub mod Coding
+pub mod Encode
+pub mod Encoding
 pub mod Run

@@ -50,3 +50,35 @@ rv_of_one = record { name = Rv; form = ListOfOne; range = versions; default = No
 
 abbrev pub codeword_rules : List Rule
 codeword_rules = g_number ∷ qm_number ∷ rv_of_one ∷ []
+
+-- ---- encode: lists for the transmissions of each block, and for all the greatest payload and N_IR
+
+abbrev pub lengths : Range
+lengths = Between 1 18722
+
+abbrev pub layers : Range
+layers = Between 1 2
+
+abbrev pub limits : Range
+limits = Between 0 1000000
+
+abbrev pub tb_number : Rule
+tb_number = record { name = Tb; form = Number; range = lengths; default = None }
+
+abbrev pub g_list : Rule
+g_list = record { name = G; form = ForTransmissions; range = to_a_million; default = None }
+
+abbrev pub qm_list : Rule
+qm_list = record { name = Qm; form = ForTransmissions; range = modulations; default = None }
+
+abbrev pub rv_list : Rule
+rv_list = record { name = Rv; form = ForTransmissions; range = versions; default = None }
+
+abbrev pub nl_list : Rule
+nl_list = record { name = Nl; form = ForTransmissions; range = layers; default = Some 1 }
+
+abbrev pub nir_number : Rule
+nir_number = record { name = Nir; form = Number; range = limits; default = Some 0 }
+
+abbrev pub encode_rules : List Rule
+encode_rules = tb_number ∷ g_list ∷ qm_list ∷ rv_list ∷ nl_list ∷ nir_number ∷ []

@@ -1,11 +1,9 @@
 -- The numbers of a list, taken one after the other.
-use Rattle.std.specs.Prelude.{◌≡◌, ℕ, ◌<◌, List, [], ◌∷◌, ◌++◌, length, Bool, true, false, ◌&&◌, nat_lt, if◌then◌else◌, Some, None, Ok, Err}
+use Rattle.std.specs.Prelude.{ℕ, List, [], ◌∷◌, ◌++◌, length, true, false, ◌&&◌, nat_lt, if◌then◌else◌, Some, None, Ok, Err}
 use Rattle.std.specs.declared.option.Option.{Option}
 use Rattle.std.specs.declared.result.Result.{Result}
-use denote.Ref.{Bor}
 use Rattle.turbo_run.specs.Number.{is_spelt, worth}
 use Rattle.turbo_run.specs.Rules.{most, in_range}
-use Rattle.turbo_run.specs.Operands.{listed}
 use Rattle.turbo_run.specs.declared.lists.Taken.{Taken}
 use Rattle.turbo_run.specs.declared.rules.Rule.{Rule}
 

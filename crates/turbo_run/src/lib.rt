@@ -1,7 +1,9 @@
 //! The commands of the program, over a source of bytes and two sinks.
 #![tactic(auto)]
 
+mod blocks;
 mod coding;
+mod encoding;
 mod lists;
 mod number;
 mod numbers;
@@ -10,6 +12,7 @@ mod reading;
 mod rules;
 mod running;
 mod splitting;
+mod transmissions;
 mod words;
 
 pub use operands::WordRefusal;
