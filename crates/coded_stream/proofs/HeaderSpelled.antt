@@ -1,14 +1,12 @@
 -- What is read as a header is its text.
-use Rattle.std.proofs.Common.{◌≡◌, ℕ, zero, suc, ◌+◌, ◌*◌, ◌<◌, ◌≤◌, Bool, true, false, cond, nat_lt, List, [], ◌∷◌, ◌++◌, length, take, drop, get_or, slice_index, flat_map, Some, None, refl, ap, sym, subst, ◌∙◌, append_assoc, add-one, drop-cons, arith}
+use Rattle.std.proofs.Common.{◌≡◌, ℕ, zero, suc, ◌+◌, ◌*◌, ◌≤◌, Bool, true, false, cond, nat_lt, List, [], ◌∷◌, ◌++◌, length, take, drop, slice_index, flat_map, Some, None, refl, ap, sym, subst, ◌∙◌, append_assoc, arith}
 use Rattle.std.specs.declared.option.Option.{Option}
 use Rattle.std.proofs.lemmas.Bool.{ltb-false}
-use Rattle.std.proofs.lemmas.List.{drop_all, take-append-drop, length-take-le, length-drop}
-use Rattle.std.proofs.lemmas.Nat.{be_bytes_2, be_bytes_4}
-use Rattle.std.specs.Int.{w16, w32, to_be_bytes, from_be_bytes}
+use Rattle.std.proofs.lemmas.List.{take-append-drop, length-take-le, length-drop}
 use Rattle.sender_model.specs.CircularBuffer.{Match}
 use Rattle.rate_match.specs.Sendings.{common}
 use Rattle.rate_match.specs.declared.sends.Sending.{Sending}
-use Rattle.coded_stream.specs.Header.{Header, word, half_word, word_text, half_word_text, magic, kind_code, kind_of, limit_code, limit_of_code, first_text, sending_text, header_text, IsHeader}
+use Rattle.coded_stream.specs.Header.{Header, word, word_text, magic, kind_code, kind_of, first_text, sending_text, header_text, IsHeader}
 use Rattle.coded_stream.specs.Units.{Refusal, truncated}
 use Rattle.coded_stream.specs.Opening.{Opening, opens, refuses, unless, first_refusal, is_wanted, version_of, first_size, sending_size, count_in, tb_in, limit_in, match_in, fields, sends_fields, sending_in, sends_in, header_in, second_opening, first_opening, opening}
 use Rattle.coded_stream.specs.Stream.{AreBytes}

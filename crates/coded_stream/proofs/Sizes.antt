@@ -1,7 +1,6 @@
 -- Bounds of the sizes of transmissions.
 use Rattle.std.proofs.Common.{ℕ, ◌*◌, ◌%◌, ◌≤◌, ◌&&◌, nat_le, ◌==◌, arith}
 use Rattle.std.proofs.lemmas.Bool.{and_parts, leb-true}
-use Rattle.std.proofs.Math.Nat.{mul-le-mul_left}
 use Rattle.sender_model.specs.CircularBuffer.{Match}
 use Rattle.rate_match.specs.Matching.{IsMatch}
 use Rattle.coded_stream.specs.Blocks.{transmission_size}
@@ -23,9 +22,3 @@ match_bounded m is =
 pub size-bounded : (kind : Kind) (g : ℕ) → IsBounded g → IsBounded (transmission_size kind g)
 size-bounded Hard g is = record { some = omega (arith, is.some); few = omega (arith, is.few) }
 size-bounded Soft g is = is
-
--- of at most eight transmissions
-pub all_few : (count size : ℕ) → count ≤ 8 → size ≤ 1000000 → count * size ≤ 8000000
-all_few count size few small =
-    let le : count * size ≤ count * 1000000 = mul-le-mul_left count small in
-    omega (arith, le, few)

@@ -6,8 +6,12 @@ mod container;
 #[cfg(test)]
 mod edges;
 #[cfg(test)]
+mod headers;
+#[cfg(test)]
 mod memory;
 #[cfg(test)]
 mod pairs;
 #[cfg(test)]
 mod runs;
+#[cfg(test)]
+mod streams;

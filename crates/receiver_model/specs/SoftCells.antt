@@ -1,5 +1,5 @@
 -- Soft cells: what the transmissions of a transport block add up to at each place of its blocks' streams.
-use Rattle.std.specs.Prelude.{ℕ, ◌+◌, ◌==◌, ◌&&◌, Bool, false, ℤ, pos, ◌+ℤ◌, Option, None, Some, List, ◌++◌, length, map, filter, flat_map, fold, take, drop, replicate, sum_by}
+use Rattle.std.specs.Prelude.{ℕ, ◌+◌, ◌==◌, ◌&&◌, Bool, false, ℤ, pos, ◌+ℤ◌, Option, None, Some, List, ◌++◌, map, filter, flat_map, fold, take, drop, replicate, sum_by}
 use Rattle.std.specs.List.{range_with_len, zip}
 use Rattle.lte_bits.specs.Softs.{clamped}
 use Rattle.lte_bits.specs.declared.block.SoftStreams.{SoftStreams}

@@ -1,4 +1,4 @@
-//! What a receiver makes of soft values, as definitions: one code block's decoding.
+//! What a receiver makes of soft values, as definitions: soft cells, and one code block's decoding.
 #![tactic(auto)]
 
 pub mod decoding;

@@ -20,6 +20,13 @@ fn cell_index(k: usize, spot: Spot) -> usize
     usize::from(spot.stream) * (k + 4) + spot.index
 }
 
+/// A cell with one value more.
+fn added(cell: Soft, value: Soft) -> Soft
+    ensures { result ≡ added cell value }
+{
+    cell.add_sat(value)
+}
+
 /// Adds each value at once to the cell of the bit that it is of: the bits stand in the ring from place
 /// `start` on, round and round.
 pub fn add_values(cells: &mut [Soft], ring: Ring, start: usize, values: &[Soft])
@@ -39,7 +46,7 @@ pub fn add_values(cells: &mut [Soft], ring: Ring, start: usize, values: &[Soft])
         }
         if let Some(spot) = cursor.spot(ring) {
             let n = cell_index(ring.k, spot);
-            cells[n] = cells[n].add_sat(values[taken]);
+            cells[n] = added(cells[n], values[taken]);
             taken += 1;
         }
         cursor = cursor.next(ring);

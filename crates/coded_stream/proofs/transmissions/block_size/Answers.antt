@@ -1,4 +1,4 @@
-use Rattle.std.proofs.Common.{◌≡◌, ℕ, ◌+◌, take, ap, sym, ◌∙◌, arith}
+use Rattle.std.proofs.Common.{ℕ, ◌+◌, take, ap, sym, ◌∙◌, arith}
 use Rattle.coded_stream.specs.Blocks.{lengths, block_size}
 use Rattle.coded_stream.specs.Shown.{header_of}
 use Rattle.coded_stream.proofs.Sizes.{size-bounded}

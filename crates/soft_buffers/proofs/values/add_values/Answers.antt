@@ -46,8 +46,8 @@ loop-step-preserved c =
         adding = adding_kept w c.args.cells.now step._step step.taken c.match-spot.taken step.cells c.match-spot.cells n v.in-Some.spot v.index-values-taken.result
             step.invariant.adding here (sym v.in-Some.ensures.spot) (record { stream = v.in-Some.ensures.inside.0; index = v.in-Some.ensures.inside.1 })
             c.requires.cells (omega (arith, c.if-taken-values.false, step.invariant.adding.within)) v.taken-is
-            (v.cells-is ∙ changed ring.k v.in-Some.spot step.cells v.cell_index-n.result v.index-cells-n.result v.index-values-taken.result (get_or c.args.values.now step.taken v.index-values-taken.result) v.add_sat.result
-            (omega (arith, v.cell_index-n.ensures.within, c.requires.cells, step.invariant.adding.long)) v.cell_index-n.ensures.value v.index-cells-n.is v.index-values-taken.is v.add_sat.ensures);
+            (v.cells-is ∙ changed ring.k v.in-Some.spot step.cells v.cell_index-n.result v.index-cells-n.result v.index-values-taken.result (get_or c.args.values.now step.taken v.index-values-taken.result) v.added.result
+            (omega (arith, v.cell_index-n.ensures.within, c.requires.cells, step.invariant.adding.long)) v.cell_index-n.ensures.value v.index-cells-n.is v.index-values-taken.is v.added.ensures);
       }
       | in_default v ↦ record {
         at = next;
