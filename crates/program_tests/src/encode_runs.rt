@@ -95,3 +95,33 @@ fn blocks_up_to_4096_are_taken(rt: HostRuntime) -> Result<(), Fail> {
     assert_eq!(rt; ran.report.bytes(), b"bad stream 8 at 4096\n".as_slice());
     Ok(())
 }
+
+/// A check sum of bytes in order.
+fn check_sum(bytes: &[u8]) -> u64 {
+    let mut sum = 0u64;
+    for byte in bytes {
+        sum = (sum % 65_521).saturating_mul(31).saturating_add(u64::from(*byte)) % 65_521;
+    }
+    sum
+}
+
+#[test]
+fn a_large_block_over_a_limited_buffer_is_that_of_an_independent_encoder(
+    rt: HostRuntime,
+) -> Result<(), Fail> {
+    let mut input = Vec::new(rt.alloc());
+    for i in 0..9422u32 {
+        input.push((i.saturating_mul(i) % 251) as u8)?;
+    }
+    let line = "encode tb=9422 g=82800 qm=6 rv=0 nir=77328";
+    let ran = run_of(rt.alloc(), line, &input, sound(4096))?;
+    assert_eq!(rt; ran.status, Status::Done);
+    let out = ran.out.bytes();
+    assert_eq!(rt; out.len(), 10_377);
+    let header: [u8; 19] = [
+        0x4C, 0x54, 0x43, 0x31, 0, 6, 1, 1, 0x24, 0xCE, 0, 1, 0x43, 0x70, 0, 1, 0x2E, 0x10, 0,
+    ];
+    assert_eq!(rt; &out[..19.min(out.len())], header.as_slice());
+    assert_eq!(rt; check_sum(out), 45_561);
+    Ok(())
+}

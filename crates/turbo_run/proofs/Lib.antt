@@ -7,4 +7,5 @@ mod FullBuffer
 mod Sendings
 mod Fitting
 mod Asked
+mod BlockKinds
 mod EncodeSteps

@@ -35,9 +35,9 @@ blocks_line count = codes "end blocks " ++ decimal count ++ 10 ∷ []
 abbrev pub end_behind : (count due : ℕ) → Answer
 end_behind count due = closed (word_text 0) (blocks_line count) finished 0 due
 
--- Behind so many blocks, where so many more may come: the input is cut into blocks of tb bytes. The last may be
--- shorter, which is known once the end of the input was seen. A byte behind the last block that may come is
--- refused.
+-- Behind so many blocks, where so many more may come: the input is cut into blocks of tb bytes. The last may
+-- be shorter, which is known once the end of the input was seen. A byte behind the last block that may come
+-- is refused.
 unfoldable pub blocks_answer : Header → (more count : ℕ) → (input : List ℕ) → Answer
 blocks_answer h zero count input = if length input == 0
     then end_behind count 1
@@ -46,7 +46,8 @@ blocks_answer h (suc more) count input = if length input == 0
     then end_behind count 1
     else if nat_lt (length input) h.tb
     then behind (block_part h input (length input + 1) ∷ []) (end_behind (count + 1) 0)
-    else behind (block_part h (take h.tb input) h.tb ∷ []) (blocks_answer h more (count + 1) (drop h.tb input))
+    else behind (block_part h (take h.tb input) h.tb ∷ [])
+    (blocks_answer h more (count + 1) (drop h.tb input))
 
 -- the header stands before anything is read, and 4,096 blocks may come
 abbrev pub encode_answer : Header → (input : List ℕ) → Answer

@@ -37,7 +37,8 @@ numbers_of rule text =
     let texts = texts_in rule.form text in
     let numbers = map (worth 0) texts in
     if not (list_all is_spelt texts) then Err 6
-    else if nat_lt (most rule.form) (length numbers) || not (list_all (in_range rule.range) numbers) then Err 7
+    else if nat_lt (most rule.form) (length numbers) || not (list_all (in_range rule.range) numbers)
+    then Err 7
     else Ok numbers
 
 -- ---- words
@@ -71,7 +72,8 @@ number_of_fault (Err number) = Some number
 abbrev pub fault_under : Option Rule → (before : List (List ℕ)) → (word : List ℕ) → Option ℕ
 fault_under None before word = Some 3
 fault_under (Some rule) before word =
-    if list_any (is_named (name_in word)) before then Some 4 else number_of_fault (numbers_of rule (value_in word))
+    if list_any (is_named (name_in word)) before then Some 4
+    else number_of_fault (numbers_of rule (value_in word))
 
 abbrev pub fault_of : List Rule → (before : List (List ℕ)) → (word : List ℕ) → Option ℕ
 fault_of rules before word =
@@ -86,7 +88,8 @@ refused_or place (Some number) later = Some (record { number = number; place = p
 abbrev pub first_fault : List Rule → (before words : List (List ℕ)) → Option WordRefusal
 first_fault rules before [] = None
 first_fault rules before (word ∷ words) =
-    refused_or (length before + 1) (fault_of rules before word) (first_fault rules (before ++ word ∷ []) words)
+    refused_or (length before + 1) (fault_of rules before word)
+    (first_fault rules (before ++ word ∷ []) words)
 
 -- ---- what is given
 

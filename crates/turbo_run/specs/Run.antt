@@ -22,7 +22,8 @@ EndsAs command old new status = (input : List ℕ) → old.left ≡ Some input
     → EndsReply (answer_of command input) old new status
 
 -- What a run of these words owes, of the edges before and after it.
-pub record Runs {S D : Type 0} (words : List (List ℕ)) (source source' : S) (out out' : D) (old new : Held) (before now : Counts)
+pub record Runs {S D : Type 0} (words : List (List ℕ)) (source source' : S) (out out' : D)
+    (old new : Held) (before now : Counts)
     (status : Status) : Type 0 where
   -- refused words: nothing is read, `out` is as before, and the report gains the fault line
   pub refused : IfErr (command_of words) (λ refusal. (status ≡ BadWords refusal.number refusal.place)

@@ -26,4 +26,5 @@ finished t = if t.fine then Ok t.numbers else Err 7
 -- with those of the texts that are left
 abbrev pub gathered : Rule → Taken → (texts : List (List ℕ)) → Result (List ℕ) ℕ
 gathered rule t [] = finished t
-gathered rule t (text ∷ texts) = if is_spelt text then gathered rule (with_number rule t (worth 0 text)) texts else Err 6
+gathered rule t (text ∷ texts) = if is_spelt text
+    then gathered rule (with_number rule t (worth 0 text)) texts else Err 6

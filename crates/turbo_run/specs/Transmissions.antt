@@ -14,7 +14,9 @@ use Rattle.turbo_run.specs.declared.transmissions.Lists.{Lists}
 
 -- the number of transmission i, where one number stands for all
 abbrev pub each : Operand → ℕ → ℕ
-each operand i = if length operand.numbers == 1 then slice_index operand.numbers 0 else slice_index operand.numbers i
+each operand i = if length operand.numbers == 1
+    then slice_index operand.numbers 0
+    else slice_index operand.numbers i
 
 abbrev pub is_each : (count : ℕ) → Operand → Bool
 is_each count operand = length operand.numbers == 1 || length operand.numbers == count
@@ -55,7 +57,8 @@ is_multiple s = is_g (s.m.nl * s.m.qm) s.m.g
 
 -- version One where no list of G, Q_m or N_L has more than one number, whatever the numbers are
 abbrev pub version_in : Lists → Version
-version_in lists = if length lists.g.numbers == 1 && length lists.qm.numbers == 1 && length lists.nl.numbers == 1
+version_in lists = if length lists.g.numbers == 1 && length lists.qm.numbers == 1
+    && length lists.nl.numbers == 1
     then One
     else Two
 

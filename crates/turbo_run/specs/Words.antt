@@ -54,7 +54,8 @@ codeword_found _ _ _ none = none
 
 abbrev pub codeword_of : (operands : List (List ℕ)) → Result Command WordRefusal
 codeword_of operands = unless (first_fault codeword_rules [] operands)
-    (codeword_found (given g_number operands) (given qm_number operands) (given rv_of_one operands) (missing operands))
+    (codeword_found (given g_number operands) (given qm_number operands) (given rv_of_one operands)
+    (missing operands))
 
 -- ---- encode
 

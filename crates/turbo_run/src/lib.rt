@@ -12,6 +12,7 @@ mod reading;
 mod rules;
 mod running;
 mod splitting;
+mod tables;
 mod transmissions;
 mod words;
 

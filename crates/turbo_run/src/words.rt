@@ -9,7 +9,7 @@ ghost use Rattle.turbo_run.specs.Operands.{given};
 ghost use Rattle.turbo_run.specs.Transmissions.{AreGiven, AreListsGiven};
 
 use crate::operands::{Operand, WordRefusal, first_fault, given};
-use crate::rules::{
+use crate::tables::{
     CODEWORD, ENCODE, G_LIST, G_NUMBER, NIR_NUMBER, NL_LIST, QM_LIST, QM_NUMBER, RV_LIST,
     RV_OF_ONE, TB_NUMBER,
 };
