@@ -2,9 +2,15 @@
 #![tactic(auto)]
 
 #[cfg(test)]
+mod codeword_runs;
+#[cfg(test)]
 mod container;
 #[cfg(test)]
 mod edges;
+#[cfg(test)]
+mod encode_runs;
+#[cfg(test)]
+mod faults;
 #[cfg(test)]
 mod headers;
 #[cfg(test)]
@@ -12,6 +18,8 @@ mod memory;
 #[cfg(test)]
 mod pairs;
 #[cfg(test)]
-mod runs;
+mod running;
 #[cfg(test)]
 mod streams;
+#[cfg(test)]
+mod words;

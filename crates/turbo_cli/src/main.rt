@@ -26,12 +26,13 @@ fn lent(alloc: Global, words: &[String]) -> Result<Vec<&str>, AllocError> {
     Ok(lent)
 }
 
-/// How a run ends whose words couldn't be had: for want of memory, or since one is no text.
+/// How a run ends whose words couldn't be had: for want of memory, or since one is no text, as a run
+/// without words.
 fn wordless(error: &io::Error) -> Status {
     match error.kind() {
         io::ErrorKind::OutOfMemory => Status::NoMemory,
         _ => Status::BadWords {
-            number: 9,
+            number: 1,
             place: 0,
         },
     }

@@ -1,2 +1,11 @@
-mod Refused
 mod CodewordSteps
+mod Listed
+mod Gathered
+mod Givens
+mod Ranged
+mod FullBuffer
+mod Sendings
+mod Fitting
+mod Asked
+mod BlockKinds
+mod EncodeSteps

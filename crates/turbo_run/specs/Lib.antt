@@ -1,7 +1,15 @@
 pub mod Number
+pub mod Texts
+pub mod Splitting
+pub mod Rules
+pub mod Operands
+pub mod Given
+pub mod Taken
+pub mod Transmissions
 pub mod Words
-pub mod Payload
-pub mod Matching
+pub mod Reading
 pub mod Codeword
 pub mod Coding
+pub mod Encode
+pub mod Encoding
 pub mod Run

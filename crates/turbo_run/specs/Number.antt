@@ -11,7 +11,8 @@ worth n (digit ∷ digits) = worth (10 * n + (digit - 48)) digits
 
 -- 1 to 20 digits, of which the first is 0 only where it is the only one
 abbrev pub is_spelt : List ℕ → Bool
-is_spelt text = nat_le 1 (length text) && nat_le (length text) 20 && list_all is_ascii_digit text && (length text == 1 || not (slice_index text 0 == 48))
+is_spelt text = nat_le 1 (length text) && nat_le (length text) 20 && list_all is_ascii_digit text
+    && (length text == 1 || not (slice_index text 0 == 48))
 
 abbrev pub number_of : List ℕ → Option ℕ
 number_of text = if is_spelt text then Some (worth 0 text) else None

@@ -6,13 +6,15 @@ use Rattle.run_loop.specs.Reply.{Reply, begun, EndsReply, IsEndingOf, ending_of_
 use Rattle.run_loop.specs.declared.status.Status.{Status}
 use Rattle.run_loop.specs.declared.status.Status.TheVariants.{BadWords}
 use Rattle.turbo_run.specs.Codeword.{codeword_answer}
+use Rattle.turbo_run.specs.Encode.{encode_answer, hard_header}
 use Rattle.turbo_run.specs.Words.{command_of}
 use Rattle.turbo_run.specs.declared.words.Command.{Command}
-use Rattle.turbo_run.specs.declared.words.Command.TheVariants.{Codeword}
+use Rattle.turbo_run.specs.declared.words.Command.TheVariants.{Codeword, Encode}
 
 -- what a command answers to an input
 abbrev pub answer_of : Command → (input : List ℕ) → Reply
-answer_of (Codeword g) input = begun 0 1 (codeword_answer g input)
+answer_of (Codeword m rv) input = begun 0 1 (codeword_answer m rv input)
+answer_of (Encode version tb sends) input = begun 0 1 (encode_answer (hard_header version tb sends) input)
 
 -- how a command ends before the fault line is written, where the source tells what it gives
 abbrev pub EndsAs : Command → Held → Held → Status → Type 0
@@ -20,7 +22,8 @@ EndsAs command old new status = (input : List ℕ) → old.left ≡ Some input
     → EndsReply (answer_of command input) old new status
 
 -- What a run of these words owes, of the edges before and after it.
-pub record Runs {S D : Type 0} (words : List (List ℕ)) (source source' : S) (out out' : D) (old new : Held) (before now : Counts)
+pub record Runs {S D : Type 0} (words : List (List ℕ)) (source source' : S) (out out' : D)
+    (old new : Held) (before now : Counts)
     (status : Status) : Type 0 where
   -- refused words: nothing is read, `out` is as before, and the report gains the fault line
   pub refused : IfErr (command_of words) (λ refusal. (status ≡ BadWords refusal.number refusal.place)

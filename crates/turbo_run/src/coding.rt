@@ -1,83 +1,73 @@
 //! The work of the command `codeword`.
-ghost use Rattle.std.specs.Prelude.{◌≡◌, ◌≤◌, ◌<◌, ◌%◌, ℕ, List, [], IfOk, OnOk, OnErr, take, length};
-ghost use Rattle.edge_io.specs.Edge.{Adds, HasCause, Rose};
+ghost use Rattle.std.specs.Prelude.{◌≡◌, ◌≤◌, [], IfOk, None, length};
 ghost use Rattle.turbo_run.specs.Codeword.{end_line, codeword_text};
-ghost use Rattle.turbo_run.specs.Coding.{IsCoded};
-ghost use Rattle.turbo_run.specs.Matching.{matching};
+ghost use Rattle.turbo_run.specs.Coding.{IsCoded, IsRoundOf};
 
-use crate::payload::{Payload, take_payload};
+use crate::reading::{Reading, read_up_to};
 use edge_io::{Sink, SinkFault, Source, write_all};
 use itoa::Buffer;
 use lte_bits::{List, NoMemory, pack};
-use rate_match::{Buffer as SoftBuffer, Match, codeword};
+use rate_match::{Match, codeword};
 use run_loop::{Block, Round, Stop, Work};
 use std::alloc::{AllocError, Global};
 
-/// The codeword of one transport block, of `g` bits: all in one round.
+/// The codeword of one transport block, over a full buffer: all in one round.
 #[derive(Debug, Drop)]
 pub struct Coding {
-    g: u32,
-    ghost some: { 2 ≤ g },
-    ghost small: { g ≤ 1000000 },
-    ghost even: { g % 2 ≡ 0 },
+    m: Match,
+    rv: u8,
+    ghost full: { m.limit ≡ None },
+    ghost version: { rv ≤ 3 },
 }
 
 impl Coding {
-    pub fn new(g: u32) -> Self
-        requires some { 2 ≤ g }
-        requires small { g ≤ 1000000 }
-        requires even { g % 2 ≡ 0 }
-        ensures { result.g ≡ g }
+    pub fn new(m: Match, rv: u8) -> Self
+        requires full { m.limit ≡ None }
+        requires version { rv ≤ 3 }
+        ensures m { result.m ≡ m }
+        ensures rv { result.rv ≡ rv }
     {
-        Coding { g }
+        Coding { m, rv }
     }
 }
 
-/// The rate matching of a codeword of `g` bits.
-fn matching(g: u32) -> Match
-    requires least { 2 ≤ g }
-    requires even { g % 2 ≡ 0 }
-    requires small { g ≤ 1000000 }
-    ensures { result ≡ matching g }
-{
-    Match::new(2, 1, g, SoftBuffer::Full).unwrap()
-}
+/// The most bytes of a transport block.
+const MOST_BYTES: usize = 18_722;
 
 /// The codeword as bytes.
-fn codeword_text(alloc: Global, payload: &[u8], g: u32) -> Result<List<u8>, NoMemory>
+#[tactic(auto, using(crate::proofs::FullBuffer::fits_full))]
+fn codeword_text(alloc: Global, payload: &[u8], m: &Match, rv: u8) -> Result<List<u8>, NoMemory>
     requires some { 1 ≤ length payload.now }
-    requires few { length payload.now ≤ 2 }
-    requires least { 2 ≤ g }
-    requires even { g % 2 ≡ 0 }
-    requires small { g ≤ 1000000 }
-    ensures { IfOk result (λ text. text ≡ codeword_text g payload.now) }
+    requires few { length payload.now ≤ 18722 }
+    requires full { m.now.limit ≡ None }
+    requires version { rv ≤ 3 }
+    ensures { IfOk result (λ text. text ≡ codeword_text m.now rv payload.now) }
 {
-    let bits = codeword(alloc, payload, &matching(g), 0)?;
+    let bits = codeword(alloc, payload, m, rv)?;
     pack(alloc, bits.as_slice())
 }
 
 /// `end bits G`.
-fn end_line(alloc: Global, g: u32) -> Result<Vec<u8>, AllocError>
-    ensures { IfOk result (λ line. line.items ≡ end_line g) }
+fn end_line(alloc: Global, m: &Match) -> Result<Vec<u8>, AllocError>
+    ensures { IfOk result (λ line. line.items ≡ end_line m.now) }
 {
     let mut buffer = Buffer::new();
     let mut line = Vec::from_slice(alloc, b"end bits ")?;
-    line.extend_from_slice(buffer.format(g).as_bytes())?;
+    line.extend_from_slice(buffer.format(m.g()).as_bytes())?;
     line.push(b'\n')?;
     Ok(line)
 }
 
 /// The block of a payload, and the end: all memory is had before anything is written.
-fn coded(alloc: Global, payload: &[u8], g: u32) -> Result<Round, NoMemory>
+fn coded(alloc: Global, payload: &[u8], m: &Match, rv: u8) -> Result<Round, NoMemory>
     requires some { 1 ≤ length payload.now }
-    requires few { length payload.now ≤ 2 }
-    requires least { 2 ≤ g }
-    requires even { g % 2 ≡ 0 }
-    requires small { g ≤ 1000000 }
-    ensures { IfOk result (λ round. IsCoded g payload.now round.blocks.items round.stop) }
+    requires few { length payload.now ≤ 18722 }
+    requires full { m.now.limit ≡ None }
+    requires version { rv ≤ 3 }
+    ensures { IfOk result (λ round. IsCoded m.now rv payload.now round.blocks.items round.stop) }
 {
-    let text = codeword_text(alloc, payload, g)?;
-    let last = end_line(alloc, g)?;
+    let text = codeword_text(alloc, payload, m, rv)?;
+    let last = end_line(alloc, m)?;
     let mut blocks = Vec::new(alloc);
     blocks.push(Block {
         text: text.into_vec(),
@@ -95,13 +85,37 @@ fn coded(alloc: Global, payload: &[u8], g: u32) -> Result<Round, NoMemory>
     })
 }
 
+/// A transport block whose length is refused at a byte.
+fn bad(alloc: Global, place: u64) -> Round
+    ensures blocks { result.blocks.items ≡ [] }
+    ensures stop { result.stop ≡ Stop.Bad 4 place }
+{
+    Round::stopped(alloc, Stop::Bad { number: 4, place })
+}
+
+/// The one round of an input that was read to its end.
+fn of_input(alloc: Global, input: &[u8], m: &Match, rv: u8) -> Round
+    requires few { length input.now ≤ 18722 }
+    requires full { m.now.limit ≡ None }
+    requires version { rv ≤ 3 }
+    ensures { IsRoundOf m.now rv input.now result }
+{
+    if input.is_empty() {
+        return bad(alloc, 0);
+    }
+    match coded(alloc, input, m, rv) {
+        Ok(round) => round,
+        Err(NoMemory) => Round::stopped(alloc, Stop::NoMemory),
+    }
+}
+
 impl Work for Coding {
     ghost use Rattle.std.specs.Prelude.{[]};
     ghost use Rattle.turbo_run.specs.Codeword.{codeword_answer};
 
     ghost opening = { λ _. [] };
 
-    ghost answer = { λ s input. codeword_answer s.g input };
+    ghost answer = { λ s input. codeword_answer s.m s.rv input };
 
     ghost budget = { λ _. 0 };
 
@@ -110,27 +124,11 @@ impl Work for Coding {
     }
 
     fn round<S: Source>(&mut self, alloc: Global, source: &mut S) -> Round {
-        match take_payload(alloc, source) {
-            Payload::Bytes(payload) => match coded(alloc, payload.as_slice(), self.g) {
-                Ok(round) => round,
-                Err(NoMemory) => Round::stopped(alloc, Stop::NoMemory),
-            },
-            Payload::Empty => Round::stopped(
-                alloc,
-                Stop::Bad {
-                    number: 4,
-                    place: 0,
-                },
-            ),
-            Payload::TooLong => Round::stopped(
-                alloc,
-                Stop::Bad {
-                    number: 9,
-                    place: 2,
-                },
-            ),
-            Payload::Fault => Round::stopped(alloc, Stop::Fault),
-            Payload::NoMemory => Round::stopped(alloc, Stop::NoMemory),
+        match read_up_to(alloc, source, MOST_BYTES + 1) {
+            Reading::Ended(input) => of_input(alloc, input.as_slice(), &self.m, self.rv),
+            Reading::Whole(_) => bad(alloc, MOST_BYTES as u64),
+            Reading::Fault => Round::stopped(alloc, Stop::Fault),
+            Reading::NoMemory => Round::stopped(alloc, Stop::NoMemory),
         }
     }
 }

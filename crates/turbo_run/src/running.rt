@@ -1,12 +1,16 @@
 //! The top call.
-ghost use Rattle.std.specs.Prelude.{◌≤◌};
+ghost use Rattle.std.specs.Prelude.{◌≡◌, ◌≤◌};
 ghost use Rattle.run_loop.specs.Edges.{held, counts, Causes};
 ghost use Rattle.turbo_run.specs.Run.{EndsAs, Runs};
-ghost use Rattle.turbo_run.specs.Words.{texts_of, IsLawful};
+ghost use Rattle.turbo_run.specs.Words.{IsLawful};
+ghost use Rattle.turbo_run.specs.Texts.{texts_of};
 
 use crate::coding::Coding;
+use crate::encoding::Encoding;
 use crate::words::{Command, read_words};
+use coded_stream::{Header, Kind};
 use edge_io::{Sink, Source};
+use rate_match::Match;
 use run_loop::{Status, drive, tell};
 use std::alloc::Global;
 use std::sync::Wait;
@@ -15,13 +19,14 @@ use std::thread::Threads;
 /// The codeword of one transport block.
 fn codeword<S: Source, D: Sink, R: Sink>(
     alloc: Global,
-    g: u32,
+    m: Match,
+    rv: u8,
     source: &mut S,
     out: &mut D,
     report: &mut R,
 ) -> Status
-    requires lawful { IsLawful (Command.Codeword g) }
-    ensures ended { EndsAs (Command.Codeword g)
+    requires lawful { IsLawful (Command.Codeword m rv) }
+    ensures ended { EndsAs (Command.Codeword m rv)
         (held (S.left source.old) (D.held out.old) (R.held report.old))
         (held (S.left source.new) (D.held out.new) (R.held report.new)) result }
     ensures causes { Causes
@@ -29,7 +34,27 @@ fn codeword<S: Source, D: Sink, R: Sink>(
         (counts (S.faults source.new) (D.faults out.new) (R.faults report.new)) result }
     ensures later { R.faults report.old ≤ R.faults report.new }
 {
-    drive(alloc, &mut Coding::new(g), source, out, report)
+    drive(alloc, &mut Coding::new(m, rv), source, out, report)
+}
+
+/// The hard stream of the blocks of an input.
+fn encode<S: Source, D: Sink, R: Sink>(
+    alloc: Global,
+    header: Header,
+    source: &mut S,
+    out: &mut D,
+    report: &mut R,
+) -> Status
+    requires kind { header.kind ≡ Kind.Hard }
+    ensures ended { EndsAs (Command.Encode header.version header.tb header.sends)
+        (held (S.left source.old) (D.held out.old) (R.held report.old))
+        (held (S.left source.new) (D.held out.new) (R.held report.new)) result }
+    ensures causes { Causes
+        (counts (S.faults source.old) (D.faults out.old) (R.faults report.old))
+        (counts (S.faults source.new) (D.faults out.new) (R.faults report.new)) result }
+    ensures later { R.faults report.old ≤ R.faults report.new }
+{
+    drive(alloc, &mut Encoding::new(header), source, out, report)
 }
 
 /// Does a command, without the line that tells a fault.
@@ -50,7 +75,22 @@ fn perform<S: Source, D: Sink, R: Sink>(
     ensures later { R.faults report.old ≤ R.faults report.new }
 {
     match command {
-        Command::Codeword { g } => codeword(alloc, g, source, out, report),
+        Command::Codeword { m, rv } => codeword(alloc, m, rv, source, out, report),
+        Command::Encode { version, tb, sends } => {
+            let kind = Kind::Hard;
+            encode(
+                alloc,
+                Header {
+                    version,
+                    kind,
+                    tb,
+                    sends,
+                },
+                source,
+                out,
+                report,
+            )
+        }
     }
 }
 

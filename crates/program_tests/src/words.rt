@@ -1,0 +1,103 @@
+//! Words that are refused, each before any other, and words that are accepted.
+use crate::running::words_of;
+use coded_stream::Version;
+use rate_match::{Buffer, Match, Sends};
+use std::test::Fail;
+use turbo_run::{Command, WordRefusal, read_words};
+
+#[test]
+fn the_first_word_that_is_refused_is_named(rt: HostRuntime) -> Result<(), Fail> {
+    let rows: [(&str, u8, usize); 44] = [
+        ("", 1, 0),
+        ("fly", 2, 0),
+        ("codewords g=2", 2, 0),
+        ("encode x=1", 3, 1),
+        ("encode tb", 3, 1),
+        ("encode =2", 3, 1),
+        ("codeword tb=2", 3, 1),
+        ("codeword nl=1", 3, 1),
+        ("encode tb=2 tb=3", 4, 2),
+        ("encode tb=2 tb=x", 4, 2),
+        ("encode qm=2 g=2 qm=4", 4, 3),
+        ("encode", 5, 1),
+        ("encode tb=2 qm=2 rv=0", 5, 4),
+        ("codeword g=132 qm=2", 5, 3),
+        ("encode tb=", 6, 1),
+        ("encode tb==2", 6, 1),
+        ("encode tb=02", 6, 1),
+        ("encode tb=02 x=1", 6, 1),
+        ("encode tb=+2", 6, 1),
+        ("encode tb=1,2", 6, 1),
+        ("encode tb=100000000000000000000", 6, 1),
+        ("encode rv=0,", 6, 1),
+        ("encode rv=,0", 6, 1),
+        ("encode rv=9,x", 6, 1),
+        ("encode tb=18446744073709551618", 7, 1),
+        ("encode tb=99999999999999999999", 7, 1),
+        ("encode tb=0", 7, 1),
+        ("encode tb=18723", 7, 1),
+        ("encode g=0", 7, 1),
+        ("encode g=1000001", 7, 1),
+        ("encode qm=3", 7, 1),
+        ("encode qm=8", 7, 1),
+        ("encode nl=3", 7, 1),
+        ("encode nir=1000001", 7, 1),
+        ("encode rv=0,0,0,0,0,0,0,0,0", 7, 1),
+        ("encode tb=2 g=132 qm=2 rv=4", 7, 4),
+        ("codeword g=132 qm=2 rv=0,1", 7, 3),
+        ("codeword g=133 qm=2 rv=0", 7, 1),
+        ("encode tb=2 g=132,8 qm=2 rv=0,1,2", 7, 2),
+        ("encode tb=2 nl=1,2 qm=2,4 g=8 rv=0,1,2", 7, 3),
+        ("encode tb=2 g=132,9 qm=2 rv=0,1", 7, 2),
+        ("encode tb=2 g=132,6 qm=2 rv=0,1 nl=1,2", 7, 2),
+        ("encode tb=766 g=132 qm=2 rv=0 nir=6176", 8, 5),
+        ("encode nir=6176 g=133 qm=2 rv=0 tb=766", 7, 2),
+    ];
+    for (line, number, place) in rows {
+        let words = words_of(rt.alloc(), line)?;
+        let want = Err(WordRefusal { number, place });
+        assert!(rt; read_words(&words) == want, "of {line}");
+    }
+    Ok(())
+}
+
+#[test]
+fn commands_hold_what_their_words_give(rt: HostRuntime) -> Result<(), Fail> {
+    let first = Match::new(2, 1, 132, Buffer::Limited(64)).expect(&rt, "a matching");
+    let second = Match::new(4, 2, 8, Buffer::Limited(64)).expect(&rt, "a matching");
+    let mut sends = Sends::one(first, 0).expect(&rt, "a transmission");
+    assert!(rt; sends.add(second, 3));
+    let words = words_of(
+        rt.alloc(),
+        "encode rv=0,3 nir=64 nl=1,2 tb=2 qm=2,4 g=132,8",
+    )?;
+    let want = Ok(Command::Encode {
+        version: Version::Two,
+        tb: 2,
+        sends,
+    });
+    assert!(rt; read_words(&words) == want);
+
+    let m = Match::new(6, 1, 1_000_000 - 4, Buffer::Full).expect(&rt, "a matching");
+    let words = words_of(rt.alloc(), "codeword rv=3 qm=6 g=999996")?;
+    assert!(rt; read_words(&words) == Ok(Command::Codeword { m, rv: 3 }));
+    Ok(())
+}
+
+#[test]
+fn the_version_depends_on_how_many_numbers_are_given(rt: HostRuntime) -> Result<(), Fail> {
+    let rows = [
+        ("encode tb=2 g=132 qm=2 rv=0,1", Version::One),
+        ("encode tb=2 g=132 qm=2 nl=1 rv=0,1", Version::One),
+        ("encode tb=2 g=132,132 qm=2 rv=0,1", Version::Two),
+        ("encode tb=2 g=132 qm=2 nl=1,1 rv=0,1", Version::Two),
+    ];
+    for (line, want) in rows {
+        let words = words_of(rt.alloc(), line)?;
+        match read_words(&words) {
+            Ok(Command::Encode { version, .. }) => assert!(rt; version == want, "of {line}"),
+            _ => assert!(rt; false, "of {line}"),
+        }
+    }
+    Ok(())
+}

@@ -1,0 +1,78 @@
+//! The blocks of a hard stream.
+ghost use Rattle.std.specs.Prelude.{◌≡◌, ◌≤◌, [], ◌∷◌, ◌++◌, IfOk, length};
+ghost use Rattle.sender_model.specs.Segmentation.{plan_of};
+ghost use Rattle.sender_model.specs.CircularBuffer.{Fits};
+ghost use Rattle.run_loop.specs.Step.{part_of};
+ghost use Rattle.coded_stream.specs.Header.{word_text};
+ghost use Rattle.coded_stream.specs.Shown.{header_of};
+ghost use Rattle.turbo_run.specs.Encode.{sent_text, block_text, block_part};
+
+use coded_stream::Header;
+use lte_bits::{NoMemory, pack};
+use rate_match::{Match, codeword};
+use run_loop::Block;
+use std::alloc::{AllocError, Global};
+
+/// The length word of a block, or for 0 the end word.
+#[tactic(auto, unfolding(coded_stream::specs::Header::word_text))]
+pub fn length_word(alloc: Global, length: u32) -> Result<Vec<u8>, AllocError>
+    ensures { IfOk result (λ text. text.items ≡ word_text length) }
+{
+    Vec::from_slice(alloc, &length.to_be_bytes())
+}
+
+/// Appends the codeword of one transmission.
+fn push_codeword(
+    alloc: Global,
+    text: &mut Vec<u8>,
+    payload: &[u8],
+    m: &Match,
+    rv: u8,
+) -> Result<(), NoMemory>
+    requires some { 1 ≤ length payload.now }
+    requires few { length payload.now ≤ 18722 }
+    requires fits { Fits m.now (plan_of (length payload.now)) }
+    requires version { rv ≤ 3 }
+    ensures { IfOk result (λ _. text.new.items
+        ≡ text.old.items ++ sent_text payload.now (record { m = m.now; rv = rv })) }
+{
+    let bits = codeword(alloc, payload, m, rv)?;
+    let bytes = pack(alloc, bits.as_slice())?;
+    text.extend_from_slice(bytes.as_slice())?;
+    Ok(())
+}
+
+/// The length word and the transmissions of a payload.
+#[tactic(auto, using(crate::proofs::Fitting::fits_at, crate::proofs::Fitting::version_at))]
+fn block_text(alloc: Global, payload: &[u8], header: &Header) -> Result<Vec<u8>, NoMemory>
+    requires some { 1 ≤ length payload.now }
+    requires few { length payload.now ≤ header.now.tb }
+    ensures { IfOk result (λ text. text.items ≡ block_text header.now.sends payload.now) }
+{
+    let mut text = length_word(alloc, payload.len() as u32)?;
+    for i in 0..header.sends.len() {
+        let (m, rv) = header.sends.at(i);
+        push_codeword(alloc, &mut text, payload, &m, rv)?;
+    }
+    Ok(text)
+}
+
+/// The block of a payload, which is known whole once so many bytes have come.
+pub fn block(
+    alloc: Global,
+    payload: &[u8],
+    header: &Header,
+    wants: usize,
+) -> Result<Block, NoMemory>
+    requires some { 1 ≤ length payload.now }
+    requires few { length payload.now ≤ header.now.tb }
+    ensures { IfOk result (λ block. part_of block ≡ block_part (header_of header.now) payload.now wants) }
+{
+    let text = block_text(alloc, payload, header)?;
+    Ok(Block {
+        text,
+        line: Vec::new(alloc),
+        size: payload.len(),
+        wants,
+    })
+}

@@ -1,0 +1,178 @@
+//! The work of the command `encode`.
+ghost use Rattle.std.specs.Prelude.{◌≡◌, ◌≤◌, ◌<◌, ◌+◌, ◌*◌, [], IfOk, length};
+ghost use Rattle.edge_io.specs.Edge.{Rose};
+ghost use Rattle.coded_stream.specs.Shown.{header_of};
+ghost use Rattle.turbo_run.specs.Encode.{blocks_line};
+ghost use Rattle.turbo_run.specs.Encoding.{IsBehindAll, IsEnd, IsGoing, IsLast, IsOfBlock, IsShort};
+
+use crate::blocks::{block, length_word};
+use crate::reading::{Reading, read_up_to};
+use coded_stream::{Header, write_header};
+use edge_io::{ReadStop, Sink, SinkFault, Source, read_exactly};
+use itoa::Buffer;
+use lte_bits::NoMemory;
+use run_loop::{Round, Stop, Work};
+use std::alloc::{AllocError, Global};
+
+/// The most blocks of a stream.
+const MOST_BLOCKS: u32 = 4096;
+
+/// The blocks of an input, one in each round.
+#[derive(Debug, Drop)]
+pub struct Encoding {
+    header: Header,
+    /// How many blocks were taken.
+    count: u32,
+    /// How many more may come.
+    more: u32,
+    ghost most: { more + count ≡ 4096 },
+}
+
+impl Encoding {
+    pub fn new(header: Header) -> Self
+        ensures header { result.header ≡ header }
+        ensures count { result.count ≡ 0 }
+        ensures more { result.more ≡ 4096 }
+    {
+        Encoding {
+            header,
+            count: 0,
+            more: MOST_BLOCKS,
+        }
+    }
+}
+
+/// `end blocks N`.
+fn blocks_line(alloc: Global, count: u32) -> Result<Vec<u8>, AllocError>
+    ensures { IfOk result (λ line. line.items ≡ blocks_line count) }
+{
+    let mut buffer = Buffer::new();
+    let mut line = Vec::from_slice(alloc, b"end blocks ")?;
+    line.extend_from_slice(buffer.format(count).as_bytes())?;
+    line.push(b'\n')?;
+    Ok(line)
+}
+
+/// The end behind so many blocks.
+fn end(alloc: Global, count: u32) -> Result<Stop, AllocError>
+    ensures { IfOk result (IsEnd count) }
+{
+    let closing = length_word(alloc, 0)?;
+    let last = blocks_line(alloc, count)?;
+    Ok(Stop::End {
+        closing,
+        last,
+        failed: false,
+    })
+}
+
+/// A round of one block.
+fn of_block(
+    alloc: Global,
+    header: &Header,
+    payload: &[u8],
+    wants: usize,
+    stop: Stop,
+) -> Result<Round, NoMemory>
+    requires some { 1 ≤ length payload.now }
+    requires few { length payload.now ≤ header.now.tb }
+    ensures { IfOk result (λ round. IsOfBlock (header_of header.now) payload.now wants stop round) }
+{
+    let mut blocks = Vec::new(alloc);
+    blocks.push(block(alloc, payload, header, wants)?)?;
+    Ok(Round { blocks, stop })
+}
+
+/// The round of a whole block.
+fn going(alloc: Global, header: &Header, payload: &[u8]) -> Round
+    requires some { 1 ≤ length payload.now }
+    requires few { length payload.now ≤ header.now.tb }
+    ensures { IsGoing (header_of header.now) payload.now result }
+{
+    match of_block(alloc, header, payload, payload.len(), Stop::Go) {
+        Ok(round) => round,
+        Err(NoMemory) => Round::stopped(alloc, Stop::NoMemory),
+    }
+}
+
+/// The round of a shorter block, and the end.
+fn short(alloc: Global, header: &Header, count: u32, payload: &[u8]) -> Result<Round, NoMemory>
+    requires some { 1 ≤ length payload.now }
+    requires few { length payload.now ≤ header.now.tb }
+    requires count { count < 4096 }
+    ensures { IfOk result (IsShort (header_of header.now) count payload.now) }
+{
+    let stop = end(alloc, count + 1)?;
+    of_block(alloc, header, payload, payload.len() + 1, stop)
+}
+
+/// The last round, of what is left behind so many blocks.
+fn last(alloc: Global, header: &Header, count: u32, payload: &[u8]) -> Round
+    requires few { length payload.now ≤ header.now.tb }
+    requires count { 0 < length payload.now → count < 4096 }
+    ensures { IsLast (header_of header.now) count payload.now result }
+{
+    if payload.is_empty() {
+        return match end(alloc, count) {
+            Ok(stop) => Round::stopped(alloc, stop),
+            Err(AllocError) => Round::stopped(alloc, Stop::NoMemory),
+        };
+    }
+    match short(alloc, header, count, payload) {
+        Ok(round) => round,
+        Err(NoMemory) => Round::stopped(alloc, Stop::NoMemory),
+    }
+}
+
+/// The round behind the last block that may come: a byte more is refused, and it is read without
+/// memory of its own.
+fn behind_all<S: Source>(alloc: Global, header: &Header, source: &mut S) -> Round
+    ensures bytes { IsBehindAll (header_of header.now) (S.left source.old) (S.left source.new) result }
+    ensures later { S.faults source.old ≤ S.faults source.new }
+    ensures fault { result.stop ≡ Stop.Fault → Rose (S.faults source.old) (S.faults source.new) }
+{
+    match read_exactly(source, &mut [0u8; 1]) {
+        Ok(()) => Round::stopped(
+            alloc,
+            Stop::Bad {
+                number: 8,
+                place: 4096 * header.tb as u64,
+            },
+        ),
+        Err(stop) => match stop {
+            ReadStop::Fault => Round::stopped(alloc, Stop::Fault),
+            ReadStop::Ended { .. } => last(alloc, header, MOST_BLOCKS, &[]),
+        },
+    }
+}
+
+impl Work for Encoding {
+    ghost use Rattle.coded_stream.specs.Header.{header_text};
+    ghost use Rattle.turbo_run.specs.Encode.{blocks_answer};
+
+    ghost opening = { λ s. header_text (header_of s.header) };
+
+    ghost answer = { λ s input. blocks_answer (header_of s.header) s.more s.count input };
+
+    ghost budget = { λ s. s.more };
+
+    fn open<D: Sink>(&self, out: &mut D) -> Result<(), SinkFault> {
+        write_header(out, &self.header)
+    }
+
+    fn round<S: Source>(&mut self, alloc: Global, source: &mut S) -> Round {
+        if self.more == 0 {
+            return behind_all(alloc, &self.header, source);
+        }
+        match read_up_to(alloc, source, self.header.tb) {
+            Reading::Whole(payload) => {
+                self.more -= 1;
+                self.count += 1;
+                going(alloc, &self.header, payload.as_slice())
+            }
+            Reading::Ended(payload) => last(alloc, &self.header, self.count, payload.as_slice()),
+            Reading::Fault => Round::stopped(alloc, Stop::Fault),
+            Reading::NoMemory => Round::stopped(alloc, Stop::NoMemory),
+        }
+    }
+}
