@@ -100,7 +100,10 @@ fn blocks_up_to_4096_are_taken(rt: HostRuntime) -> Result<(), Fail> {
 fn check_sum(bytes: &[u8]) -> u64 {
     let mut sum = 0u64;
     for byte in bytes {
-        sum = (sum % 65_521).saturating_mul(31).saturating_add(u64::from(*byte)) % 65_521;
+        sum = (sum % 65_521)
+            .saturating_mul(31)
+            .saturating_add(u64::from(*byte))
+            % 65_521;
     }
     sum
 }
