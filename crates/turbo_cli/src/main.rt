@@ -26,8 +26,8 @@ fn lent(alloc: Global, words: &[String]) -> Result<Vec<&str>, AllocError> {
     Ok(lent)
 }
 
-/// How a run ends whose words couldn't be had: for want of memory, or since one is no text, as a run
-/// without words.
+/// How a run ends whose words couldn't be had: for want of memory, or since one is no text. It is
+/// then a run without words.
 fn wordless(error: &io::Error) -> Status {
     match error.kind() {
         io::ErrorKind::OutOfMemory => Status::NoMemory,
