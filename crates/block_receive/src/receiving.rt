@@ -30,7 +30,8 @@ pub fn receive<D: BlockDecoder>(
 ) -> Result<TbOutcome, NoMemory>
     requires fits { FitsIn (common sends.now).limit (plan_in task.now).c (plan_in task.now).k_plus }
     requires values { length softs.now ≡ value_count sends.now }
-    ensures { IfOk result (λ o. o ≡ outcome (plan_in task.now) (effort_in task.now) (receptions sends.now softs.now)) }
+    ensures { IfOk result (λ o. o ≡ outcome (plan_in task.now) (effort_in task.now)
+        (receptions sends.now softs.now)) }
 {
     let plan = &task.plan;
     let mut buffers = HarqBuffers::new(alloc, plan, sends.buffer())?;

@@ -79,8 +79,8 @@ iterations_of results = sum_by (λ r. r.iterations) results
 abbrev pub if_passed : CodeResult → Option CodeResult
 if_passed r = if r.passed then Some r else None
 
--- what is held after a try that didn't deliver: the results that passed. But where all passed, the check of the
--- transport block failed, so that some of them are wrong, and none is held.
+-- what is held after a try that didn't deliver: the results that passed. But where all passed, the check of
+-- the transport block failed, so that some of them are wrong, and none is held.
 abbrev pub held_after : List CodeResult → Held
 held_after results = if all_passed results then [] else map if_passed results
 
