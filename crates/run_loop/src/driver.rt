@@ -25,6 +25,7 @@ pub fn drive<W: Work, S: Source, D: Sink, R: Sink>(
     out: &mut D,
     report: &mut R,
 ) -> Status
+    requires { W.ready work.old }
     ensures ended { (input : List ℕ) → S.left source.old ≡ Some input → W.fits work.old input →
         Ended (W.ahead work.old) (opened (W.opening work.old) (W.answer work.old input))
         (held (S.left source.old) (D.held out.old) (R.held report.old))

@@ -77,6 +77,9 @@ pub trait Work {
     // What the work knows of the input that is left.
     ghost fits: { Self → List ℕ → Type 0 } = { λ _ _. Unit {0} };
 
+    // Whether a round may be asked for, whatever the source tells.
+    ghost ready: { Self → Type 0 } = { λ _. Unit {0} };
+
     // How many blocks a round may read before they are written.
     ghost ahead: { Self → ℕ } = { λ _. 1 };
 
@@ -93,9 +96,11 @@ pub trait Work {
     /// Reads the input of the next blocks and computes them. All memory that the ending needs is
     /// had before its bytes are read.
     fn round<S: Source>(&mut self, alloc: Global, source: &mut S) -> Round
+        requires { ready self.old }
         ensures step { (input : List ℕ) → S.left source.old ≡ Some input → fits self.old input →
             Steps (ahead self.old) (answer self.old input) (answer self.new) (fits self.new)
             (S.left source.old) (S.left source.new) result }
+        ensures ready { result.stop ≡ Stop.Go → ready self.new }
         ensures ahead { ahead self.new ≡ ahead self.old }
         ensures fewer { Fewer (budget self.old) (budget self.new) result.stop }
         ensures later { S.faults source.old ≤ S.faults source.new }

@@ -11,6 +11,7 @@ use Rattle.run_loop.proofs.driver.drive.Goals as goal
 pub loop-sink-init : goal.loop-sink-init
 loop-sink-init g c = record {
   reached = λ input told fit. started _ _ _ _ input _ _ refl told fit c.in_default.ensures.ok;
+  ready = c.requires;
   ahead = refl;
   reads = omega arith;
   outs = omega (arith, c.in_default.ensures.cause.later);
@@ -24,6 +25,7 @@ loop-sink-preserved g c = record {
       let step = c.round-blocks.ensures.step r.rest r.left r.fit in
       let w = wrote _ _ _ _ (g.W.Work.answer c.round-blocks.new.self) _ (g.W.Work.fits c.round-blocks.new.self) _ _ (g.S.Source.left c.round-blocks.new.source) _ _ c.round-blocks.result r step c.in_default-put_all.ensures.bytes in
       went_on _ _ _ _ (g.W.Work.answer c.round-blocks.new.self) (g.W.Work.fits c.round-blocks.new.self) _ _ (g.S.Source.left c.round-blocks.new.source) _ _ w c.round-blocks.result.stop c.in-Go.is step.6;
+  ready = c.round-blocks.ensures.ready c.in-Go.is;
   ahead = c.round-blocks.ensures.ahead ∙ c.loop-sink.invariant.ahead;
   reads = omega (arith, c.loop-sink.invariant.reads, c.round-blocks.ensures.later);
   outs = omega (arith, c.loop-sink.invariant.outs, c.put_all.ensures.out_later);

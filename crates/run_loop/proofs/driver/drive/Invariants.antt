@@ -9,6 +9,7 @@ invariant-loop-sink g l = record {
       Reached (g.W.Work.opening l.fn.work) (g.W.Work.answer l.fn.work input) (g.W.Work.answer l.work) (g.W.Work.fits l.work)
       (held (g.S.Source.left l.fn.source) (g.D.Sink.held l.fn.out) (g.R.Sink.held l.fn.report))
       (held (g.S.Source.left l.source) (g.D.Sink.held l.out) (g.R.Sink.held l.report));
+  ready : g.W.Work.ready l.work;
   ahead : g.W.Work.ahead l.work ≡ g.W.Work.ahead l.fn.work;
   reads : g.S.Source.faults l.fn.source ≤ g.S.Source.faults l.source;
   outs : g.D.Sink.faults l.fn.out ≤ g.D.Sink.faults l.out;
