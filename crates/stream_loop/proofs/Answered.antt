@@ -1,0 +1,38 @@
+-- The answer to what a stream still says.
+use Rattle.std.proofs.Common.{ℕ, ◌-◌, ◌<◌, List, [], ◌∷◌, arith}
+use Rattle.coded_stream.specs.Header.{Header}
+use Rattle.coded_stream.specs.Blocks.{Block}
+use Rattle.coded_stream.specs.Body.{Ending, whole, bad}
+use Rattle.coded_stream.specs.Steps.{Reading, remaining, due_of, body_due}
+use Rattle.coded_stream.specs.Stream.{most_blocks}
+use Rattle.coded_stream.proofs.BlockSteps.{step-due}
+use Rattle.coded_stream.proofs.Remaining.{body-due}
+use Rattle.run_loop.specs.Due.{IsDue, IsWithin}
+use Rattle.stream_loop.specs.Handling.{Handling, blocks_answer}
+use Rattle.stream_loop.specs.Rounds.{answer_ahead}
+
+-- fewer bytes than the first thing of a stream wants leave it unknown
+due_behind : (w : Handling) (h : Header) (number failed : ℕ) (blocks : List Block) (ending : Ending) (n : ℕ) → n < due_of blocks ending →
+    IsDue (blocks_answer w h number failed blocks ending).due (blocks_answer w h number failed blocks ending).parts n
+due_behind w h number failed [] whole n few = few
+due_behind w h number failed [] (bad refusal) n few = few
+due_behind w h number failed (b ∷ blocks) ending n few = few
+
+pub due_ahead : (w : Handling) (r : Reading) (failed : ℕ) (input : List ℕ) (n : ℕ) → n < body_due (remaining r input) →
+    IsDue (answer_ahead w r failed input).due (answer_ahead w r failed input).parts n
+due_ahead w r failed input n few = due_behind w r.header r.blocks failed (remaining r input).blocks (remaining r input).ending n few
+
+-- before anything was read, something is due
+some_due : (r : Reading) (input : List ℕ) → 0 < body_due (remaining r input)
+some_due r input =
+    let more = most_blocks - r.blocks in
+    omega (arith, step-due r.header more r.place input 0 (omega arith) (omega arith), body-due r.header more r.place input)
+
+within_behind : (w : Handling) (h : Header) (number failed : ℕ) (blocks : List Block) (ending : Ending) → 0 < due_of blocks ending →
+    IsWithin 1 (blocks_answer w h number failed blocks ending) 0
+within_behind w h number failed [] whole some = (omega arith, λ _. some)
+within_behind w h number failed [] (bad refusal) some = (omega arith, λ _. some)
+within_behind w h number failed (b ∷ blocks) ending some = (omega arith, λ none. cc)
+
+pub within_ahead : (w : Handling) (r : Reading) (failed : ℕ) (input : List ℕ) → IsWithin 1 (answer_ahead w r failed input) 0
+within_ahead w r failed input = within_behind w r.header r.blocks failed (remaining r input).blocks (remaining r input).ending (some_due r input)

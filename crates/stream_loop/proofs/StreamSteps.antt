@@ -1,0 +1,134 @@
+-- The rounds of a command over a stream.
+use Rattle.std.proofs.Common.{◌≡◌, ℕ, ◌+◌, Bool, List, [], ◌∷◌, ◌++◌, length, Some, None, Ok, Err, refl, ap, sym, subst, ◌∙◌, arith}
+use Rattle.std.specs.declared.option.Option.{Option}
+use Rattle.edge_io.specs.Edge.{Takes}
+use Rattle.edge_io.proofs.Known.{takes_none}
+use Rattle.coded_stream.specs.Header.{Header}
+use Rattle.coded_stream.specs.Blocks.{Block}
+use Rattle.coded_stream.specs.Body.{Body, onto, no_more, whole, bad, next_start}
+use Rattle.coded_stream.specs.Steps.{Reading, remaining, GoesOn, Advances}
+use Rattle.coded_stream.specs.declared.stop.StreamStop.{StreamStop}
+use Rattle.coded_stream.specs.declared.stop.StreamStop.TheVariants as reader
+use Rattle.run_loop.specs.Answer.{Part, Answer, behind, size_of}
+use Rattle.run_loop.specs.Due.{IsWithin}
+use Rattle.run_loop.specs.Step.{Steps, Stops, ending_of}
+use Rattle.run_loop.specs.declared.work.Round.{Round}
+use Rattle.run_loop.specs.declared.work.Stop.{Stop}
+use Rattle.run_loop.specs.declared.work.Stop.TheVariants.{Go, End, Bad, Fault, NoMemory}
+use Rattle.run_loop.proofs.Alone.{step_alone}
+use Rattle.stream_loop.specs.Handling.{Handling, part, one_if, body_answer}
+use Rattle.stream_loop.specs.Rounds.{answer_ahead, block_of, stop_of, IsEnding, IsGoing}
+use Rattle.stream_loop.proofs.Answered.{due_ahead, within_ahead}
+
+-- these bytes were taken
+taken : (old new : Option (List ℕ)) (bytes left : List ℕ) → old ≡ Some (bytes ++ left) → new ≡ Some left → Takes old new bytes
+taken old new bytes left old_is new_is =
+    let P : Option (List ℕ) → Type 0 = λ o. Takes old o bytes in subst P (sym new_is) old_is
+
+-- ---- a block
+
+-- the reader behind a block
+abbrev pub past : Reading → Block → Reading
+past r b = record r { place = next_start r.place b; blocks = r.blocks + 1 }
+
+-- what the reader read, where its answer is a block
+pub record ReadBlock (r : Reading) (input : List ℕ) (b : Block) (old new : Option (List ℕ)) : Type 0 where
+  pub bytes : List ℕ
+  pub left : List ℕ
+  pub old_is : old ≡ Some (bytes ++ left)
+  pub new_is : new ≡ Some left
+  pub size : length bytes ≡ 4 + length b.bytes
+  pub says : remaining r input ≡ onto b (remaining (past r b) left)
+
+pub block_read : (r r' : Reading) (input into : List ℕ) (n : ℕ) (old new : Option (List ℕ)) →
+    GoesOn (remaining r input) (remaining r') into old new (Ok (Some n)) → Advances r r' into (Ok (Some n)) → ReadBlock r input (block_of n into) old new
+block_read r r' input into n old new on moved =
+    let P : Reading → Type 0 = λ s. remaining r input ≡ onto (block_of n into) (remaining s on.1) in
+    record { bytes = on.0; left = on.1; old_is = on.2; new_is = on.3; size = on.4; says = subst P moved.2 on.5 }
+
+-- the answer begins with the block's part
+answered : (w : Handling) (r : Reading) (failed : ℕ) (input : List ℕ) (b : Block) (old new : Option (List ℕ)) → (read : ReadBlock r input b old new) →
+    answer_ahead w r failed input
+    ≡ behind (part (w.block r.header r.blocks b) b ∷ []) (answer_ahead w (past r b) (failed + one_if (w.block r.header r.blocks b).failed) read.left)
+answered w r failed input b old new read = ap (body_answer w r.header r.blocks failed) read.says
+
+-- the block was made, and more is to come
+pub step_of_block : (w : Handling) (r r' : Reading) (failed failed' : ℕ) (input into : List ℕ) (n : ℕ) (fits : List ℕ → Type 0) (old new : Option (List ℕ)) (round : Round) (fails : Bool) →
+    GoesOn (remaining r input) (remaining r') into old new (Ok (Some n)) → Advances r r' into (Ok (Some n)) →
+    IsGoing (w.block r.header r.blocks (block_of n into)) (block_of n into) round fails → failed' ≡ failed + one_if fails → ((rest : List ℕ) → fits rest) →
+    Steps 1 (answer_ahead w r failed input) (answer_ahead w r' failed') fits old new round
+step_of_block w r r' failed failed' input into n fits old new round fails on moved made counted fit =
+    let b = block_of n into in
+    let p = part (w.block r.header r.blocks b) b in
+    let read = block_read r r' input into n old new on moved in
+    let more = answer_ahead w (past r b) (failed + one_if (w.block r.header r.blocks b).failed) read.left in
+    let same : more ≡ answer_ahead w r' failed' read.left =
+    ap (λ (f : Bool). answer_ahead w (past r b) (failed + one_if f) read.left) (sym made.1)
+    ∙ ap (λ (k : ℕ). answer_ahead w (past r b) k read.left) (sym counted)
+    ∙ ap (λ (s : Reading). answer_ahead w s failed' read.left) (sym moved.2) in
+    let one : length read.bytes ≡ size_of (p ∷ []) = omega (arith, read.size) in
+    let P : Stop → Type 0 = λ stop. Stops 1 more (answer_ahead w r' failed') fits new new stop in (
+      more,
+      read.bytes,
+      new,
+      answered w r failed input b old new read ∙ ap (λ (ps : List Part). behind ps more) (sym made.0.0),
+      one ∙ sym (ap size_of made.0.0),
+      taken old new read.bytes read.left read.old_is read.new_is,
+      subst P (sym made.0.1) (read.left, read.new_is, read.new_is, same, fit read.left),
+    )
+
+-- memory was wanting once it was read
+pub step_of_want : (w : Handling) (r r' : Reading) (failed : ℕ) (input into : List ℕ) (n : ℕ) (after : List ℕ → Answer) (fits : List ℕ → Type 0) (old new : Option (List ℕ)) (round : Round) →
+    GoesOn (remaining r input) (remaining r') into old new (Ok (Some n)) → Advances r r' into (Ok (Some n)) →
+    round.blocks.items ≡ [] → round.stop ≡ NoMemory → Steps 1 (answer_ahead w r failed input) after fits old new round
+step_of_want w r r' failed input into n after fits old new round on moved none is =
+    let b = block_of n into in
+    let read = block_read r r' input into n old new on moved in
+    let P : Answer → Type 0 = λ a. IsWithin 1 a (length read.bytes) in
+    step_alone 1 (answer_ahead w r failed input) after fits old new round NoMemory none is (
+      read.bytes,
+      taken old new read.bytes read.left read.old_is read.new_is,
+      subst P (sym (answered w r failed input b old new read)) (omega (arith, read.size), λ no. cc),
+    )
+
+-- ---- no block
+
+-- memory was wanting before anything was read
+pub step_of_none : (w : Handling) (r : Reading) (failed : ℕ) (input : List ℕ) (after : List ℕ → Answer) (fits : List ℕ → Type 0) (old new : Option (List ℕ)) (round : Round) →
+    round.blocks.items ≡ [] → round.stop ≡ NoMemory → new ≡ old → Steps 1 (answer_ahead w r failed input) after fits old new round
+step_of_none w r failed input after fits old new round none is same =
+    let P : Option (List ℕ) → Type 0 = λ o. Takes old o [] in
+    step_alone 1 (answer_ahead w r failed input) after fits old new round NoMemory none is ([], subst P (sym same) (takes_none old), within_ahead w r failed input)
+
+-- the reader stopped
+pub step_of_stop : (w : Handling) (r r' : Reading) (failed : ℕ) (input into : List ℕ) (stop : StreamStop) (after : List ℕ → Answer) (fits : List ℕ → Type 0) (old new : Option (List ℕ)) (round : Round) →
+    GoesOn (remaining r input) (remaining r') into old new (Err stop) →
+    round.blocks.items ≡ [] → round.stop ≡ stop_of stop → Steps 1 (answer_ahead w r failed input) after fits old new round
+step_of_stop w r r' failed input into (reader.Bad number place) after fits old new round (bytes, left, due, old_is, new_is, says) none is =
+    let refusal = no_more (bad (record { number = number; place = place; size = length bytes; due = due })) in
+    let P : Body → Type 0 = λ rest. Steps 1 (body_answer w r.header r.blocks failed rest) after fits old new round in
+    subst P (sym says)
+    (step_alone 1 (body_answer w r.header r.blocks failed refusal) after fits old new round (Bad number place) none is
+    (bytes, taken old new bytes left old_is new_is, refl, refl, refl))
+step_of_stop w r r' failed input into reader.Fault after fits old new round (bytes, took, few) none is =
+    step_alone 1 (answer_ahead w r failed input) after fits old new round Fault none is (bytes, took, due_ahead w r failed input (length bytes) few)
+step_of_stop w r r' failed input into reader.NoMemory after fits old new round same none is =
+    step_of_none w r failed input after fits old new round none is same
+
+ends : (w : Handling) (h : Header) (number failed : ℕ) (after : List ℕ → Answer) (fits : List ℕ → Type 0) (old new : Option (List ℕ)) (stop : Stop) → IsEnding w number failed stop → new ≡ Some [] →
+    Stops 1 (body_answer w h number failed (no_more whole)) after fits old new stop
+ends w h number failed after fits old new (End closing last some) is at = (at, refl, sym is.0, sym is.1, ap ending_of (sym is.2))
+ends w h number failed after fits old new Go is at = absurd is
+ends w h number failed after fits old new (Bad n place) is at = absurd is
+ends w h number failed after fits old new Fault is at = absurd is
+ends w h number failed after fits old new NoMemory is at = absurd is
+
+-- the stream ended
+pub step_of_end : (w : Handling) (r r' : Reading) (failed : ℕ) (input into : List ℕ) (after : List ℕ → Answer) (fits : List ℕ → Type 0) (old new : Option (List ℕ)) (round : Round) (stop : Stop) →
+    GoesOn (remaining r input) (remaining r') into old new (Ok None) →
+    IsEnding w r.blocks failed stop → round.blocks.items ≡ [] → round.stop ≡ stop → Steps 1 (answer_ahead w r failed input) after fits old new round
+step_of_end w r r' failed input into after fits old new round stop (bytes, old_is, new_is, size, says) end none is =
+    let P : Body → Type 0 = λ rest. Steps 1 (body_answer w r.header r.blocks failed rest) after fits old new round in
+    subst P (sym says)
+    (step_alone 1 (body_answer w r.header r.blocks failed (no_more whole)) after fits old new round stop none is
+    (ends w r.header r.blocks failed after fits old new stop end new_is))

@@ -1,0 +1,10 @@
+//! The loop of commands over a stream of coded blocks: the header is read, and then block by block
+//! each is handed to the command, up to the end of the stream or to the byte that is refused.
+#![tactic(auto)]
+
+mod handler;
+mod reading;
+mod running;
+
+pub use handler::{Handled, Handler};
+pub use running::run_stream;
