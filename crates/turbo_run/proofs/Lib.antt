@@ -1,11 +1,5 @@
 mod CodewordSteps
-mod Listed
-mod Gathered
-mod Givens
-mod Ranged
 mod FullBuffer
-mod Sendings
 mod Fitting
-mod Asked
 mod BlockKinds
 mod EncodeSteps

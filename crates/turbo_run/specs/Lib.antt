@@ -1,12 +1,3 @@
-pub mod Number
-pub mod Texts
-pub mod Splitting
-pub mod Rules
-pub mod Operands
-pub mod Given
-pub mod Taken
-pub mod Transmissions
-pub mod Words
 pub mod Reading
 pub mod Codeword
 pub mod Coding

@@ -7,9 +7,9 @@ use Rattle.run_loop.specs.declared.status.Status.{Status}
 use Rattle.run_loop.specs.declared.status.Status.TheVariants.{BadWords}
 use Rattle.turbo_run.specs.Codeword.{codeword_answer}
 use Rattle.turbo_run.specs.Encode.{encode_answer, hard_header}
-use Rattle.turbo_run.specs.Words.{command_of}
-use Rattle.turbo_run.specs.declared.words.Command.{Command}
-use Rattle.turbo_run.specs.declared.words.Command.TheVariants.{Codeword, Encode}
+use Rattle.command_words.specs.Words.{command_of}
+use Rattle.command_words.specs.declared.words.Command.{Command}
+use Rattle.command_words.specs.declared.words.Command.TheVariants.{Codeword, Encode}
 
 -- what a command answers to an input
 abbrev pub answer_of : Command → (input : List ℕ) → Reply

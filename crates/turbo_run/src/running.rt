@@ -2,13 +2,13 @@
 ghost use Rattle.std.specs.Prelude.{◌≡◌, ◌≤◌};
 ghost use Rattle.run_loop.specs.Edges.{held, counts, Causes};
 ghost use Rattle.turbo_run.specs.Run.{EndsAs, Runs};
-ghost use Rattle.turbo_run.specs.Words.{IsLawful};
-ghost use Rattle.turbo_run.specs.Texts.{texts_of};
+ghost use Rattle.command_words.specs.Lawful.{IsLawful};
+ghost use Rattle.command_words.specs.Texts.{texts_of};
 
 use crate::coding::Coding;
 use crate::encoding::Encoding;
-use crate::words::{Command, read_words};
 use coded_stream::{Header, Kind};
+use command_words::{Command, read_words};
 use edge_io::{Sink, Source};
 use rate_match::Match;
 use run_loop::{Status, drive, tell};

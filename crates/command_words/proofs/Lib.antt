@@ -1,0 +1,6 @@
+mod Listed
+mod Gathered
+mod Givens
+mod Ranged
+mod Sendings
+mod Asked

@@ -1,0 +1,21 @@
+-- What holds of each command that words ask for.
+use Rattle.std.specs.Prelude.{◌≡◌, ℕ, ◌≤◌, List, true, None}
+use Rattle.rate_match.specs.Fitting.{fits_all}
+use Rattle.rate_match.specs.Sendings.{AreSendings, common}
+use Rattle.rate_match.specs.declared.sends.Sending.{Sending}
+use Rattle.coded_stream.specs.Header.{AreHeld}
+use Rattle.coded_stream.specs.Limit.{is_limit}
+use Rattle.command_words.specs.declared.words.Command.{Command}
+use Rattle.command_words.specs.declared.words.Command.TheVariants.{Codeword, Encode}
+
+-- transmissions whose soft buffer fits every block of 1 to tb bytes
+pub record AreForBlocks (tb : ℕ) (sends : List Sending) : Type 0 where
+  pub some : 1 ≤ tb
+  pub few : tb ≤ 18722
+  pub sent : AreSendings sends
+  pub limited : is_limit (common sends).limit ≡ true
+  pub fits : fits_all (common sends).limit tb ≡ true
+
+abbrev pub IsLawful : Command → Type 0
+IsLawful (Codeword m rv) = (m.limit ≡ None) × (rv ≤ 3)
+IsLawful (Encode version tb sends) = AreForBlocks tb sends × AreHeld version sends

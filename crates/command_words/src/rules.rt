@@ -1,0 +1,93 @@
+//! What the commands take: for each name of an operand how its numbers are spelt, which of them
+//! are accepted, and what stands where it isn't given.
+ghost use Rattle.std.specs.Prelude.{◌≡◌, ◌<◌, ◌^◌, ◌≤◌, IsTrue};
+ghost use Rattle.command_words.specs.Rules.{name_text, most, in_range};
+
+/// The names of operands.
+#[derive(Clone, Copy, Debug, PartialEq, Eq)]
+pub enum Name {
+    /// The greatest payload in bytes.
+    Tb,
+    /// G.
+    G,
+    /// Q_m.
+    Qm,
+    /// The redundancy version.
+    Rv,
+    /// N_L.
+    Nl,
+    /// N_IR, 0 for a full buffer.
+    Nir,
+}
+
+impl Name {
+    pub fn text(self) -> &'static str
+        ensures { result.now ≡ name_text self }
+    {
+        match self {
+            Name::Tb => "tb",
+            Name::G => "g",
+            Name::Qm => "qm",
+            Name::Rv => "rv",
+            Name::Nl => "nl",
+            Name::Nir => "nir",
+        }
+    }
+}
+
+/// How numbers are spelt.
+#[derive(Clone, Copy, Debug, PartialEq, Eq)]
+pub enum Form {
+    /// A number.
+    Number,
+    /// A list of exactly one number.
+    ListOfOne,
+    /// A list of one to eight numbers, one for each transmission of a block.
+    ForTransmissions,
+}
+
+impl Form {
+    /// The most numbers.
+    pub fn most(self) -> usize
+        ensures value { result ≡ most self }
+        ensures few { result ≤ 8 }
+    {
+        match self {
+            Form::Number | Form::ListOfOne => 1,
+            Form::ForTransmissions => 8,
+        }
+    }
+}
+
+/// Which numbers are accepted.
+#[derive(Clone, Copy, Debug, PartialEq, Eq)]
+pub enum Range {
+    Between { least: u64, greatest: u64 },
+    Even { least: u64, greatest: u64 },
+}
+
+impl Range {
+    pub fn has(self, number: u128) -> bool
+        ensures value { result ≡ in_range self number }
+        ensures small { IsTrue result → number < 2 ^ 64 }
+    {
+        match self {
+            Range::Between { least, greatest } => {
+                (u128::from(least)..=u128::from(greatest)).contains(&number)
+            }
+            Range::Even { least, greatest } => {
+                (u128::from(least)..=u128::from(greatest)).contains(&number) && number % 2 == 0
+            }
+        }
+    }
+}
+
+/// What a command takes under one name.
+#[derive(Clone, Copy, Debug, PartialEq, Eq)]
+pub struct Rule {
+    pub name: Name,
+    pub form: Form,
+    pub range: Range,
+    /// The number that stands where none is given. `None`: one has to be given.
+    pub default: Option<u64>,
+}

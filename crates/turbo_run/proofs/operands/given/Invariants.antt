@@ -1,9 +1,0 @@
-use Rattle.std.proofs.Common.{◌≡◌, ◌+◌}
-use Rattle.std.specs.Prelude.{drop}
-use Rattle.turbo_run.specs.Operands.{given_from}
-use Rattle.turbo_run.specs.Texts.{texts_of}
-use Rattle.turbo_run.proofs.operands.given.Given as goal
-
-abbrev pub invariant-loop-index : goal.invariant-loop-index
-invariant-loop-index l =
-    given_from (l.index + 1) l.rule (texts_of (drop l.index l.operands)) ≡ given_from 1 l.rule (texts_of l.operands)

@@ -1,9 +1,0 @@
-use Rattle.std.proofs.Common.{◌≡◌}
-use Rattle.std.specs.Prelude.{drop}
-use Rattle.std.specs.List.{list_any}
-use Rattle.turbo_run.specs.Operands.{is_named}
-use Rattle.turbo_run.specs.Texts.{texts_of}
-use Rattle.turbo_run.proofs.operands.is_given.Given as goal
-
-abbrev pub invariant-loop-word : goal.invariant-loop-word
-invariant-loop-word l = list_any (is_named l.name) (texts_of (drop l.word-index l.words)) ≡ list_any (is_named l.name) (texts_of l.words)

@@ -1,7 +1,0 @@
-use Rattle.std.proofs.Common.{◌≡◌}
-use Rattle.std.specs.Prelude.{drop}
-use Rattle.turbo_run.specs.Operands.{rule_of}
-use Rattle.turbo_run.proofs.operands.rule_of.Given as goal
-
-abbrev pub invariant-loop-rule : goal.invariant-loop-rule
-invariant-loop-rule l = rule_of (drop l.rule-index l.rules) l.name ≡ rule_of l.rules l.name
