@@ -1,0 +1,110 @@
+//! What `decode` makes of a block.
+ghost use Rattle.std.specs.Prelude.{◌≡◌, ◌≤◌, ◌<◌, true, IfOk};
+ghost use Rattle.coded_stream.specs.Blocks.{IsBlock};
+ghost use Rattle.coded_stream.specs.Shown.{header_of};
+ghost use Rattle.coded_stream.specs.declared.kind.Kind.TheVariants as kind;
+ghost use Rattle.stream_loop.specs.Rounds.{block_of, handled_of};
+ghost use Rattle.decode_command.specs.Decoding.{decoded, handled};
+
+use crate::lines::{block_line, last_line};
+use block_receive::{BlockDecoder, Task, receive};
+use coded_stream::{Header, Want};
+use edge_io::{Sink, SinkFault, write_all};
+use lte_bits::NoMemory;
+use receiver_model::TbOutcome;
+use segmentation::plan;
+use std::alloc::Global;
+use stream_loop::{Handled, Handler};
+use stream_values::softs_of;
+
+/// Who decodes code blocks, and with what effort: at most so many windows, 1 to 64, and so many
+/// iterations, 1 to 16.
+#[derive(Drop)]
+pub struct Decoding<D: BlockDecoder> {
+    pub decoder: D,
+    pub windows: usize,
+    pub limit: usize,
+    pub ghost some_windows: { 1 ≤ windows },
+    pub ghost few_windows: { windows ≤ 64 },
+    pub ghost some_iterations: { 1 ≤ limit },
+    pub ghost few_iterations: { limit ≤ 16 },
+}
+
+impl<D: BlockDecoder> Decoding<D> {
+    /// What the transmissions of a block come to.
+    fn outcome(
+        &self,
+        alloc: Global,
+        header: &Header,
+        payload: usize,
+        bytes: &[u8],
+    ) -> Result<TbOutcome, NoMemory>
+        requires soft { header.now.kind ≡ kind.Soft }
+        requires accepted { IsBlock (header_of header.now) (block_of payload bytes.now) }
+        ensures { IfOk result (λ o. o ≡ decoded (record {
+          windows = self.now.windows;
+          limit = self.now.limit;
+        }) (header_of header.now) (block_of payload bytes.now)) }
+    {
+        let task = Task {
+            plan: plan(payload).unwrap(),
+            windows: self.windows,
+            limit: self.limit,
+        };
+        let softs = softs_of(alloc, bytes)?;
+        receive(alloc, &self.decoder, &task, &header.sends, softs.as_slice())
+    }
+}
+
+/// What an outcome adds.
+fn handled(alloc: Global, number: usize, outcome: TbOutcome) -> Result<Handled, NoMemory>
+    ensures { IfOk result (λ x. handled_of x ≡ handled number outcome) }
+{
+    let line = block_line(alloc, number, &outcome)?;
+    Ok(match outcome {
+        TbOutcome::Delivered { bytes, .. } => Handled {
+            text: bytes.into_vec(),
+            line,
+            failed: false,
+        },
+        TbOutcome::Failed { .. } => Handled {
+            text: Vec::new(alloc),
+            line,
+            failed: true,
+        },
+    })
+}
+
+impl<D: BlockDecoder + Drop> Handler for Decoding<D> {
+    ghost use Rattle.decode_command.specs.Decoding.{decoding};
+
+    ghost handling = { λ s. decoding (record { windows = s.windows; limit = s.limit }) };
+
+    fn want(&self) -> Want {
+        Want::Soft
+    }
+
+    fn open<S: Sink>(&self, _header: &Header, out: &mut S) -> Result<(), SinkFault> {
+        write_all(out, b"")
+    }
+
+    fn block(
+        &self,
+        alloc: Global,
+        header: &Header,
+        number: usize,
+        payload: usize,
+        bytes: &[u8],
+    ) -> Result<Handled, NoMemory> {
+        let outcome = self.outcome(alloc, header, payload, bytes)?;
+        handled(alloc, number, outcome)
+    }
+
+    fn closing(&self, alloc: Global) -> Result<Vec<u8>, NoMemory> {
+        Ok(Vec::new(alloc))
+    }
+
+    fn last(&self, alloc: Global, blocks: usize, failed: usize) -> Result<Vec<u8>, NoMemory> {
+        last_line(alloc, blocks, failed)
+    }
+}
