@@ -23,5 +23,6 @@ pub use header::Header;
 pub use kind::{Kind, Want};
 pub use reader::StreamReader;
 pub use stop::StreamStop;
+pub use transmission::transmission_size;
 pub use version::Version;
-pub use writing::{write_header, write_length};
+pub use writing::{length_word, write_header, write_length};

@@ -1,5 +1,5 @@
 //! Writing a header, and the words between transmissions.
-ghost use Rattle.std.specs.Prelude.{◌≡◌, ℕ, length, take, flat_map, OnOk, OnErr};
+ghost use Rattle.std.specs.Prelude.{◌≡◌, ℕ, length, take, flat_map, OnOk, OnErr, IfOk};
 ghost use Rattle.edge_io.specs.Edge.{Adds, HasCause};
 ghost use Rattle.coded_stream.specs.Header.{header_text, first_text, sending_text, limit_code, word_text};
 ghost use Rattle.coded_stream.specs.Shown.{header_of};
@@ -9,6 +9,7 @@ use crate::header::Header;
 use crate::version::Version;
 use edge_io::{Sink, SinkFault, write_all};
 use rate_match::{Buffer, Match, Sends};
+use std::alloc::{AllocError, Global};
 
 /// The number for the soft buffer of all transmissions.
 fn limit_code(sends: &Sends) -> u32
@@ -155,4 +156,12 @@ pub fn write_length<D: Sink>(sink: &mut D, length: u32) -> Result<(), SinkFault>
     ensures cause { HasCause (D.faults sink.old) (D.faults sink.new) result }
 {
     write_all(sink, &length.to_be_bytes())
+}
+
+/// The length word of a block, or for 0 the end word.
+#[tactic(auto, unfolding(crate::specs::Header::word_text))]
+pub fn length_word(alloc: Global, length: u32) -> Result<Vec<u8>, AllocError>
+    ensures { IfOk result (λ text. text.items ≡ word_text length) }
+{
+    Vec::from_slice(alloc, &length.to_be_bytes())
 }

@@ -7,19 +7,11 @@ ghost use Rattle.coded_stream.specs.Header.{word_text};
 ghost use Rattle.coded_stream.specs.Shown.{header_of};
 ghost use Rattle.turbo_run.specs.Encode.{sent_text, block_text, block_part};
 
-use coded_stream::Header;
+use coded_stream::{Header, length_word};
 use lte_bits::{NoMemory, pack};
 use rate_match::{Match, codeword};
 use run_loop::Block;
-use std::alloc::{AllocError, Global};
-
-/// The length word of a block, or for 0 the end word.
-#[tactic(auto, unfolding(coded_stream::specs::Header::word_text))]
-pub fn length_word(alloc: Global, length: u32) -> Result<Vec<u8>, AllocError>
-    ensures { IfOk result (λ text. text.items ≡ word_text length) }
-{
-    Vec::from_slice(alloc, &length.to_be_bytes())
-}
+use std::alloc::Global;
 
 /// Appends the codeword of one transmission.
 fn push_codeword(

@@ -5,9 +5,9 @@ ghost use Rattle.coded_stream.specs.Shown.{header_of};
 ghost use Rattle.turbo_run.specs.Encode.{blocks_line};
 ghost use Rattle.turbo_run.specs.Encoding.{IsBehindAll, IsEnd, IsGoing, IsLast, IsOfBlock, IsShort};
 
-use crate::blocks::{block, length_word};
+use crate::blocks::block;
 use crate::reading::{Reading, read_up_to};
-use coded_stream::{Header, write_header};
+use coded_stream::{Header, length_word, write_header};
 use edge_io::{ReadStop, Sink, SinkFault, Source, read_exactly};
 use itoa::Buffer;
 use lte_bits::NoMemory;

@@ -1,0 +1,3 @@
+pub mod Relaying
+pub mod Channel
+pub mod Upgrade
