@@ -11,8 +11,8 @@ use std::alloc::Global;
 fn push_counts(line: &mut Vec<u8>, transmissions: usize, iterations: usize) -> Result<(), NoMemory>
     ensures { IfOk result (λ _. line.new.items ≡ with_counts line.old.items transmissions iterations) }
 {
-    push_number(line, b" transmissions ", transmissions)?;
-    push_number(line, b" iterations ", iterations)?;
+    push_number(line, b" transmissions ", transmissions as u128)?;
+    push_number(line, b" iterations ", iterations as u128)?;
     end_line(line)
 }
 
@@ -21,14 +21,18 @@ pub fn block_line(alloc: Global, number: usize, outcome: &TbOutcome) -> Result<V
     ensures { IfOk result (λ line. line.items ≡ block_line number outcome.now) }
 {
     let mut line = Vec::new(alloc);
-    push_number(&mut line, b"block ", number)?;
+    push_number(&mut line, b"block ", number as u128)?;
     match outcome {
         TbOutcome::Delivered {
             bytes,
             transmissions,
             iterations,
         } => {
-            push_number(&mut line, b" delivered bytes ", bytes.as_slice().len())?;
+            push_number(
+                &mut line,
+                b" delivered bytes ",
+                bytes.as_slice().len() as u128,
+            )?;
             push_counts(&mut line, *transmissions, *iterations)?;
         }
         TbOutcome::Failed {
@@ -48,9 +52,9 @@ pub fn last_line(alloc: Global, blocks: usize, failed: usize) -> Result<Vec<u8>,
     ensures { IfOk result (λ line. line.items ≡ last_line blocks failed) }
 {
     let mut line = Vec::new(alloc);
-    push_number(&mut line, b"end blocks ", blocks)?;
-    push_number(&mut line, b" delivered ", blocks - failed)?;
-    push_number(&mut line, b" failed ", failed)?;
+    push_number(&mut line, b"end blocks ", blocks as u128)?;
+    push_number(&mut line, b" delivered ", (blocks - failed) as u128)?;
+    push_number(&mut line, b" failed ", failed as u128)?;
     end_line(&mut line)?;
     Ok(line)
 }

@@ -8,3 +8,4 @@ pub mod Selected
 pub mod CursorSteps
 pub mod BlockStreams
 pub mod Lengths
+pub mod EachSending

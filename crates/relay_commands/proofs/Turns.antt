@@ -10,15 +10,6 @@ use Rattle.coded_stream.specs.declared.kind.Kind.{Kind}
 use Rattle.relay_commands.specs.Relaying.{Relaying, sent_from}
 use Rattle.relay_commands.specs.Upgrade.{as_read}
 
-drop_at : (sends : List Sending) (i : ℕ) (s : Sending) → slice_get sends i ≡ Some s → drop i sends ≡ s ∷ drop (suc i) sends
-drop_at [] i s is = cc
-drop_at (t ∷ sends) zero s is = let same : t ≡ s = cc in ap (λ x. x ∷ sends) same
-drop_at (t ∷ sends) (suc i) s is = drop_at sends i s is
-
--- transmission i, in front of those behind it
-pub turn_at : (sends : List Sending) (i : ℕ) (s : Sending) → slice_get sends i ≡ Some s → drop i sends ≡ s ∷ drop (i + 1) sends
-turn_at sends i s is = drop_at sends i s is ∙ ap (λ n. s ∷ drop n sends) (sym (add-one i))
-
 -- the bytes of a transmission, and those behind it
 pub record Split (kind : Kind) (s : Sending) (sends : List Sending) (bytes : List ℕ) : Type 0 where
   pub room : transmission_size kind s.m.g ≤ length bytes

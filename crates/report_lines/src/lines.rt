@@ -7,7 +7,7 @@ use lte_bits::NoMemory;
 use std::alloc::Global;
 
 /// Appends a text and behind it a number.
-pub fn push_number(line: &mut Vec<u8>, text: &[u8], number: usize) -> Result<(), NoMemory>
+pub fn push_number(line: &mut Vec<u8>, text: &[u8], number: u128) -> Result<(), NoMemory>
     ensures { IfOk result (λ _. line.new.items ≡ line.old.items ++ text.now ++ decimal number) }
 {
     let mut buffer = Buffer::new();
@@ -29,7 +29,7 @@ pub fn blocks_line(alloc: Global, count: usize) -> Result<Vec<u8>, NoMemory>
     ensures { IfOk result (λ line. line.items ≡ blocks_line count) }
 {
     let mut line = Vec::new(alloc);
-    push_number(&mut line, b"end blocks ", count)?;
+    push_number(&mut line, b"end blocks ", count as u128)?;
     end_line(&mut line)?;
     Ok(line)
 }

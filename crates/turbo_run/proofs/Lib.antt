@@ -1,5 +1,5 @@
 mod CodewordSteps
 mod FullBuffer
-mod Fitting
+mod MoreText
 mod BlockKinds
 mod EncodeSteps

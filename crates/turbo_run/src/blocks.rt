@@ -35,7 +35,7 @@ fn push_codeword(
 }
 
 /// The length word and the transmissions of a payload.
-#[tactic(auto, using(crate::proofs::Fitting::fits_at, crate::proofs::Fitting::version_at))]
+#[tactic(auto, using(rate_match::proofs::EachSending::fits_at, rate_match::proofs::EachSending::version_at))]
 fn block_text(alloc: Global, payload: &[u8], header: &Header) -> Result<Vec<u8>, NoMemory>
     requires some { 1 ≤ length payload.now }
     requires few { length payload.now ≤ header.now.tb }

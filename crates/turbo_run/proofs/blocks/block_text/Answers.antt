@@ -2,7 +2,8 @@ use Rattle.std.proofs.Common.{ℕ, List, length, ◌++◌, take, flat_map, ap, s
 use Rattle.coded_stream.specs.Header.{word_text}
 use Rattle.rate_match.specs.declared.sends.Sending.{Sending}
 use Rattle.turbo_run.specs.Encode.{sent_text}
-use Rattle.turbo_run.proofs.Fitting.{fits_at, text_more}
+use Rattle.rate_match.proofs.EachSending.{fits_at}
+use Rattle.turbo_run.proofs.MoreText.{text_more}
 use Rattle.turbo_run.proofs.blocks.block_text.Goals as goal
 
 pub push_codeword-requires-clause-fits : goal.push_codeword-requires-clause-fits

@@ -3,8 +3,9 @@ use Rattle.coded_stream.specs.Blocks.{AreTransmissions, IsTransmission, transmis
 use Rattle.coded_stream.specs.Header.{word_text}
 use Rattle.coded_stream.specs.Shown.{header_of}
 use Rattle.rate_match.specs.declared.sends.Sending.{Sending}
+use Rattle.rate_match.proofs.EachSending.{turn_at}
 use Rattle.relay_commands.specs.Relaying.{sent_from}
-use Rattle.relay_commands.proofs.Turns.{split_turn, sent_on, turn_at}
+use Rattle.relay_commands.proofs.Turns.{split_turn, sent_on}
 use Rattle.relay_commands.proofs.relay.Relay.text.Goals as goal
 
 pub split_at-requires : goal.split_at-requires

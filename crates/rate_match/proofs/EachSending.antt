@@ -1,6 +1,5 @@
--- Each transmission of a header, and each payload that it fits.
-use Rattle.std.proofs.Common.{◌≡◌, ℕ, zero, suc, ◌+◌, ◌≤◌, true, List, [], ◌∷◌, ◌++◌, take, flat_map, Some, All, ap, sym, subst, ◌∙◌, arith, append_assoc, add-one}
-use Rattle.std.proofs.lemmas.List.{append-nil}
+-- Each of several transmissions, and each payload that its soft buffer fits.
+use Rattle.std.proofs.Common.{◌≡◌, ℕ, zero, suc, ◌+◌, ◌≤◌, true, List, [], ◌∷◌, drop, Some, All, ap, sym, subst, ◌∙◌, add-one, arith}
 use Rattle.std.specs.List.{slice_get}
 use Rattle.std.specs.declared.option.Option.{Option}
 use Rattle.sender_model.specs.CircularBuffer.{Fits, FitsIn}
@@ -24,14 +23,11 @@ fits_at sends tb n i s are fits is some few =
 pub version_at : (sends : List Sending) (i : ℕ) (s : Sending) → AreSendings sends → slice_get sends i ≡ Some s → s.rv ≤ 3
 version_at sends i s are is = each_at (λ x. x.rv ≤ 3) sends i s are.versions is
 
--- one more behind those before it
-more : (f : Sending → List ℕ) (sends : List Sending) (i : ℕ) (s : Sending) → slice_get sends i ≡ Some s →
-    flat_map f (take (suc i) sends) ≡ flat_map f (take i sends) ++ f s
-more f [] i s is = cc
-more f (t ∷ sends) zero s is = let same : t ≡ s = cc in append-nil (f t) ∙ ap f same
-more f (t ∷ sends) (suc i) s is =
-    ap (λ (xs : List ℕ). f t ++ xs) (more f sends i s is) ∙ sym (append_assoc (f t) (flat_map f (take i sends)) (f s))
+drop_at : (sends : List Sending) (i : ℕ) (s : Sending) → slice_get sends i ≡ Some s → drop i sends ≡ s ∷ drop (suc i) sends
+drop_at [] i s is = cc
+drop_at (t ∷ sends) zero s is = let same : t ≡ s = cc in ap (λ x. x ∷ sends) same
+drop_at (t ∷ sends) (suc i) s is = drop_at sends i s is
 
-pub text_more : (f : Sending → List ℕ) (sends : List Sending) (i : ℕ) (s : Sending) → slice_get sends i ≡ Some s →
-    flat_map f (take (i + 1) sends) ≡ flat_map f (take i sends) ++ f s
-text_more f sends i s is = ap (λ n. flat_map f (take n sends)) (add-one i) ∙ more f sends i s is
+-- transmission i, in front of those behind it
+pub turn_at : (sends : List Sending) (i : ℕ) (s : Sending) → slice_get sends i ≡ Some s → drop i sends ≡ s ∷ drop (i + 1) sends
+turn_at sends i s is = drop_at sends i s is ∙ ap (λ n. s ∷ drop n sends) (sym (add-one i))

@@ -1,0 +1,13 @@
+-- What contracts see of a trial.
+use Rattle.trial_command.specs.Trials.{Trial}
+use Rattle.trial_command.specs.declared.trial.Trial as rust
+
+abbrev pub trial_of : rust.Trial → Trial
+trial_of t = record {
+  seed = t.seed;
+  blocks = t.blocks;
+  tb = t.tb;
+  sends = t.sends;
+  strength = record { amp = t.amp; noise = t.noise };
+  effort = record { windows = t.windows; limit = t.limit };
+}
