@@ -1,0 +1,5 @@
+mod Continuing
+mod Digits
+mod PlaceLists
+mod Sequences
+mod Widening
