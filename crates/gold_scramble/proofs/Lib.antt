@@ -1,5 +1,10 @@
 mod Continuing
 mod Digits
+mod Moving
+mod Numbers
 mod PlaceLists
 mod Sequences
+mod Starting
+mod Stepping
 mod Widening
+mod Words

@@ -2,7 +2,7 @@
 ghost use Rattle.std.specs.Prelude.{◌≡◌, ◌≤◌, ◌<◌, ◌^◌};
 ghost use Rattle.lte_bits.specs.Bits.{number};
 ghost use Rattle.gold_scramble.specs.Places.{places};
-ghost use Rattle.gold_scramble.specs.Registers.{coming, moved, started};
+ghost use Rattle.gold_scramble.specs.Registers.{AreWhole, coming, moved, started};
 
 use crate::initial::Init;
 use crate::registers::{x1_continued, x2_continued};
@@ -11,6 +11,11 @@ use std::marker::Model;
 
 // 31 ones.
 const REGISTER: u64 = 0x7FFF_FFFF;
+
+// The 1,600 places before the sequence are left out in so many steps of so many places.
+const STEPS: u32 = 100;
+
+const STEP: u32 = 16;
 
 /// A generator of the pseudo-random sequence (36.211 7.2): a register of 31 places of x1, and one of x2. The
 /// bits still to come are the sums, place by place, of the two, continued by their recurrences.
@@ -41,8 +46,8 @@ impl Gold {
             x1: 1 << 30,
             x2: init.value().reverse_bits() >> 1,
         };
-        for _ in 0..100 {
-            let _skipped = gold.next_bits(16);
+        for _ in 0..STEPS {
+            let _left_out = gold.next_bits(STEP);
         }
         gold
     }
@@ -54,6 +59,7 @@ impl Gold {
         ensures bits { result ≡ number (places (coming self.old) 0 count) }
         ensures moved { self.new ≡ moved self.old count }
         ensures small { result < 2 ^ count }
+        ensures whole { AreWhole self.old }
     {
         let x1 = x1_continued(self.x1, count);
         let x2 = x2_continued(self.x2, count);

@@ -7,16 +7,24 @@ use crate::gold::Gold;
 use crate::initial::Init;
 use lte_bits::{Bit, Soft};
 
-/// The sum of a bit and the bit of weight 2^i of a word.
+/// The bit of weight 2^i of a word.
 #[inline]
-fn plus(bit: Bit, word: u32, i: usize) -> Bit
+fn digit(word: u32, i: usize) -> Bit
     requires { i < 32 }
-    ensures { result ≡ plus bit (binary_digit word i) }
+    ensures { result ≡ binary_digit word i }
 {
-    match (bit, (word >> i) & 1) {
-        (Bit::Zero, 0) | (Bit::One, 1) => Bit::Zero,
+    match (word >> i) % 2 {
+        0 => Bit::Zero,
         _ => Bit::One,
     }
+}
+
+/// The sum of two bits.
+#[inline]
+fn plus(a: Bit, b: Bit) -> Bit
+    ensures { result ≡ plus a b }
+{
+    if a == b { Bit::Zero } else { Bit::One }
 }
 
 /// Adds the bits of a word to at most 32 bits, its highest to the first.
@@ -25,7 +33,7 @@ fn add_word(bits: &mut [Bit], word: u32)
     ensures { bits.new ≡ added (at (highest_first 32 word)) bits.old }
 {
     for i in 0..bits.len() {
-        bits[i] = plus(bits[i], word, 31 - i);
+        bits[i] = plus(bits[i], digit(word, 31 - i));
     }
 }
 
@@ -42,15 +50,14 @@ pub fn scramble_bits(bits: &mut [Bit], init: Init)
     }
 }
 
-/// A soft value, turned where the bit of weight 2^i of a word is 1.
+/// A soft value, turned by a bit.
 #[inline]
-fn turn(soft: Soft, word: u32, i: usize) -> Soft
-    requires { i < 32 }
-    ensures { result ≡ turned_value (binary_digit word i) soft }
+fn turn(soft: Soft, by: Bit) -> Soft
+    ensures { result ≡ turned_value by soft }
 {
-    match (word >> i) & 1 {
-        0 => soft,
-        _ => Soft::from_i8(-soft.value()),
+    match by {
+        Bit::Zero => soft,
+        Bit::One => Soft::from_i8(-soft.value()),
     }
 }
 
@@ -60,7 +67,7 @@ fn turn_by_word(softs: &mut [Soft], word: u32)
     ensures { softs.new ≡ turned_by (at (highest_first 32 word)) softs.old }
 {
     for i in 0..softs.len() {
-        softs[i] = turn(softs[i], word, 31 - i);
+        softs[i] = turn(softs[i], digit(word, 31 - i));
     }
 }
 
