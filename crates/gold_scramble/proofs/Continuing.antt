@@ -1,5 +1,5 @@
 -- A sequence that is continued by its recurrence.
-use Rattle.std.proofs.Common.{◌≡◌, ℕ, zero, suc, ◌+◌, ◌-◌, ◌<◌, ◌≤◌, List, [], ◌∷◌, ◌++◌, length, get_or, refl, ap, sym, ◌∙◌, inl, inr, ⊎_elim, arith}
+use Rattle.std.proofs.Common.{◌≡◌, ℕ, zero, suc, ◌+◌, ◌-◌, ◌<◌, List, [], ◌∷◌, length, ap, sym, ◌∙◌, inl, inr, arith}
 use Rattle.std.proofs.lemmas.Bool.{cases_lt}
 use Rattle.std.proofs.lemmas.List.{get_or_append_left, get_or_push, length_push}
 use Rattle.lte_bits.specs.declared.bit.Bit.{Bit}
@@ -30,7 +30,7 @@ pub place_at : (next : Recurrence) (first : List Bit) (n i : ℕ) → 0 < length
 unfolding place
 place_at next first n i some h =
     elim (cases_lt i n) [
-      inl below ↦
+      | inl below ↦
           ap (λ (k : ℕ). at (continued next first k) i) (let e : n ≡ i + (n - i) = omega arith in e)
           ∙ stays next first i i (n - i) (omega arith)
       | inr above ↦
@@ -62,7 +62,7 @@ same_below : (next : Recurrence) (first : List Bit) (x : ℕ → Bit) → length
 same_below next first x long begins goes zero n h = absurd (omega arith)
 same_below next first x long begins goes (suc bound) n h =
     elim (cases_lt n 31) [
-      inl early ↦ begins n early ∙ sym (place_first next first n (omega arith))
+      | inl early ↦ begins n early ∙ sym (place_first next first n (omega arith))
       | inr late ↦
           let m = n - 31 in
           let e : n ≡ m + 31 = omega arith in

@@ -1,12 +1,10 @@
 -- The binary digits of numbers that are shifted, cut and added.
-use Rattle.std.proofs.Common.{◌≡◌, ℕ, zero, suc, ◌+◌, ◌-◌, ◌*◌, ◌/◌, ◌%◌, ◌^◌, ◌<◌, ◌≤◌, refl, ap, sym, ◌∙◌, arith}
+use Rattle.std.proofs.Common.{◌≡◌, ℕ, zero, suc, ◌+◌, ◌-◌, ◌*◌, ◌/◌, ◌%◌, ◌^◌, ◌<◌, refl, ap, sym, ◌∙◌, arith}
 use Rattle.std.specs.Prelude.{bit_xor}
 use Rattle.std.specs.Int.{bit_at}
 use Rattle.std.proofs.lemmas.Nat.{shr-shr, shr_split}
 use Rattle.std.proofs.lemmas.Nat.Bits.{bit_at-lt, bit_at_cat_high, bit_at_cat_low, bit_at_xor}
 use Rattle.lte_bits.specs.Bits.{bit_of}
-use Rattle.lte_bits.specs.declared.bit.Bit.{Bit}
-use Rattle.lte_bits.specs.declared.bit.Bit.TheVariants.{Zero, One}
 use Rattle.gold_scramble.specs.Places.{binary_digit, plus}
 
 bit_of_sum : (a b : ℕ) → a < 2 → b < 2 → bit_of ((a + b) % 2) ≡ plus (bit_of a) (bit_of b)

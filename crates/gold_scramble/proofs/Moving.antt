@@ -1,9 +1,9 @@
 -- A generator that has moved on.
-use Rattle.std.proofs.Common.{◌≡◌, ℕ, ◌+◌, ◌<◌, List, ◌++◌, length, refl, ap, sym, ◌∙◌, arith}
+use Rattle.std.proofs.Common.{◌≡◌, ℕ, ◌+◌, List, ◌++◌, length, ap, sym, ◌∙◌, arith}
 use Rattle.lte_bits.specs.declared.bit.Bit.{Bit}
-use Rattle.gold_scramble.specs.Places.{at, places, plus}
+use Rattle.gold_scramble.specs.Places.{places}
 use Rattle.gold_scramble.specs.Registers.{AreWhole, Registers, coming, moved, started}
-use Rattle.gold_scramble.specs.Sequence.{Recurrence, c, given, place, x1, x1_first, x1_recurrence, x2, x2_first, x2_recurrence}
+use Rattle.gold_scramble.specs.Sequence.{Recurrence, c, given, place, x1_first, x1_recurrence, x2_first, x2_recurrence}
 use Rattle.gold_scramble.proofs.Continuing.{place_first, place_next, place_only}
 use Rattle.gold_scramble.proofs.PlaceLists.{at-places, length-places, places-append, places_from, same_places}
 use Rattle.gold_scramble.proofs.Sequences.{length-x1_first, length-x2_first}
@@ -24,8 +24,8 @@ goes_on_behind next first n m long =
 pub place-moved : (next : Recurrence) (first : List Bit) (n k : ℕ) → length first ≡ 31 → place next (places (place next first) n 31) k ≡ place next first (n + k)
 place-moved next first n k long =
     sym (place_only next (places (place next first) n 31) (λ i. place next first (n + i)) (length-places (place next first) n 31)
-      (λ i h. sym (at-places (place next first) n 31 i h))
-      (λ m. goes_on_behind next first n m long) k)
+    (λ i h. sym (at-places (place next first) n 31 i h))
+    (λ m. goes_on_behind next first n m long) k)
 
 pub coming-moved : (g : Registers) (n k : ℕ) → AreWhole g → coming (moved g n) k ≡ coming g (n + k)
 coming-moved g n k whole =
@@ -51,8 +51,8 @@ pub coming-append : (g : Registers) (a b : ℕ) → AreWhole g → places (comin
 coming-append g a b whole =
     places-append (coming g) 0 a b
     ∙ ap (λ bits. places (coming g) 0 a ++ bits)
-      (same_places (coming g) (coming (moved g a)) (0 + a) 0 b
-        (λ i h. sym (coming-moved g a (0 + i) whole ∙ ap (coming g) (let e : a + (0 + i) ≡ 0 + a + i = omega arith in e))))
+    (same_places (coming g) (coming (moved g a)) (0 + a) 0 b
+    (λ i h. sym (coming-moved g a (0 + i) whole ∙ ap (coming g) (let e : a + (0 + i) ≡ 0 + a + i = omega arith in e))))
 
 -- ---- from the first places on
 

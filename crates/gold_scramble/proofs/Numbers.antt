@@ -1,13 +1,15 @@
 -- The number of bits, and the bits of a number.
-use Rattle.std.proofs.Common.{◌≡◌, ℕ, zero, suc, ◌+◌, ◌*◌, ◌/◌, ◌%◌, ◌^◌, ◌<◌, List, [], ◌∷◌, ◌++◌, length, refl, ap, sym, ◌∙◌, arith, length-append}
+use Rattle.std.proofs.Common.{◌≡◌, ℕ, zero, suc, ◌+◌, ◌*◌, ◌/◌, ◌%◌, ◌^◌, ◌<◌, ◌≤◌, List, [], ◌∷◌, ◌++◌, length, refl, ap, sym, ◌∙◌, arith, length-append}
 use Rattle.std.specs.Prelude.{bit_or}
 use Rattle.std.specs.Int.{bit_at}
 use Rattle.std.proofs.lemmas.Nat.{mod_low, mod-pow-add, or_shifted, pow-add, shl_whole}
 use Rattle.std.proofs.lemmas.Nat.Bits.{bit_at-lt}
+use Rattle.std.proofs.Math.Nat.{pow-suc}
 use Rattle.lte_bits.specs.Bits.{bit_of, digit, number}
 use Rattle.lte_bits.specs.declared.bit.Bit.{Bit}
 use Rattle.lte_bits.specs.declared.bit.Bit.TheVariants.{Zero, One}
 use Rattle.gold_scramble.specs.Places.{binary_digit, highest_first}
+use Rattle.gold_scramble.proofs.Digits.{digit_above, digit_below}
 use Rattle.gold_scramble.proofs.PlaceLists.{length-highest_first}
 
 digit-bit_of : (n : ℕ) → n < 2 → digit (bit_of n) ≡ n
@@ -50,3 +52,31 @@ number_modulo (suc w) z =
 
 pub number-highest_first : (w z : ℕ) → z < 2 ^ w → number (highest_first w z) ≡ z
 number-highest_first w z h = number_modulo w z ∙ (let e : z ≡ 0 * 2 ^ w + z = omega arith in ap (λ (n : ℕ). n % 2 ^ w) e ∙ mod_low 0 w z h)
+
+-- ---- the bits of a number of bits
+
+number-lt : (bits : List Bit) → number bits < 2 ^ length bits
+number-lt [] = omega arith
+number-lt (Zero ∷ bits) = let i = number-lt bits in let e = pow-suc 2 (length bits) in omega arith
+number-lt (One ∷ bits) = let i = number-lt bits in let e = pow-suc 2 (length bits) in omega arith
+
+lowest_only : (w n a z : ℕ) → w ≤ n → highest_first w (a * 2 ^ n + z) ≡ highest_first w z
+unfolding highest_first
+lowest_only zero n a z h = refl
+lowest_only (suc w) n a z h =
+    let top : binary_digit (a * 2 ^ n + z) w ≡ binary_digit z w = digit_below a n z w (omega arith) in
+    let rest : highest_first w (a * 2 ^ n + z) ≡ highest_first w z = lowest_only w n a z (omega arith) in
+    cc
+
+digit_of_bit : (b : Bit) → binary_digit (digit b) 0 ≡ b
+digit_of_bit Zero = refl
+digit_of_bit One = refl
+
+pub highest_first-number : (bits : List Bit) → highest_first (length bits) (number bits) ≡ bits
+unfolding highest_first
+highest_first-number [] = refl
+highest_first-number (b ∷ bits) =
+    let n = length bits in
+    let top : binary_digit (digit b * 2 ^ n + number bits) n ≡ b = digit_above (digit b) n (number bits) n 0 (number-lt bits) (omega arith) ∙ digit_of_bit b in
+    let rest : highest_first n (digit b * 2 ^ n + number bits) ≡ bits = lowest_only n n (digit b) (number bits) (omega arith) ∙ highest_first-number bits in
+    cc

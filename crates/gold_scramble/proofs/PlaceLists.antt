@@ -1,5 +1,5 @@
 -- Lists of places.
-use Rattle.std.proofs.Common.{◌≡◌, ℕ, zero, suc, ◌+◌, ◌-◌, ◌<◌, ◌≤◌, List, [], ◌∷◌, ◌++◌, length, get_or, drop, refl, ap, sym, ◌∙◌, inl, inr, arith, length-append}
+use Rattle.std.proofs.Common.{◌≡◌, ℕ, zero, suc, ◌+◌, ◌-◌, ◌<◌, List, ◌++◌, length, refl, ap, sym, ◌∙◌, inl, inr, arith, length-append}
 use Rattle.std.proofs.lemmas.Bool.{cases_lt}
 use Rattle.std.proofs.lemmas.List.{ext_get_or, get_or_append_left, get_or-append_right}
 use Rattle.std.proofs.lemmas.List.FromFn.{get_or-map-range_with_len, length-map-range_with_len}
@@ -29,7 +29,7 @@ same_places x y m n count same =
 joined : (x : ℕ → Bit) (n a b i : ℕ) → i < a + b → at (places x n a ++ places x (n + a) b) i ≡ x (n + i)
 joined x n a b i h =
     elim (cases_lt i a) [
-      inl below ↦
+      | inl below ↦
           get_or_append_left (places x n a) (places x (n + a) b) Zero i (omega (arith, length-places x n a))
           ∙ at-places x n a i below
       | inr above ↦
@@ -40,8 +40,8 @@ joined x n a b i h =
 pub places-append : (x : ℕ → Bit) (n a b : ℕ) → places x n (a + b) ≡ places x n a ++ places x (n + a) b
 places-append x n a b =
     sym (places_from x n (a + b) (places x n a ++ places x (n + a) b)
-      (length-append (places x n a) (places x (n + a) b) ∙ (let p = length-places x n a in let q = length-places x (n + a) b in omega arith))
-      (joined x n a b))
+    (length-append (places x n a) (places x (n + a) b) ∙ (let p = length-places x n a in let q = length-places x (n + a) b in omega arith))
+    (joined x n a b))
 
 pub length-highest_first : (w z : ℕ) → length (highest_first w z) ≡ w
 unfolding highest_first

@@ -1,10 +1,10 @@
 -- x1 and x2 by their first places and recurrences.
-use Rattle.std.proofs.Common.{◌≡◌, ℕ, zero, suc, ◌+◌, ◌<◌, List, ◌∷◌, length, get_or, refl, ap, sym, ◌∙◌, arith}
+use Rattle.std.proofs.Common.{◌≡◌, ℕ, zero, suc, ◌+◌, ◌<◌, length, refl, ap, sym, ◌∙◌, arith}
 use Rattle.std.proofs.lemmas.List.{get_or-replicate}
 use Rattle.lte_bits.specs.declared.bit.Bit.{Bit}
 use Rattle.lte_bits.specs.declared.bit.Bit.TheVariants.{Zero, One}
 use Rattle.gold_scramble.specs.Places.{at, binary_digit, plus}
-use Rattle.gold_scramble.specs.Sequence.{given, place, x1, x1_first, x1_recurrence, x2, x2_first, x2_recurrence}
+use Rattle.gold_scramble.specs.Sequence.{x1, x1_first, x1_recurrence, x2, x2_first, x2_recurrence}
 use Rattle.gold_scramble.proofs.Continuing.{place_first, place_next, place_only}
 use Rattle.gold_scramble.proofs.PlaceLists.{at-places, length-places}
 

@@ -1,8 +1,7 @@
 -- The numbers that a generator's registers begin with.
-use Rattle.std.proofs.Common.{◌≡◌, ℕ, zero, suc, ◌+◌, ◌-◌, ◌*◌, ◌/◌, ◌%◌, ◌^◌, ◌<◌, ◌≤◌, refl, ap, sym, ◌∙◌, inl, inr, arith, w32}
+use Rattle.std.proofs.Common.{◌≡◌, ℕ, zero, suc, ◌+◌, ◌-◌, ◌*◌, ◌/◌, ◌%◌, refl, ap, ◌∙◌, arith, w32}
 use Rattle.std.specs.Int.{reverse_bits, reverse_bits_onto}
-use Rattle.std.proofs.lemmas.Bool.{cases_lt}
-use Rattle.gold_scramble.specs.Places.{at, binary_digit, highest_first}
+use Rattle.gold_scramble.specs.Places.{binary_digit, highest_first}
 use Rattle.gold_scramble.specs.Sequence.{x1_first, x2_first}
 use Rattle.gold_scramble.proofs.Digits.{digit_above, digit_below, digit_of_rest, digit_shifted}
 use Rattle.gold_scramble.proofs.PlaceLists.{at-highest_first, length-highest_first, places_from}
@@ -34,6 +33,6 @@ unfolding x2_first
 reversed z =
     places_from (binary_digit z) 0 31 (highest_first 31 (reverse_bits w32 z / 2)) (length-highest_first 31 (reverse_bits w32 z / 2))
     (λ i h.
-      at-highest_first 31 (reverse_bits w32 z / 2) i (30 - i) (omega arith)
-      ∙ (digit_shifted (reverse_bits w32 z) 1 (30 - i) (31 - i) (omega arith)
-      ∙ digit_reversed 32 z 0 (31 - i) (0 + i) (omega arith)))
+    at-highest_first 31 (reverse_bits w32 z / 2) i (30 - i) (omega arith)
+    ∙ (digit_shifted (reverse_bits w32 z) 1 (30 - i) (31 - i) (omega arith)
+    ∙ digit_reversed 32 z 0 (31 - i) (0 + i) (omega arith)))

@@ -1,9 +1,8 @@
 -- A register as a number, and the places behind it.
-use Rattle.std.proofs.Common.{◌≡◌, ℕ, zero, suc, ◌+◌, ◌-◌, ◌*◌, ◌/◌, ◌%◌, ◌^◌, ◌<◌, ◌≤◌, List, length, refl, ap, sym, ◌∙◌, inl, inr, arith}
+use Rattle.std.proofs.Common.{◌≡◌, ℕ, ◌+◌, ◌-◌, ◌*◌, ◌/◌, ◌%◌, ◌^◌, ◌<◌, ◌≤◌, length, refl, ap, sym, ◌∙◌, inl, inr, arith}
 use Rattle.std.specs.Prelude.{bit_and, bit_or, bit_xor}
 use Rattle.std.proofs.lemmas.Bool.{cases_lt}
 use Rattle.std.proofs.lemmas.Nat.{and_mask, mod_below, mul-add-lt, one_shl, or_shifted, pow-add, pow_pos, shl_whole}
-use Rattle.lte_bits.specs.declared.bit.Bit.{Bit}
 use Rattle.gold_scramble.specs.Places.{at, binary_digit, highest_first, places, plus}
 use Rattle.gold_scramble.specs.Sequence.{Recurrence, given, place, x1_recurrence, x2_recurrence}
 use Rattle.gold_scramble.proofs.Continuing.{place_first, place_next}
@@ -51,7 +50,7 @@ widened_place next x count y few fresh i h =
     let j = 30 + count - i in
     let here : at (highest_first (31 + count) (wide x count y)) i ≡ binary_digit (wide x count y) j = at-highest_first (31 + count) (wide x count y) i j (omega arith) in
     elim (cases_lt i 31) [
-      inl old ↦
+      | inl old ↦
           here
           ∙ (digit_above x count (y % 2 ^ count) j (30 - i) (mod_below y (2 ^ count) (pow_pos count)) (omega arith)
           ∙ (sym (at-highest_first 31 x i (30 - i) (omega arith))

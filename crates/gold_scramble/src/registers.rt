@@ -27,6 +27,9 @@ pub fn x2_continued(register: u32, count: u32) -> u64
     ensures small { result < 2 ^ (31 + count) }
 {
     let x = u64::from(register);
-    let next = (x >> (28 - count)) ^ (x >> (29 - count)) ^ (x >> (30 - count)) ^ (x >> (31 - count));
+    let next = (x >> (28 - count))
+        ^ (x >> (29 - count))
+        ^ (x >> (30 - count))
+        ^ (x >> (31 - count));
     (x << count) | (next & ((1 << count) - 1))
 }

@@ -1,4 +1,4 @@
-use Rattle.std.proofs.Common.{◌≡◌, ◌+◌, ◌-◌, ◌<◌, length, ap, sym, ◌∙◌, arith}
+use Rattle.std.proofs.Common.{◌-◌, length, ap, sym, ◌∙◌, arith}
 use Rattle.std.proofs.lemmas.List.FromFn.{fill_by_all}
 use Rattle.lte_bits.specs.declared.bit.Bit.TheVariants.{Zero}
 use Rattle.gold_scramble.specs.Places.{at, highest_first, plus}
@@ -19,4 +19,4 @@ pub returns : goal.returns
 unfolding added
 returns c =
     fill_by_all (λ k. plus (at c.args.bits.now k) (at (highest_first 32 c.args.word) k)) c.loop-i.bits (length c.args.bits.now) Zero c.loop-i.auto.bits
-    (λ k h. c.loop-i.invariant.written k (omega arith))
+    (λ k h. c.loop-i.invariant.written k (omega arith) h)

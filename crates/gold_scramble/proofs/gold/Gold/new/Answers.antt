@@ -1,8 +1,8 @@
-use Rattle.std.proofs.Common.{◌≡◌, ◌+◌, ◌*◌, ◌/◌, ℕ, ap, sym, ◌∙◌, arith, w32}
+use Rattle.std.proofs.Common.{◌≡◌, ◌+◌, ◌*◌, ◌/◌, ℕ, ap, ◌∙◌, arith, w32}
 use Rattle.std.specs.Int.{reverse_bits}
 use Rattle.gold_scramble.specs.Places.{highest_first}
 use Rattle.gold_scramble.specs.Registers.{moved}
-use Rattle.gold_scramble.specs.declared.gold.TheConstants.{STEP, STEPS}
+use Rattle.gold_scramble.specs.declared.gold.TheConstants.{STEP}
 use Rattle.gold_scramble.proofs.Moving.{first-moved, first_registers, moved-moved, whole_first}
 use Rattle.gold_scramble.proofs.Starting.{one_and_zeros, reversed}
 use Rattle.gold_scramble.proofs.Stepping.{same_registers}

@@ -1,5 +1,5 @@
-use Rattle.std.proofs.Common.{◌≡◌, [], ◌∷◌, ap, sym, ◌∙◌, arith}
-use Rattle.lte_bits.specs.Bits.{bit_of, number}
+use Rattle.std.proofs.Common.{ap, sym, ◌∙◌, arith}
+use Rattle.lte_bits.specs.Bits.{bit_of}
 use Rattle.gold_scramble.specs.Places.{places}
 use Rattle.gold_scramble.specs.Registers.{coming}
 use Rattle.gold_scramble.proofs.Numbers.{bit_of-number, one_from_number}

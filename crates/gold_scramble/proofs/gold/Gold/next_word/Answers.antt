@@ -1,4 +1,4 @@
-use Rattle.std.proofs.Common.{◌≡◌, ◌+◌, ◌*◌, ◌^◌, ℕ, ◌++◌, ap, sym, ◌∙◌, arith}
+use Rattle.std.proofs.Common.{◌+◌, ◌*◌, ◌^◌, ℕ, ap, sym, ◌∙◌}
 use Rattle.lte_bits.specs.Bits.{number}
 use Rattle.gold_scramble.specs.Places.{places}
 use Rattle.gold_scramble.specs.Registers.{coming, moved}
