@@ -17,7 +17,8 @@ turned_value One v = neg_ℤ v
 
 -- each soft value turned by the sequence's bit at its place
 unfoldable pub turned_by : (ℕ → Bit) → List ℤ → List ℤ
-turned_by s softs = map (λ i. turned_value (s i) (slice_index_or softs i (pos 0))) (range_with_len 0 (length softs))
+turned_by s softs =
+    map (λ i. turned_value (s i) (slice_index_or softs i (pos 0))) (range_with_len 0 (length softs))
 
 -- a transmission's bits, scrambled
 abbrev pub scrambled : (init : ℕ) → List Bit → List Bit

@@ -37,8 +37,8 @@ fn add_word(bits: &mut [Bit], word: u32)
     }
 }
 
-/// Scrambles a transmission's bits: adds the sequence's bit of each place (36.211 6.3.1, 5.3.1). Doing it twice
-/// gives them back.
+/// Scrambles a transmission's bits: adds the sequence's bit of each place (36.211 6.3.1, 5.3.1). Doing it
+/// twice gives them back.
 pub fn scramble_bits(bits: &mut [Bit], init: Init)
     ensures { bits.new ≡ scrambled init bits.old }
 {
@@ -71,8 +71,8 @@ fn turn_by_word(softs: &mut [Soft], word: u32)
     }
 }
 
-/// Turns a transmission's soft values of scrambled bits into those of the bits before: each is negated where the
-/// sequence's bit of its place is 1. Doing it twice gives them back.
+/// Turns a transmission's soft values of scrambled bits into those of the bits before: each is negated where
+/// the sequence's bit of its place is 1. Doing it twice gives them back.
 pub fn turn_softs(softs: &mut [Soft], init: Init)
     ensures { softs.new ≡ turned init softs.old }
 {
