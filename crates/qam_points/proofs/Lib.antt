@@ -1,0 +1,4 @@
+mod Folding
+mod Least
+mod Signs
+mod Squares

@@ -1,0 +1,1 @@
+//! Soft values of received points.
