@@ -1,4 +1,6 @@
+mod Coordinates
 mod Folding
 mod Least
 mod Signs
+mod SignsOfThree
 mod Squares

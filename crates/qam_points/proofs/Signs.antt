@@ -113,12 +113,12 @@ pub record AreMirrored (n amp k : ℕ) : Type 0 where
   pub zero : coordinate_near n amp (negsuc k) 0 Zero ≡ coordinate_near n amp (pos (suc k)) 0 One
   pub one : coordinate_near n amp (negsuc k) 0 One ≡ coordinate_near n amp (pos (suc k)) 0 Zero
 
-value_above : (n amp x v : ℕ) → 0 < amp → Nearest n amp x v → coordinate_value n amp (pos x) 0 ≡ pos v
+pub value_above : (n amp x v : ℕ) → 0 < amp → Nearest n amp x v → coordinate_value n amp (pos x) 0 ≡ pos v
 value_above n amp x v some near =
     by_levels n amp (pos x) near.same near.other near.same_is near.other_is
     ∙ quotient_up near.same near.other near.y near.s amp v some near.apart near.product
 
-value_below : (n amp k v : ℕ) → 0 < amp → AreMirrored n amp k → Nearest n amp (suc k) v → coordinate_value n amp (negsuc k) 0 ≡ neg_ℤ (pos v)
+pub value_below : (n amp k v : ℕ) → 0 < amp → AreMirrored n amp k → Nearest n amp (suc k) v → coordinate_value n amp (negsuc k) 0 ≡ neg_ℤ (pos v)
 value_below n amp k v some mirrored near =
     by_levels n amp (negsuc k) near.other near.same (mirrored.zero ∙ near.other_is) (mirrored.one ∙ near.same_is)
     ∙ quotient_down near.same near.other near.y near.s amp v some near.apart near.product
@@ -158,3 +158,10 @@ value_of_sign_of_two amp (negsuc k) some =
       inl h ↦ value_below 2 amp k (suc k) some (mirrored_two amp k) (nearest_of_two_below amp (suc k) h) ∙ omega (arith, ints, clamps)
       | inr h ↦ value_below 2 amp k (2 * (suc k - amp)) some (mirrored_two amp k) (nearest_of_two_above amp (suc k) h) ∙ omega (arith, ints, clamps)
     ]
+
+-- a bound as the code has it
+pub within_is : (r t u : ℤ) (k n amp : ℕ) → r ≡ clamped (k * n) u → u ≡ t → n ≡ amp → r ≡ clamped (k * amp) t
+within_is r t u k n amp is e f = is ∙ (ap (clamped (k * n)) e ∙ ap (λ (m : ℕ). clamped (k * m) t) f)
+
+pub sign_of_two_by : (amp : ℕ) (t w : ℤ) → w ≡ clamped (2 * amp) t → pos 2 *ℤ t -ℤ w ≡ sign_of_two amp t
+sign_of_two_by amp t w e = ap (λ (z : ℤ). pos 2 *ℤ t -ℤ z) e

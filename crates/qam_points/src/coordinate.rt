@@ -1,8 +1,20 @@
-//! One coordinate of a received point: for each of its bits by how much the nearest level with a 1 is further than the
-//! nearest with a 0.
+//! One coordinate of a received point by itself, for each of its bits. The nearest level with a 1 and the nearest
+//! with a 0 give a sum of pieces of the coordinate, so that no level is tried and nothing is divided.
 ghost use Rattle.std.specs.Prelude.{◌≡◌, ◌≤◌, ◌*◌, ◌-ℤ◌, pos, unsigned_abs};
-ghost use Rattle.lte_bits.specs.Softs.{IsWithin};
+ghost use Rattle.lte_bits.specs.Softs.{IsWithin, clamped};
 ghost use Rattle.qam_points.specs.Coordinate.{coordinate_value};
+
+/// The part of a coordinate that lies within a bound of 0.
+#[inline]
+fn within(bound: u16, t: i32) -> i32
+    requires bound { bound ≤ 762 }
+    requires t { IsWithin 5000 t }
+    ensures value { result ≡ clamped bound t }
+    ensures range { IsWithin 762 result }
+{
+    let bound = i32::from(bound);
+    t.clamp(-bound, bound)
+}
 
 /// Of the first of a coordinate's two bits, its sign.
 #[inline]
@@ -12,8 +24,7 @@ pub fn first_of_two(t: i32, amp: u8) -> i32
     ensures value { result ≡ coordinate_value 2 amp t 0 }
     ensures range { IsWithin 12000 result }
 {
-    let amp = i32::from(amp);
-    2 * t - t.clamp(-2 * amp, 2 * amp)
+    2 * t - within(2 * u16::from(amp), t)
 }
 
 /// Of the second of its two bits, its size.
@@ -35,14 +46,11 @@ pub fn first_of_three(t: i32, amp: u8) -> i32
     ensures value { result ≡ coordinate_value 3 amp t 0 }
     ensures range { IsWithin 40000 result }
 {
-    let amp = i32::from(amp);
-    4 * t
-        - t.clamp(-2 * amp, 2 * amp)
-        - t.clamp(-4 * amp, 4 * amp)
-        - t.clamp(-6 * amp, 6 * amp)
+    let amp = u16::from(amp);
+    4 * t - within(2 * amp, t) - within(4 * amp, t) - within(6 * amp, t)
 }
 
-/// By how much its size is below the middle of all sizes: a coordinate of two bits, the second and third of three.
+/// By how much its size is below the middle of all sizes. Its second and third bit are the two of a coordinate there.
 #[inline]
 pub fn rest_of_three(t: i32, amp: u8) -> i32
     requires t { IsWithin 4000 t }

@@ -7,6 +7,6 @@ pub mod laws;
 pub mod mapping;
 pub mod point;
 
- 
+pub use demapping::demap;
 pub use mapping::map;
 pub use point::Point;
