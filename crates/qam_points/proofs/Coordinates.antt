@@ -5,9 +5,9 @@ use Rattle.std.proofs.lemmas.Int.{ints}
 use Rattle.lte_bits.specs.Softs.{clamped}
 use Rattle.lte_bits.specs.declared.bit.Bit.{Bit}
 use Rattle.lte_bits.specs.declared.bit.Bit.TheVariants.{Zero, One}
-use Rattle.qam_points.specs.Constellation.{even_bits, level, odd_bits, point}
+use Rattle.qam_points.specs.Constellation.{even_bits, odd_bits, point}
 use Rattle.qam_points.specs.Coordinate.{coordinate_near, coordinate_value, level_distance}
-use Rattle.qam_points.specs.Demapping.{IsLeast, IsNear, distance, least_over, near, soft_value, square}
+use Rattle.qam_points.specs.Demapping.{IsLeast, IsNear, distance, least_over, near, soft_value}
 use Rattle.qam_points.specs.declared.point.Point.{Point}
 use Rattle.qam_points.proofs.Least.{least_of_all, least_one, least_with_bit}
 
@@ -106,14 +106,14 @@ first_near n amp y j b m k own other =
         woven u w,
         (
           length-woven n u w long wide,
-          sym (at_even (woven u w) j (2 * j) refl) ∙ (ap (λ x. get_or x j Zero) (even_bits-woven n u w long wide) ∙ own.attained.1.1)
+          sym (at_even (woven u w) j (2 * j) refl) ∙ (ap (λ x. get_or x j Zero) (even_bits-woven n u w long wide) ∙ own.attained.1.1),
         ),
-        distance-woven n amp y u w long wide ∙ (ap (λ (z : ℤ). z +ℤ level_distance amp y.q w) own.attained.2 ∙ ap (λ (z : ℤ). m +ℤ z) other.attained.2)
+        distance-woven n amp y u w long wide ∙ (ap (λ (z : ℤ). z +ℤ level_distance amp y.q w) own.attained.2 ∙ ap (λ (z : ℤ). m +ℤ z) other.attained.2),
       );
       bound = λ x ok.
-        sums_le m k (level_distance amp y.i (even_bits x)) (level_distance amp y.q (odd_bits x))
-        (own.bound (even_bits x) (length-even_bits n x ok.0, at_even x j (2 * j) refl ∙ ok.1))
-        (other.bound (odd_bits x) (length-odd_bits n x ok.0));
+          sums_le m k (level_distance amp y.i (even_bits x)) (level_distance amp y.q (odd_bits x))
+          (own.bound (even_bits x) (length-even_bits n x ok.0, at_even x j (2 * j) refl ∙ ok.1))
+          (other.bound (odd_bits x) (length-odd_bits n x ok.0));
     }
 
 second_near : (n amp : ℕ) (y : Point) (j : ℕ) (b : Bit) (m k : ℤ) → IsLeast (Half n j b) (level_distance amp y.q) m → IsLeast (λ (w : List Bit). length w ≡ n) (level_distance amp y.i) k
@@ -128,14 +128,14 @@ second_near n amp y j b m k own other =
         woven u w,
         (
           length-woven n u w wide long,
-          sym (at_odd (woven u w) j (2 * j + 1) refl) ∙ (ap (λ x. get_or x j Zero) (odd_bits-woven n u w wide long) ∙ own.attained.1.1)
+          sym (at_odd (woven u w) j (2 * j + 1) refl) ∙ (ap (λ x. get_or x j Zero) (odd_bits-woven n u w wide long) ∙ own.attained.1.1),
         ),
-        distance-woven n amp y u w wide long ∙ (ap (λ (z : ℤ). z +ℤ level_distance amp y.q w) other.attained.2 ∙ ap (λ (z : ℤ). k +ℤ z) own.attained.2)
+        distance-woven n amp y u w wide long ∙ (ap (λ (z : ℤ). z +ℤ level_distance amp y.q w) other.attained.2 ∙ ap (λ (z : ℤ). k +ℤ z) own.attained.2),
       );
       bound = λ x ok.
-        sums_le k m (level_distance amp y.i (even_bits x)) (level_distance amp y.q (odd_bits x))
-        (other.bound (even_bits x) (length-even_bits n x ok.0))
-        (own.bound (odd_bits x) (length-odd_bits n x ok.0, at_odd x j (2 * j + 1) refl ∙ ok.1));
+          sums_le k m (level_distance amp y.i (even_bits x)) (level_distance amp y.q (odd_bits x))
+          (other.bound (even_bits x) (length-even_bits n x ok.0))
+          (own.bound (odd_bits x) (length-odd_bits n x ok.0, at_odd x j (2 * j + 1) refl ∙ ok.1));
     }
 
 near_least : (qm amp : ℕ) (y : Point) (i : ℕ) (b : Bit) → i < qm → IsNear qm amp y i b (near qm amp y i b)
@@ -170,12 +170,12 @@ same_second p q m l k e f = omega (arith, ints)
 
 -- ---- soft values
 
-soft_value-first : (n amp : ℕ) (y : Point) (j : ℕ) → j < n → soft_value (2 * n) amp y (2 * j) ≡ clamped 127 (coordinate_value n amp y.i j)
+pub soft_value-first : (n amp : ℕ) (y : Point) (j : ℕ) → j < n → soft_value (2 * n) amp y (2 * j) ≡ clamped 127 (coordinate_value n amp y.i j)
 unfolding soft_value coordinate_value
 soft_value-first n amp y j h =
     ap (λ (z : ℤ). clamped 127 (int_div z (pos (4 * amp)))) (same_first _ _ (coordinate_near n amp y.i j One) (coordinate_near n amp y.i j Zero) (other_near n amp y.q) (near_first n amp y j One h) (near_first n amp y j Zero h))
 
-soft_value-second : (n amp : ℕ) (y : Point) (j : ℕ) → j < n → soft_value (2 * n) amp y (2 * j + 1) ≡ clamped 127 (coordinate_value n amp y.q j)
+pub soft_value-second : (n amp : ℕ) (y : Point) (j : ℕ) → j < n → soft_value (2 * n) amp y (2 * j + 1) ≡ clamped 127 (coordinate_value n amp y.q j)
 unfolding soft_value coordinate_value
 soft_value-second n amp y j h =
     ap (λ (z : ℤ). clamped 127 (int_div z (pos (4 * amp)))) (same_second _ _ (coordinate_near n amp y.q j One) (coordinate_near n amp y.q j Zero) (other_near n amp y.i) (near_second n amp y j One h) (near_second n amp y j Zero h))

@@ -1,5 +1,5 @@
 -- The least value over lists of bits, and least values in general.
-use Rattle.std.proofs.Common.{◌≡◌, ℕ, zero, suc, ◌+◌, ◌<◌, ℤ, ◌≤ℤ◌, List, [], ◌∷◌, length, set, get_or, refl, ap, sym, subst, ◌∙◌, ◌⊎◌, inl, inr, Bool, true, false, arith}
+use Rattle.std.proofs.Common.{◌≡◌, ℕ, zero, suc, ◌<◌, ℤ, ◌≤ℤ◌, List, [], ◌∷◌, length, set, get_or, refl, ap, sym, subst, ◌∙◌, ◌⊎◌, inl, inr, Bool, true, false, arith}
 use Rattle.std.specs.Prelude.{int_lt}
 use Rattle.std.specs.Int.{int_min}
 use Rattle.std.proofs.lemmas.Int.{ints, clamps}
@@ -43,7 +43,7 @@ least_over-attained (suc n) value =
     let zeros = least_over-attained n (λ y. value (Zero ∷ y)) in
     let ones = least_over-attained n (λ y. value (One ∷ y)) in
     elim (min_is (least_over n (λ y. value (Zero ∷ y))) (least_over n (λ y. value (One ∷ y)))) [
-      inl e ↦ (Zero ∷ zeros.0, ap suc zeros.1, zeros.2 ∙ sym e)
+      | inl e ↦ (Zero ∷ zeros.0, ap suc zeros.1, zeros.2 ∙ sym e)
       | inr e ↦ (One ∷ ones.0, ap suc ones.1, ones.2 ∙ sym e)
     ]
 
@@ -55,8 +55,8 @@ least_with_bit n value i b h =
     record {
       attained = (set w.0 i b, (length-set w.0 i b ∙ w.1, get_or-set_same w.0 i b Zero (omega arith)), w.2);
       bound = λ x ok.
-        subst (λ (y : List Bit). least_over n (λ z. value (set z i b)) ≤ℤ value y) (ap (set x i) (sym ok.1) ∙ set-get_or x i Zero)
-        (least_over-bound n (λ z. value (set z i b)) x ok.0);
+          subst (λ (y : List Bit). least_over n (λ z. value (set z i b)) ≤ℤ value y) (ap (set x i) (sym ok.1) ∙ set-get_or x i Zero)
+          (least_over-bound n (λ z. value (set z i b)) x ok.0);
     }
 
 pub least_of_all : (n : ℕ) (value : List Bit → ℤ) → IsLeast (λ (x : List Bit). length x ≡ n) value (least_over n value)
@@ -78,7 +78,7 @@ least_over-min (suc n) f g h same =
     let zeros = least_over-min n (λ x. f (Zero ∷ x)) (λ x. g (Zero ∷ x)) (λ x. h (Zero ∷ x)) (λ x e. same (Zero ∷ x) (ap suc e)) in
     let ones = least_over-min n (λ x. f (One ∷ x)) (λ x. g (One ∷ x)) (λ x. h (One ∷ x)) (λ x e. same (One ∷ x) (ap suc e)) in
     regroup (least_over n (λ x. f (Zero ∷ x))) (least_over n (λ x. f (One ∷ x))) (least_over n (λ x. g (Zero ∷ x))) (least_over n (λ x. g (One ∷ x)))
-      (least_over n (λ x. h (Zero ∷ x))) (least_over n (λ x. h (One ∷ x))) zeros ones
+    (least_over n (λ x. h (Zero ∷ x))) (least_over n (λ x. h (One ∷ x))) zeros ones
   where
     regroup : (a b c d p q : ℤ) → int_min a c ≡ p → int_min b d ≡ q → int_min (int_min a b) (int_min c d) ≡ int_min p q
     regroup a b c d p q e f = omega (arith, ints, clamps)

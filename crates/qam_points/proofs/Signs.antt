@@ -1,6 +1,6 @@
 -- The first bit of a coordinate is its sign.
-use Rattle.std.proofs.Common.{◌≡◌, ℕ, zero, suc, ◌+◌, ◌-◌, ◌*◌, ◌<◌, ◌≤◌, ℤ, pos, negsuc, ◌+ℤ◌, ◌-ℤ◌, ◌*ℤ◌, ◌≤ℤ◌, List, [], ◌∷◌, length, set, refl, ap, sym, ◌∙◌, inl, inr, arith}
-use Rattle.std.specs.Prelude.{unsigned_abs, int_div, neg_ℤ}
+use Rattle.std.proofs.Common.{◌≡◌, ℕ, suc, ◌-◌, ◌*◌, ◌<◌, ◌≤◌, ℤ, pos, negsuc, ◌-ℤ◌, ◌*ℤ◌, ◌≤ℤ◌, List, [], ◌∷◌, length, set, refl, ap, ◌∙◌, inl, inr, arith}
+use Rattle.std.specs.Prelude.{int_div, neg_ℤ}
 use Rattle.std.proofs.lemmas.Bool.{cases_lt}
 use Rattle.std.proofs.lemmas.Int.{ints, clamps}
 use Rattle.lte_bits.specs.Softs.{clamped}
@@ -30,11 +30,11 @@ pub value_of_one : (amp : ℕ) (t : ℤ) → 0 < amp → coordinate_value 1 amp 
 value_of_one amp (pos x) some =
     by_levels 1 amp (pos x) (pos x -ℤ pos amp *ℤ pos 1) (pos x -ℤ pos amp *ℤ negsuc 0) (near_of_one amp (pos x) Zero) (near_of_one amp (pos x) One)
     ∙ quotient_up (pos x -ℤ pos amp *ℤ pos 1) (pos x -ℤ pos amp *ℤ negsuc 0) x amp amp x some
-      (record { difference = omega (arith, ints); sum = omega (arith, ints) }) (omega arith)
+    (record { difference = omega (arith, ints); sum = omega (arith, ints) }) (omega arith)
 value_of_one amp (negsuc k) some =
     by_levels 1 amp (negsuc k) (negsuc k -ℤ pos amp *ℤ pos 1) (negsuc k -ℤ pos amp *ℤ negsuc 0) (near_of_one amp (negsuc k) Zero) (near_of_one amp (negsuc k) One)
     ∙ quotient_down (negsuc k -ℤ pos amp *ℤ negsuc 0) (negsuc k -ℤ pos amp *ℤ pos 1) (suc k) amp amp (suc k) some
-      (record { difference = omega (arith, ints); sum = omega (arith, ints) }) (omega arith)
+    (record { difference = omega (arith, ints); sum = omega (arith, ints) }) (omega arith)
 
 -- ---- two bits
 
@@ -136,6 +136,7 @@ mirrored_two amp k = record {
     up (p ∷ Zero ∷ []) e = same_square (negsuc k -ℤ pos amp *ℤ pos 1) (pos (suc k) -ℤ pos amp *ℤ negsuc 0) (omega (arith, ints))
     up (p ∷ One ∷ []) e = same_square (negsuc k -ℤ pos amp *ℤ pos 3) (pos (suc k) -ℤ pos amp *ℤ negsuc 2) (omega (arith, ints))
     up (p ∷ q ∷ r ∷ w) e = absurd (omega arith)
+
     down : (w : List Bit) → length w ≡ 2 → level_distance amp (negsuc k) (set w 0 One) ≡ level_distance amp (pos (suc k)) (set w 0 Zero)
     down [] e = absurd (omega arith)
     down (p ∷ []) e = absurd (omega arith)
@@ -150,12 +151,12 @@ sign_of_two amp t = pos 2 *ℤ t -ℤ clamped (2 * amp) t
 pub value_of_sign_of_two : (amp : ℕ) (t : ℤ) → 0 < amp → coordinate_value 2 amp t 0 ≡ sign_of_two amp t
 value_of_sign_of_two amp (pos x) some =
     elim (cases_lt x (2 * amp)) [
-      inl h ↦ value_above 2 amp x x some (nearest_of_two_below amp x h) ∙ omega (arith, ints, clamps)
+      | inl h ↦ value_above 2 amp x x some (nearest_of_two_below amp x h) ∙ omega (arith, ints, clamps)
       | inr h ↦ value_above 2 amp x (2 * (x - amp)) some (nearest_of_two_above amp x h) ∙ omega (arith, ints, clamps)
     ]
 value_of_sign_of_two amp (negsuc k) some =
     elim (cases_lt (suc k) (2 * amp)) [
-      inl h ↦ value_below 2 amp k (suc k) some (mirrored_two amp k) (nearest_of_two_below amp (suc k) h) ∙ omega (arith, ints, clamps)
+      | inl h ↦ value_below 2 amp k (suc k) some (mirrored_two amp k) (nearest_of_two_below amp (suc k) h) ∙ omega (arith, ints, clamps)
       | inr h ↦ value_below 2 amp k (2 * (suc k - amp)) some (mirrored_two amp k) (nearest_of_two_above amp (suc k) h) ∙ omega (arith, ints, clamps)
     ]
 

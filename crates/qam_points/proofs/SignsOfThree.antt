@@ -1,5 +1,5 @@
 -- The first of a coordinate's three bits is its sign.
-use Rattle.std.proofs.Common.{◌≡◌, ℕ, zero, suc, ◌+◌, ◌-◌, ◌*◌, ◌<◌, ◌≤◌, ℤ, pos, negsuc, ◌+ℤ◌, ◌-ℤ◌, ◌*ℤ◌, ◌≤ℤ◌, List, [], ◌∷◌, length, set, refl, ap, sym, ◌∙◌, inl, inr, arith}
+use Rattle.std.proofs.Common.{◌≡◌, ℕ, suc, ◌-◌, ◌*◌, ◌<◌, ◌≤◌, ℤ, pos, negsuc, ◌-ℤ◌, ◌*ℤ◌, ◌≤ℤ◌, List, [], ◌∷◌, length, set, refl, ap, ◌∙◌, inl, inr, arith}
 use Rattle.std.specs.Prelude.{neg_ℤ}
 use Rattle.std.proofs.lemmas.Bool.{cases_lt}
 use Rattle.std.proofs.lemmas.Int.{ints, clamps}
@@ -9,7 +9,7 @@ use Rattle.lte_bits.specs.declared.bit.Bit.TheVariants.{Zero, One}
 use Rattle.qam_points.specs.Coordinate.{coordinate_near, coordinate_value, level_distance}
 use Rattle.qam_points.proofs.Least.{least_over-is, least_over-same}
 use Rattle.qam_points.proofs.Signs.{AreMirrored, Nearest, value_above, value_below}
-use Rattle.qam_points.proofs.Squares.{AreApart, same_square, square-le}
+use Rattle.qam_points.proofs.Squares.{same_square, square-le}
 
 -- the nearest level of three bits with this sign
 near_three : (amp : ℕ) (t : ℤ) (b c d : Bit) → ((e f : Bit) → level_distance amp t (b ∷ c ∷ d ∷ []) ≤ℤ level_distance amp t (b ∷ e ∷ f ∷ []))
@@ -135,6 +135,7 @@ mirrored_three amp k = record {
     up (p ∷ One ∷ Zero ∷ []) e = same_square (negsuc k -ℤ pos amp *ℤ pos 5) (pos (suc k) -ℤ pos amp *ℤ negsuc 4) (omega (arith, ints))
     up (p ∷ One ∷ One ∷ []) e = same_square (negsuc k -ℤ pos amp *ℤ pos 7) (pos (suc k) -ℤ pos amp *ℤ negsuc 6) (omega (arith, ints))
     up (p ∷ q ∷ r ∷ s ∷ w) e = absurd (omega arith)
+
     down : (w : List Bit) → length w ≡ 3 → level_distance amp (negsuc k) (set w 0 One) ≡ level_distance amp (pos (suc k)) (set w 0 Zero)
     down [] e = absurd (omega arith)
     down (p ∷ []) e = absurd (omega arith)
@@ -158,26 +159,26 @@ below amp k v some near e = value_below 3 amp k v some (mirrored_three amp k) ne
 pub value_of_sign_of_three : (amp : ℕ) (t : ℤ) → 0 < amp → coordinate_value 3 amp t 0 ≡ sign_of_three amp t
 value_of_sign_of_three amp (pos x) some =
     elim (cases_lt x (2 * amp)) [
-      inl a ↦ above amp x x some (nearest_one_says amp x a) (omega (arith, ints, clamps))
+      | inl a ↦ above amp x x some (nearest_one_says amp x a) (omega (arith, ints, clamps))
       | inr a ↦
           elim (cases_lt x (4 * amp)) [
-            inl b ↦ above amp x (2 * (x - 1 * amp)) some (nearest_three_says amp x a b) (omega (arith, ints, clamps))
+            | inl b ↦ above amp x (2 * (x - 1 * amp)) some (nearest_three_says amp x a b) (omega (arith, ints, clamps))
             | inr b ↦
                 elim (cases_lt x (6 * amp)) [
-                  inl c ↦ above amp x (3 * (x - 2 * amp)) some (nearest_five_says amp x b c) (omega (arith, ints, clamps))
+                  | inl c ↦ above amp x (3 * (x - 2 * amp)) some (nearest_five_says amp x b c) (omega (arith, ints, clamps))
                   | inr c ↦ above amp x (4 * (x - 3 * amp)) some (nearest_seven_says amp x c) (omega (arith, ints, clamps))
                 ]
           ]
     ]
 value_of_sign_of_three amp (negsuc k) some =
     elim (cases_lt (suc k) (2 * amp)) [
-      inl a ↦ below amp k (suc k) some (nearest_one_says amp (suc k) a) (omega (arith, ints, clamps))
+      | inl a ↦ below amp k (suc k) some (nearest_one_says amp (suc k) a) (omega (arith, ints, clamps))
       | inr a ↦
           elim (cases_lt (suc k) (4 * amp)) [
-            inl b ↦ below amp k (2 * (suc k - 1 * amp)) some (nearest_three_says amp (suc k) a b) (omega (arith, ints, clamps))
+            | inl b ↦ below amp k (2 * (suc k - 1 * amp)) some (nearest_three_says amp (suc k) a b) (omega (arith, ints, clamps))
             | inr b ↦
                 elim (cases_lt (suc k) (6 * amp)) [
-                  inl c ↦ below amp k (3 * (suc k - 2 * amp)) some (nearest_five_says amp (suc k) b c) (omega (arith, ints, clamps))
+                  | inl c ↦ below amp k (3 * (suc k - 2 * amp)) some (nearest_five_says amp (suc k) b c) (omega (arith, ints, clamps))
                   | inr c ↦ below amp k (4 * (suc k - 3 * amp)) some (nearest_seven_says amp (suc k) c) (omega (arith, ints, clamps))
                 ]
           ]

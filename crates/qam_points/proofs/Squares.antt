@@ -1,5 +1,5 @@
 -- Squares of whole numbers, by their sizes.
-use Rattle.std.proofs.Common.{◌≡◌, ℕ, zero, suc, ◌+◌, ◌-◌, ◌*◌, ◌/◌, ◌<◌, ◌≤◌, ℤ, pos, negsuc, ◌+ℤ◌, ◌-ℤ◌, ◌*ℤ◌, ◌≤ℤ◌, refl, ap, sym, ◌∙◌, inl, inr, arith}
+use Rattle.std.proofs.Common.{◌≡◌, ℕ, zero, suc, ◌+◌, ◌-◌, ◌*◌, ◌/◌, ◌<◌, ◌≤◌, ℤ, pos, negsuc, ◌+ℤ◌, ◌-ℤ◌, ◌≤ℤ◌, refl, ap, sym, ◌∙◌, inl, inr, arith}
 use Rattle.std.specs.Prelude.{unsigned_abs, int_div, neg_ℤ}
 use Rattle.std.specs.Int.{int_min}
 use Rattle.std.proofs.lemmas.Bool.{cases_lt}
@@ -44,22 +44,22 @@ folded (negsuc n) p q v z e f g =
 sum_and_difference : (y s : ℕ) → (y + s) * (y + s) ≡ unsigned_abs (pos y -ℤ pos s) * unsigned_abs (pos y -ℤ pos s) + 4 * (y * s)
 sum_and_difference y s =
     elim (cases_lt y s) [
-      inl below ↦ (
-        let r = s - y in
-        let e : unsigned_abs (pos y -ℤ pos s) ≡ r = omega (arith, ints) in
-        let f : s ≡ y + r = omega arith in
-        ap (λ (n : ℕ). (y + n) * (y + n)) f
-        ∙ ((let g : (y + (y + r)) * (y + (y + r)) ≡ r * r + 4 * (y * (y + r)) = omega arith in g)
-        ∙ (ap (λ (n : ℕ). r * r + 4 * (y * n)) (sym f) ∙ ap (λ (n : ℕ). n * n + 4 * (y * s)) (sym e)))
-      )
+      | inl below ↦ (
+          let r = s - y in
+          let e : unsigned_abs (pos y -ℤ pos s) ≡ r = omega (arith, ints) in
+          let f : s ≡ y + r = omega arith in
+          ap (λ (n : ℕ). (y + n) * (y + n)) f
+          ∙ ((let g : (y + (y + r)) * (y + (y + r)) ≡ r * r + 4 * (y * (y + r)) = omega arith in g)
+          ∙ (ap (λ (n : ℕ). r * r + 4 * (y * n)) (sym f) ∙ ap (λ (n : ℕ). n * n + 4 * (y * s)) (sym e)))
+          )
       | inr above ↦ (
-        let r = y - s in
-        let e : unsigned_abs (pos y -ℤ pos s) ≡ r = omega (arith, ints) in
-        let f : y ≡ s + r = omega arith in
-        ap (λ (n : ℕ). (n + s) * (n + s)) f
-        ∙ ((let g : (s + r + s) * (s + r + s) ≡ r * r + 4 * ((s + r) * s) = omega arith in g)
-        ∙ (ap (λ (n : ℕ). r * r + 4 * (n * s)) (sym f) ∙ ap (λ (n : ℕ). n * n + 4 * (y * s)) (sym e)))
-      )
+          let r = y - s in
+          let e : unsigned_abs (pos y -ℤ pos s) ≡ r = omega (arith, ints) in
+          let f : y ≡ s + r = omega arith in
+          ap (λ (n : ℕ). (n + s) * (n + s)) f
+          ∙ ((let g : (s + r + s) * (s + r + s) ≡ r * r + 4 * ((s + r) * s) = omega arith in g)
+          ∙ (ap (λ (n : ℕ). r * r + 4 * (n * s)) (sym f) ∙ ap (λ (n : ℕ). n * n + 4 * (y * s)) (sym e)))
+          )
     ]
 
 whole_quotient : (k n : ℕ) → 0 < k → k * n / k ≡ n

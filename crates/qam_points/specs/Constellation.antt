@@ -1,6 +1,7 @@
 -- The points of 36.211, 7.1, without the factor that gives them a mean power of 1.
-use Rattle.std.specs.Prelude.{◌≡◌, ℕ, ℤ, pos, negsuc, ◌-ℤ◌, ◌*ℤ◌, ◌*◌, ◌/◌, ◌⊎◌, List, [], ◌∷◌, length, map, take, drop, slice_index_or}
+use Rattle.std.specs.Prelude.{◌≡◌, ℕ, ℤ, pos, negsuc, ◌-ℤ◌, ◌*ℤ◌, ◌*◌, ◌/◌, ◌⊎◌, List, [], ◌∷◌, length, map, take, drop}
 use Rattle.std.specs.List.{range_with_len}
+use Rattle.lte_bits.specs.Softs.{IsWithin}
 use Rattle.lte_bits.specs.declared.bit.Bit.{Bit}
 use Rattle.lte_bits.specs.declared.bit.Bit.TheVariants.{Zero, One}
 use Rattle.qam_points.specs.declared.point.Point.{Point}
@@ -36,6 +37,10 @@ odd_bits (a ∷ b ∷ bits) = b ∷ odd_bits bits
 -- the point of its bits
 abbrev pub point : List Bit → Point
 point bits = record { i = level (even_bits bits); q = level (odd_bits bits) }
+
+-- both coordinates are from -7 to 7
+abbrev pub IsSmall : Point → Type 0
+IsSmall p = IsWithin 7 p.i × IsWithin 7 p.q
 
 -- the bits of symbol s, of qm bits each
 abbrev pub symbol : (qm : ℕ) → List Bit → (s : ℕ) → List Bit

@@ -1,4 +1,4 @@
-use Rattle.std.proofs.Common.{◌*◌, ap, sym, ◌∙◌, arith}
+use Rattle.std.proofs.Common.{◌*◌, sym, ◌∙◌, arith}
 use Rattle.std.proofs.lemmas.Int.{ints}
 use Rattle.qam_points.proofs.Folding.{below_middle, value_of_two}
 use Rattle.qam_points.proofs.Signs.{value_of_one}

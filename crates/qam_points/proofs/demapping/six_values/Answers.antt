@@ -1,4 +1,4 @@
-use Rattle.std.proofs.Common.{◌≡◌, ℤ, to_z, of_z, w32, refl, ap, sym, ◌∙◌, arith}
+use Rattle.std.proofs.Common.{◌≡◌, ℤ, to_z, of_z, w32, ap, ◌∙◌, arith}
 use Rattle.std.proofs.lemmas.Int.{ints}
 use Rattle.qam_points.specs.Coordinate.{coordinate_value}
 use Rattle.qam_points.specs.Demapping.{soft_value, soft_values}

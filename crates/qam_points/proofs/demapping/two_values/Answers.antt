@@ -1,6 +1,5 @@
-use Rattle.std.proofs.Common.{◌≡◌, ℤ, to_z, of_z, w32, refl, ap, sym, ◌∙◌, arith}
+use Rattle.std.proofs.Common.{◌≡◌, refl, sym, arith}
 use Rattle.std.proofs.lemmas.Int.{ints}
-use Rattle.qam_points.specs.Coordinate.{coordinate_value}
 use Rattle.qam_points.specs.Demapping.{soft_value, soft_values}
 use Rattle.qam_points.proofs.Coordinates.{first_value, second_value}
 use Rattle.qam_points.proofs.Signs.{value_of_one}
