@@ -15,6 +15,8 @@ mod lists;
 #[cfg(test)]
 mod matching;
 #[cfg(test)]
+mod scrambling;
+#[cfg(test)]
 mod streams;
 #[cfg(test)]
 mod trellis;

@@ -1,0 +1,5 @@
+pub mod Places
+pub mod Sequence
+pub mod Initial
+pub mod Registers
+pub mod Scrambling

@@ -1,0 +1,91 @@
+//! The generator of the sequence.
+ghost use Rattle.std.specs.Prelude.{◌≡◌, ◌≤◌, ◌<◌, ◌^◌};
+ghost use Rattle.lte_bits.specs.Bits.{number};
+ghost use Rattle.gold_scramble.specs.Places.{places};
+ghost use Rattle.gold_scramble.specs.Registers.{AreWhole, coming, moved, started};
+
+use crate::initial::Init;
+use crate::registers::{x1_continued, x2_continued};
+use lte_bits::Bit;
+use std::marker::Model;
+
+// 31 ones.
+const REGISTER: u64 = 0x7FFF_FFFF;
+
+// The 1,600 places before the sequence are left out in so many steps of so many places.
+const STEPS: u32 = 100;
+
+const STEP: u32 = 16;
+
+/// A generator of the pseudo-random sequence (36.211 7.2): a register of 31 places of x1, and one of x2. The
+/// bits still to come are the sums, place by place, of the two, continued by their recurrences.
+#[derive(Debug, Drop)]
+pub struct Gold {
+    x1: u32,
+    x2: u32,
+}
+
+impl Model for Gold {
+    ghost use Rattle.std.specs.Prelude.{◌<◌, ◌^◌};
+    ghost use Rattle.gold_scramble.specs.Places.{highest_first};
+    ghost use Rattle.gold_scramble.specs.Registers.{Registers};
+
+    ghost Value = { Registers };
+
+    ghost view = { λ g. record { x1 = highest_first 31 g.x1; x2 = highest_first 31 g.x2 } };
+
+    ghost invariant = { λ g. (g.x1 < 2 ^ 31) × (g.x2 < 2 ^ 31) };
+}
+
+impl Gold {
+    /// The generator whose next bit is c(0): the first 1,600 places of x1 and x2 are left out.
+    pub fn new(init: Init) -> Gold
+        ensures { result ≡ started init }
+    {
+        let mut gold = Gold {
+            x1: 1 << 30,
+            x2: init.value().reverse_bits() >> 1,
+        };
+        for _ in 0..STEPS {
+            let _left_out = gold.next_bits(STEP);
+        }
+        gold
+    }
+
+    /// The next `count` bits, at most 28, the first as the highest.
+    #[inline]
+    fn next_bits(&mut self, count: u32) -> u32
+        requires { count ≤ 28 }
+        ensures bits { result ≡ number (places (coming self.old) 0 count) }
+        ensures moved { self.new ≡ moved self.old count }
+        ensures small { result < 2 ^ count }
+        ensures whole { AreWhole self.old }
+    {
+        let x1 = x1_continued(self.x1, count);
+        let x2 = x2_continued(self.x2, count);
+        self.x1 = (x1 & REGISTER) as u32;
+        self.x2 = (x2 & REGISTER) as u32;
+        ((x1 ^ x2) >> 31) as u32
+    }
+
+    /// The next bit.
+    pub fn next_bit(&mut self) -> Bit
+        ensures bit { result ≡ coming self.old 0 }
+        ensures moved { self.new ≡ moved self.old 1 }
+    {
+        match self.next_bits(1) {
+            0 => Bit::Zero,
+            _ => Bit::One,
+        }
+    }
+
+    /// The next 32 bits, the first as the highest.
+    pub fn next_word(&mut self) -> u32
+        ensures bits { result ≡ number (places (coming self.old) 0 32) }
+        ensures moved { self.new ≡ moved self.old 32 }
+    {
+        let high = self.next_bits(16);
+        let low = self.next_bits(16);
+        (high << 16) | low
+    }
+}

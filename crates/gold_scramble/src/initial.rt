@@ -1,0 +1,49 @@
+//! What the sequence of a transmission begins with.
+ghost use Rattle.std.specs.Prelude.{◌≡◌, ◌<◌, ◌^◌};
+ghost use Rattle.std.specs.Option.{SomeIff};
+ghost use Rattle.gold_scramble.specs.Initial.{c_init, IsTransmission};
+
+use std::marker::Model;
+
+/// The number c_init that the sequence of a transmission begins with (36.211 6.3.1, 5.3.1), below 2^31.
+#[derive(Clone, Copy, Debug, PartialEq, Eq, Hash)]
+pub struct Init {
+    value: u32,
+}
+
+impl Model for Init {
+    ghost use Rattle.std.specs.Prelude.{ℕ, ◌<◌, ◌^◌};
+
+    ghost Value = { ℕ };
+
+    ghost view = { λ i. i.value };
+
+    ghost invariant = { λ i. i.value < 2 ^ 31 };
+
+    ghost inverse = { λ n. record { value = n } };
+}
+
+impl Init {
+    /// Of a terminal's identity `rnti`, the number of a codeword `q`, 0 or 1, a slot, 0 to 19, and a cell,
+    /// 0 to 503; `None` for any other. With `q` 0 it is the number for the shared channel of the uplink too.
+    pub fn new(rnti: u16, q: u8, slot: u8, cell: u16) -> Option<Init>
+        ensures { SomeIff result (IsTransmission q slot cell) (c_init rnti q slot cell) }
+    {
+        if q > 1 || slot > 19 || cell > 503 {
+            return None;
+        }
+        let value = (u32::from(rnti) << 14)
+            + (u32::from(q) << 13)
+            + (u32::from(slot / 2) << 9)
+            + u32::from(cell);
+        Some(Init { value })
+    }
+
+    /// The number.
+    pub fn value(&self) -> u32
+        ensures value { result ≡ self.now }
+        ensures small { result < 2 ^ 31 }
+    {
+        self.value
+    }
+}

@@ -1,0 +1,7 @@
+mod Coordinates
+mod Folding
+mod Least
+pub mod Receiving
+mod Signs
+mod SignsOfThree
+mod Squares

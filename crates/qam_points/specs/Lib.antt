@@ -1,0 +1,4 @@
+pub mod Constellation
+pub mod Demapping
+pub mod Coordinate
+pub mod Reception

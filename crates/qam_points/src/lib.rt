@@ -1,0 +1,12 @@
+//! Bits as points of 36.211, and soft values of received points.
+#![tactic(auto)]
+
+mod coordinate;
+pub mod demapping;
+pub mod laws;
+pub mod mapping;
+pub mod point;
+
+pub use demapping::demap;
+pub use mapping::map;
+pub use point::Point;
