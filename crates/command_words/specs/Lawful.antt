@@ -6,7 +6,7 @@ use Rattle.rate_match.specs.declared.sends.Sending.{Sending}
 use Rattle.coded_stream.specs.Header.{AreHeld}
 use Rattle.coded_stream.specs.Limit.{is_limit}
 use Rattle.command_words.specs.declared.words.Command.{Command}
-use Rattle.command_words.specs.declared.words.Command.TheVariants.{Codeword, Encode}
+use Rattle.command_words.specs.declared.words.Command.TheVariants.{Codeword, Encode, Decode}
 
 -- transmissions whose soft buffer fits every block of 1 to tb bytes
 pub record AreForBlocks (tb : ℕ) (sends : List Sending) : Type 0 where
@@ -16,6 +16,13 @@ pub record AreForBlocks (tb : ℕ) (sends : List Sending) : Type 0 where
   pub limited : is_limit (common sends).limit ≡ true
   pub fits : fits_all (common sends).limit tb ≡ true
 
+pub record IsDecoding (windows limit : ℕ) : Type 0 where
+  pub some : 1 ≤ windows
+  pub few : windows ≤ 64
+  pub once : 1 ≤ limit
+  pub limited : limit ≤ 16
+
 abbrev pub IsLawful : Command → Type 0
 IsLawful (Codeword m rv) = (m.limit ≡ None) × (rv ≤ 3)
 IsLawful (Encode version tb sends) = AreForBlocks tb sends × AreHeld version sends
+IsLawful (Decode windows limit workers) = IsDecoding windows limit × (1 ≤ workers) × (workers ≤ 16)

@@ -1,13 +1,19 @@
 //! The commands of the program, as words ask for them.
 #![tactic(auto)]
 
+mod blocks;
+mod codeword;
+mod encode;
 mod lists;
 mod number;
 mod numbers;
 mod operands;
+mod receiving;
 mod rules;
+mod settings;
 mod splitting;
 mod tables;
+mod transmission_tables;
 mod transmissions;
 mod words;
 

@@ -1,7 +1,7 @@
 //! What the commands take: for each name of an operand how its numbers are spelt, which of them
 //! are accepted, and what stands where it isn't given.
 ghost use Rattle.std.specs.Prelude.{◌≡◌, ◌<◌, ◌^◌, ◌≤◌, IsTrue};
-ghost use Rattle.command_words.specs.Rules.{name_text, most, in_range};
+ghost use Rattle.command_words.specs.Rules.{name_text, most, in_range, in_form};
 
 /// The names of operands.
 #[derive(Clone, Copy, Debug, PartialEq, Eq)]
@@ -18,6 +18,12 @@ pub enum Name {
     Nl,
     /// N_IR, 0 for a full buffer.
     Nir,
+    /// The most windows of a code block.
+    Windows,
+    /// The most iterations.
+    Limit,
+    /// The threads that decode.
+    Workers,
 }
 
 impl Name {
@@ -31,6 +37,9 @@ impl Name {
             Name::Rv => "rv",
             Name::Nl => "nl",
             Name::Nir => "nir",
+            Name::Windows => "windows",
+            Name::Limit => "limit",
+            Name::Workers => "workers",
         }
     }
 }
@@ -90,4 +99,13 @@ pub struct Rule {
     pub range: Range,
     /// The number that stands where none is given. `None`: one has to be given.
     pub default: Option<u64>,
+}
+
+impl Rule {
+    /// The same rule for numbers in another form.
+    pub fn in_form(self, form: Form) -> Rule
+        ensures { result ≡ in_form form self }
+    {
+        Rule { form, ..self }
+    }
 }

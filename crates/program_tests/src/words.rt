@@ -7,7 +7,7 @@ use turbo_run::{Command, WordRefusal, read_words};
 
 #[test]
 fn the_first_word_that_is_refused_is_named(rt: HostRuntime) -> Result<(), Fail> {
-    let rows: [(&str, u8, usize); 44] = [
+    let rows: [(&str, u8, usize); 54] = [
         ("", 1, 0),
         ("fly", 2, 0),
         ("codewords g=2", 2, 0),
@@ -52,6 +52,16 @@ fn the_first_word_that_is_refused_is_named(rt: HostRuntime) -> Result<(), Fail> 
         ("encode tb=2 g=132,6 qm=2 rv=0,1 nl=1,2", 7, 2),
         ("encode tb=766 g=132 qm=2 rv=0 nir=6176", 8, 5),
         ("encode nir=6176 g=133 qm=2 rv=0 tb=766", 7, 2),
+        ("decode tb=2", 3, 1),
+        ("decode workers=1 workers=2", 4, 2),
+        ("decode windows=08", 6, 1),
+        ("decode windows=8,8", 6, 1),
+        ("decode windows=0", 7, 1),
+        ("decode windows=65", 7, 1),
+        ("decode limit=0", 7, 1),
+        ("decode limit=17", 7, 1),
+        ("decode workers=0", 7, 1),
+        ("decode workers=17", 7, 1),
     ];
     for (line, number, place) in rows {
         let words = words_of(rt.alloc(), line)?;
@@ -98,6 +108,33 @@ fn the_version_depends_on_how_many_numbers_are_given(rt: HostRuntime) -> Result<
             Ok(Command::Encode { version, .. }) => assert!(rt; version == want, "of {line}"),
             _ => assert!(rt; false, "of {line}"),
         }
+    }
+    Ok(())
+}
+
+#[test]
+fn numbers_that_are_not_given_have_their_defaults(rt: HostRuntime) -> Result<(), Fail> {
+    let rows = [
+        (
+            "decode",
+            Command::Decode {
+                windows: 8,
+                limit: 8,
+                workers: 1,
+            },
+        ),
+        (
+            "decode workers=16 limit=3 windows=64",
+            Command::Decode {
+                windows: 64,
+                limit: 3,
+                workers: 16,
+            },
+        ),
+    ];
+    for (line, want) in rows {
+        let words = words_of(rt.alloc(), line)?;
+        assert!(rt; read_words(&words) == Ok(want), "of {line}");
     }
     Ok(())
 }

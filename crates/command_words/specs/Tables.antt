@@ -1,0 +1,99 @@
+-- What each command takes: for each name which numbers are accepted, and what stands where it isn't given.
+use Rattle.std.specs.Prelude.{ℕ, List, [], ◌∷◌, Some, None}
+use Rattle.command_words.specs.Rules.{in_form}
+use Rattle.command_words.specs.declared.rules.Name.{Name}
+use Rattle.command_words.specs.declared.rules.Name.TheVariants.{Tb, G, Qm, Rv, Nl, Nir, Windows, Limit, Workers}
+use Rattle.command_words.specs.declared.rules.Form.TheVariants.{Number, ListOfOne, ForTransmissions}
+use Rattle.command_words.specs.declared.rules.Range.{Range}
+use Rattle.command_words.specs.declared.rules.Range.TheVariants.{Between, Even}
+use Rattle.command_words.specs.declared.rules.Rule.{Rule}
+
+-- a number that has to be given
+abbrev pub required : Name → Range → Rule
+required name range = record { name = name; form = Number; range = range; default = None }
+
+-- a number, and what stands for it
+abbrev pub optional : Name → Range → ℕ → Rule
+optional name range n = record { name = name; form = Number; range = range; default = Some n }
+
+-- ---- a transmission
+
+abbrev pub to_a_million : Range
+to_a_million = Between 1 1000000
+
+abbrev pub modulations : Range
+modulations = Even 2 6
+
+abbrev pub versions : Range
+versions = Between 0 3
+
+abbrev pub layers : Range
+layers = Between 1 2
+
+abbrev pub g_number : Rule
+g_number = required G to_a_million
+
+abbrev pub qm_number : Rule
+qm_number = required Qm modulations
+
+abbrev pub nl_number : Rule
+nl_number = optional Nl layers 1
+
+abbrev pub rv_of_one : Rule
+rv_of_one = in_form ListOfOne (required Rv versions)
+
+-- ---- the transmissions of a block
+
+abbrev pub g_list : Rule
+g_list = in_form ForTransmissions g_number
+
+abbrev pub qm_list : Rule
+qm_list = in_form ForTransmissions qm_number
+
+abbrev pub nl_list : Rule
+nl_list = in_form ForTransmissions nl_number
+
+abbrev pub rv_list : Rule
+rv_list = in_form ForTransmissions (required Rv versions)
+
+-- ---- all blocks
+
+abbrev pub lengths : Range
+lengths = Between 1 18722
+
+abbrev pub limits : Range
+limits = Between 0 1000000
+
+abbrev pub tb_number : Rule
+tb_number = required Tb lengths
+
+abbrev pub nir_number : Rule
+nir_number = optional Nir limits 0
+
+-- ---- decoding
+
+abbrev pub window_counts : Range
+window_counts = Between 1 64
+
+abbrev pub to_sixteen : Range
+to_sixteen = Between 1 16
+
+abbrev pub windows_number : Rule
+windows_number = optional Windows window_counts 8
+
+abbrev pub limit_number : Rule
+limit_number = optional Limit to_sixteen 8
+
+abbrev pub workers_number : Rule
+workers_number = optional Workers to_sixteen 1
+
+-- ---- commands
+
+abbrev pub codeword_rules : List Rule
+codeword_rules = g_number ∷ qm_number ∷ rv_of_one ∷ []
+
+abbrev pub encode_rules : List Rule
+encode_rules = tb_number ∷ g_list ∷ qm_list ∷ rv_list ∷ nl_list ∷ nir_number ∷ []
+
+abbrev pub decode_rules : List Rule
+decode_rules = windows_number ∷ limit_number ∷ workers_number ∷ []
