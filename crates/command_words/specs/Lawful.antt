@@ -6,7 +6,7 @@ use Rattle.rate_match.specs.declared.sends.Sending.{Sending}
 use Rattle.coded_stream.specs.Header.{AreHeld}
 use Rattle.coded_stream.specs.Limit.{is_limit}
 use Rattle.command_words.specs.declared.words.Command.{Command}
-use Rattle.command_words.specs.declared.words.Command.TheVariants.{Codeword, Encode, Decode}
+use Rattle.command_words.specs.declared.words.Command.TheVariants.{Codeword, Encode, Decode, Channel}
 
 -- transmissions whose soft buffer fits every block of 1 to tb bytes
 pub record AreForBlocks (tb : ℕ) (sends : List Sending) : Type 0 where
@@ -15,6 +15,11 @@ pub record AreForBlocks (tb : ℕ) (sends : List Sending) : Type 0 where
   pub sent : AreSendings sends
   pub limited : is_limit (common sends).limit ≡ true
   pub fits : fits_all (common sends).limit tb ≡ true
+
+pub record IsChannel (amp noise : ℕ) : Type 0 where
+  pub heard : 1 ≤ amp
+  pub in_range : amp ≤ 127
+  pub bounded : noise ≤ 127
 
 pub record IsDecoding (windows limit : ℕ) : Type 0 where
   pub some : 1 ≤ windows
@@ -26,3 +31,4 @@ abbrev pub IsLawful : Command → Type 0
 IsLawful (Codeword m rv) = (m.limit ≡ None) × (rv ≤ 3)
 IsLawful (Encode version tb sends) = AreForBlocks tb sends × AreHeld version sends
 IsLawful (Decode windows limit workers) = IsDecoding windows limit × (1 ≤ workers) × (workers ≤ 16)
+IsLawful (Channel amp noise seed) = IsChannel amp noise

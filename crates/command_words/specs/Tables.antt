@@ -2,7 +2,7 @@
 use Rattle.std.specs.Prelude.{ℕ, List, [], ◌∷◌, Some, None}
 use Rattle.command_words.specs.Rules.{in_form}
 use Rattle.command_words.specs.declared.rules.Name.{Name}
-use Rattle.command_words.specs.declared.rules.Name.TheVariants.{Tb, G, Qm, Rv, Nl, Nir, Windows, Limit, Workers}
+use Rattle.command_words.specs.declared.rules.Name.TheVariants.{Tb, G, Qm, Rv, Nl, Nir, Windows, Limit, Workers, Amp, Noise, Seed}
 use Rattle.command_words.specs.declared.rules.Form.TheVariants.{Number, ListOfOne, ForTransmissions}
 use Rattle.command_words.specs.declared.rules.Range.{Range}
 use Rattle.command_words.specs.declared.rules.Range.TheVariants.{Between, Even}
@@ -87,6 +87,26 @@ limit_number = optional Limit to_sixteen 8
 abbrev pub workers_number : Rule
 workers_number = optional Workers to_sixteen 1
 
+-- ---- the channel
+
+abbrev pub amplitudes : Range
+amplitudes = Between 1 127
+
+abbrev pub strengths : Range
+strengths = Between 0 127
+
+abbrev pub seeds : Range
+seeds = Between 0 18446744073709551615
+
+abbrev pub amp_number : Rule
+amp_number = required Amp amplitudes
+
+abbrev pub noise_number : Rule
+noise_number = required Noise strengths
+
+abbrev pub seed_number : Rule
+seed_number = required Seed seeds
+
 -- ---- commands
 
 abbrev pub codeword_rules : List Rule
@@ -97,3 +117,6 @@ encode_rules = tb_number ∷ g_list ∷ qm_list ∷ rv_list ∷ nl_list ∷ nir_
 
 abbrev pub decode_rules : List Rule
 decode_rules = windows_number ∷ limit_number ∷ workers_number ∷ []
+
+abbrev pub channel_rules : List Rule
+channel_rules = amp_number ∷ noise_number ∷ seed_number ∷ []

@@ -10,16 +10,17 @@ use Rattle.rate_match.specs.Matching.{is_g}
 use Rattle.command_words.specs.Blocks.{asked_of, blocks_given}
 use Rattle.command_words.specs.Operands.{first_fault, given, number_given, only}
 use Rattle.command_words.specs.Refusals.{refused, missing, unless}
-use Rattle.command_words.specs.Settings.{decoding_numbers}
-use Rattle.command_words.specs.Tables.{codeword_rules, g_number, qm_number, rv_of_one, encode_rules, decode_rules, workers_number}
+use Rattle.command_words.specs.Settings.{channel_numbers, decoding_numbers}
+use Rattle.command_words.specs.Tables.{codeword_rules, g_number, qm_number, rv_of_one, encode_rules, decode_rules, workers_number, channel_rules}
 use Rattle.command_words.specs.declared.blocks.CodedBlocks.{CodedBlocks}
 use Rattle.command_words.specs.declared.operands.Operand.{Operand}
 use Rattle.command_words.specs.declared.operands.WordRefusal.{WordRefusal}
 use Rattle.command_words.specs.declared.rules.Form.TheVariants.{ForTransmissions}
+use Rattle.command_words.specs.declared.settings.ChannelNumbers.{ChannelNumbers}
 use Rattle.command_words.specs.declared.settings.DecodingNumbers.{DecodingNumbers}
 use Rattle.command_words.specs.declared.transmissions.Asked.{Asked}
 use Rattle.command_words.specs.declared.words.Command.{Command}
-use Rattle.command_words.specs.declared.words.Command.TheVariants.{Codeword, Encode, Decode}
+use Rattle.command_words.specs.declared.words.Command.TheVariants.{Codeword, Encode, Decode, Channel}
 
 -- ---- codeword
 
@@ -56,7 +57,7 @@ abbrev pub encode_of : (operands : List (List ℕ)) → Result Command WordRefus
 encode_of operands = unless (first_fault encode_rules [] operands)
     (encode_found (asked_of ForTransmissions operands) (missing operands))
 
--- ---- decode
+-- ---- decode, channel
 
 abbrev pub decode_found : Option DecodingNumbers → (workers : Option ℕ) → Option Command
 decode_found (Some d) (Some workers) = Some (Decode d.windows d.limit workers)
@@ -67,6 +68,17 @@ decode_of operands = unless (first_fault decode_rules [] operands)
     (ok_or (decode_found (decoding_numbers operands) (number_given workers_number operands))
     (missing operands))
 
+abbrev pub channel_asked : (operands : List (List ℕ)) → Result ChannelNumbers WordRefusal
+channel_asked operands = unless (first_fault channel_rules [] operands)
+    (ok_or (channel_numbers operands) (missing operands))
+
+abbrev pub channel_with : Result ChannelNumbers WordRefusal → Result Command WordRefusal
+channel_with (Ok c) = Ok (Channel c.amp c.noise c.seed)
+channel_with (Err refusal) = Err refusal
+
+abbrev pub channel_of : (operands : List (List ℕ)) → Result Command WordRefusal
+channel_of operands = channel_with (channel_asked operands)
+
 -- ---- all
 
 abbrev pub command_of : (words : List (List ℕ)) → Result Command WordRefusal
@@ -74,4 +86,5 @@ command_of [] = refused 1 0
 command_of (name ∷ operands) = if bytes_eq name (codes "codeword") then codeword_of operands
     else if bytes_eq name (codes "encode") then encode_of operands
     else if bytes_eq name (codes "decode") then decode_of operands
+    else if bytes_eq name (codes "channel") then channel_of operands
     else refused 2 0

@@ -1,12 +1,12 @@
-//! The words of `decode`.
+//! The words of `decode` and `channel`, which read a stream.
 ghost use Rattle.std.specs.Prelude.{◌≡◌, IfOk};
-ghost use Rattle.command_words.specs.Lawful.{IsLawful};
+ghost use Rattle.command_words.specs.Lawful.{IsLawful, IsChannel};
 ghost use Rattle.command_words.specs.Texts.{texts_of};
-ghost use Rattle.command_words.specs.Words.{decode_of};
+ghost use Rattle.command_words.specs.Words.{decode_of, channel_asked, channel_of};
 
 use crate::operands::{WordRefusal, first_fault, missing, number_given};
-use crate::settings::decoding_numbers;
-use crate::tables::{DECODE, WORKERS_NUMBER};
+use crate::settings::{ChannelNumbers, channel_numbers, decoding_numbers};
+use crate::tables::{CHANNEL, DECODE, WORKERS_NUMBER};
 use crate::words::Command;
 
 /// What the words behind `decode` ask for.
@@ -26,5 +26,34 @@ pub fn decode_of(operands: &[&str]) -> Result<Command, WordRefusal>
             workers: workers as usize,
         }),
         _ => Err(missing(operands)),
+    }
+}
+
+/// The numbers of the channel, where the operands give nothing else.
+fn channel_asked(operands: &[&str]) -> Result<ChannelNumbers, WordRefusal>
+    ensures value { result ≡ channel_asked (texts_of operands.now) }
+    ensures lawful { IfOk result (λ numbers. IsChannel numbers.amp numbers.noise) }
+{
+    if let Some(refusal) = first_fault(&CHANNEL, operands) {
+        return Err(refusal);
+    }
+    match channel_numbers(operands) {
+        Some(channel) => Ok(channel),
+        None => Err(missing(operands)),
+    }
+}
+
+/// What the words behind `channel` ask for.
+pub fn channel_of(operands: &[&str]) -> Result<Command, WordRefusal>
+    ensures command { result ≡ channel_of (texts_of operands.now) }
+    ensures lawful { IfOk result IsLawful }
+{
+    match channel_asked(operands) {
+        Ok(channel) => Ok(Command::Channel {
+            amp: channel.amp,
+            noise: channel.noise,
+            seed: channel.seed,
+        }),
+        Err(refusal) => Err(refusal),
     }
 }

@@ -24,6 +24,12 @@ pub enum Name {
     Limit,
     /// The threads that decode.
     Workers,
+    /// The soft value of a bit 0.
+    Amp,
+    /// How strong the noise is.
+    Noise,
+    /// The seed of all that is drawn.
+    Seed,
 }
 
 impl Name {
@@ -40,6 +46,9 @@ impl Name {
             Name::Windows => "windows",
             Name::Limit => "limit",
             Name::Workers => "workers",
+            Name::Amp => "amp",
+            Name::Noise => "noise",
+            Name::Seed => "seed",
         }
     }
 }

@@ -38,6 +38,45 @@ pub const WORKERS_NUMBER: Rule = Rule {
     default: Some(1),
 };
 
+const AMPLITUDES: Range = Range::Between {
+    least: 1,
+    greatest: 127,
+};
+
+const STRENGTHS: Range = Range::Between {
+    least: 0,
+    greatest: 127,
+};
+
+const SEEDS: Range = Range::Between {
+    least: 0,
+    greatest: 18_446_744_073_709_551_615,
+};
+
+/// The soft value that stands for a bit 0.
+pub const AMP_NUMBER: Rule = Rule {
+    name: Name::Amp,
+    form: Form::Number,
+    range: AMPLITUDES,
+    default: None,
+};
+
+/// How strong the noise is.
+pub const NOISE_NUMBER: Rule = Rule {
+    name: Name::Noise,
+    form: Form::Number,
+    range: STRENGTHS,
+    default: None,
+};
+
+/// The seed of all that is drawn.
+pub const SEED_NUMBER: Rule = Rule {
+    name: Name::Seed,
+    form: Form::Number,
+    range: SEEDS,
+    default: None,
+};
+
 /// What `codeword` takes.
 pub const CODEWORD: [Rule; 3] = [G_NUMBER, QM_NUMBER, RV_OF_ONE];
 
@@ -46,3 +85,6 @@ pub const ENCODE: [Rule; 6] = [TB_NUMBER, G_LIST, QM_LIST, RV_LIST, NL_LIST, NIR
 
 /// What `decode` takes.
 pub const DECODE: [Rule; 3] = [WINDOWS_NUMBER, LIMIT_NUMBER, WORKERS_NUMBER];
+
+/// What `channel` takes.
+pub const CHANNEL: [Rule; 3] = [AMP_NUMBER, NOISE_NUMBER, SEED_NUMBER];

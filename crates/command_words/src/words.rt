@@ -7,7 +7,7 @@ ghost use Rattle.command_words.specs.Words.{command_of};
 use crate::codeword::codeword_of;
 use crate::encode::encode_of;
 use crate::operands::WordRefusal;
-use crate::receiving::decode_of;
+use crate::receiving::{channel_of, decode_of};
 use coded_stream::Version;
 use rate_match::{Match, Sends};
 
@@ -34,6 +34,13 @@ pub enum Command {
         limit: usize,
         workers: usize,
     },
+    /// A hard stream as soft values with noise: the value of a bit 0, 1 to 127, how strong the
+    /// noise is, 0 to 127, and the seed that it is drawn from.
+    Channel {
+        amp: u8,
+        noise: u8,
+        seed: u64,
+    },
 }
 
 /// What the words ask for, or the first of them that is refused.
@@ -50,6 +57,7 @@ pub fn read_words(words: &[&str]) -> Result<Command, WordRefusal>
             "codeword" => codeword_of(operands),
             "encode" => encode_of(operands),
             "decode" => decode_of(operands),
+            "channel" => channel_of(operands),
             _ => Err(WordRefusal {
                 number: 2,
                 place: 0,

@@ -7,7 +7,7 @@ use turbo_run::{Command, WordRefusal, read_words};
 
 #[test]
 fn the_first_word_that_is_refused_is_named(rt: HostRuntime) -> Result<(), Fail> {
-    let rows: [(&str, u8, usize); 54] = [
+    let rows: [(&str, u8, usize); 63] = [
         ("", 1, 0),
         ("fly", 2, 0),
         ("codewords g=2", 2, 0),
@@ -62,6 +62,15 @@ fn the_first_word_that_is_refused_is_named(rt: HostRuntime) -> Result<(), Fail> 
         ("decode limit=17", 7, 1),
         ("decode workers=0", 7, 1),
         ("decode workers=17", 7, 1),
+        ("channel amp=30 noise=0 windows=8", 3, 3),
+        ("channel amp=30 noise=0 amp=30", 4, 3),
+        ("channel", 5, 1),
+        ("channel amp=30 noise=0", 5, 3),
+        ("channel seed=-1", 6, 1),
+        ("channel amp=0", 7, 1),
+        ("channel amp=128", 7, 1),
+        ("channel noise=128", 7, 1),
+        ("channel seed=18446744073709551616", 7, 1),
     ];
     for (line, number, place) in rows {
         let words = words_of(rt.alloc(), line)?;
@@ -129,6 +138,14 @@ fn numbers_that_are_not_given_have_their_defaults(rt: HostRuntime) -> Result<(),
                 windows: 64,
                 limit: 3,
                 workers: 16,
+            },
+        ),
+        (
+            "channel seed=18446744073709551615 noise=0 amp=127",
+            Command::Channel {
+                amp: 127,
+                noise: 0,
+                seed: u64::MAX,
             },
         ),
     ];
