@@ -120,3 +120,6 @@ decode_rules = windows_number ∷ limit_number ∷ workers_number ∷ []
 
 abbrev pub channel_rules : List Rule
 channel_rules = amp_number ∷ noise_number ∷ seed_number ∷ []
+
+abbrev pub upgrade_rules : List Rule
+upgrade_rules = []

@@ -11,7 +11,7 @@ use Rattle.command_words.specs.Blocks.{asked_of, blocks_given}
 use Rattle.command_words.specs.Operands.{first_fault, given, number_given, only}
 use Rattle.command_words.specs.Refusals.{refused, missing, unless}
 use Rattle.command_words.specs.Settings.{channel_numbers, decoding_numbers}
-use Rattle.command_words.specs.Tables.{codeword_rules, g_number, qm_number, rv_of_one, encode_rules, decode_rules, workers_number, channel_rules}
+use Rattle.command_words.specs.Tables.{codeword_rules, g_number, qm_number, rv_of_one, encode_rules, decode_rules, workers_number, channel_rules, upgrade_rules}
 use Rattle.command_words.specs.declared.blocks.CodedBlocks.{CodedBlocks}
 use Rattle.command_words.specs.declared.operands.Operand.{Operand}
 use Rattle.command_words.specs.declared.operands.WordRefusal.{WordRefusal}
@@ -20,7 +20,7 @@ use Rattle.command_words.specs.declared.settings.ChannelNumbers.{ChannelNumbers}
 use Rattle.command_words.specs.declared.settings.DecodingNumbers.{DecodingNumbers}
 use Rattle.command_words.specs.declared.transmissions.Asked.{Asked}
 use Rattle.command_words.specs.declared.words.Command.{Command}
-use Rattle.command_words.specs.declared.words.Command.TheVariants.{Codeword, Encode, Decode, Channel}
+use Rattle.command_words.specs.declared.words.Command.TheVariants.{Codeword, Encode, Decode, Channel, Upgrade}
 
 -- ---- codeword
 
@@ -57,7 +57,7 @@ abbrev pub encode_of : (operands : List (List ℕ)) → Result Command WordRefus
 encode_of operands = unless (first_fault encode_rules [] operands)
     (encode_found (asked_of ForTransmissions operands) (missing operands))
 
--- ---- decode, channel
+-- ---- decode, channel, upgrade
 
 abbrev pub decode_found : Option DecodingNumbers → (workers : Option ℕ) → Option Command
 decode_found (Some d) (Some workers) = Some (Decode d.windows d.limit workers)
@@ -79,6 +79,9 @@ channel_with (Err refusal) = Err refusal
 abbrev pub channel_of : (operands : List (List ℕ)) → Result Command WordRefusal
 channel_of operands = channel_with (channel_asked operands)
 
+abbrev pub upgrade_of : (operands : List (List ℕ)) → Result Command WordRefusal
+upgrade_of operands = unless (first_fault upgrade_rules [] operands) (Ok Upgrade)
+
 -- ---- all
 
 abbrev pub command_of : (words : List (List ℕ)) → Result Command WordRefusal
@@ -87,4 +90,5 @@ command_of (name ∷ operands) = if bytes_eq name (codes "codeword") then codewo
     else if bytes_eq name (codes "encode") then encode_of operands
     else if bytes_eq name (codes "decode") then decode_of operands
     else if bytes_eq name (codes "channel") then channel_of operands
+    else if bytes_eq name (codes "upgrade") then upgrade_of operands
     else refused 2 0

@@ -1,12 +1,12 @@
-//! The words of `decode` and `channel`, which read a stream.
+//! The words of `decode`, `channel` and `upgrade`, which read a stream.
 ghost use Rattle.std.specs.Prelude.{◌≡◌, IfOk};
 ghost use Rattle.command_words.specs.Lawful.{IsLawful, IsChannel};
 ghost use Rattle.command_words.specs.Texts.{texts_of};
-ghost use Rattle.command_words.specs.Words.{decode_of, channel_asked, channel_of};
+ghost use Rattle.command_words.specs.Words.{decode_of, channel_asked, channel_of, upgrade_of};
 
 use crate::operands::{WordRefusal, first_fault, missing, number_given};
 use crate::settings::{ChannelNumbers, channel_numbers, decoding_numbers};
-use crate::tables::{CHANNEL, DECODE, WORKERS_NUMBER};
+use crate::tables::{CHANNEL, DECODE, UPGRADE, WORKERS_NUMBER};
 use crate::words::Command;
 
 /// What the words behind `decode` ask for.
@@ -55,5 +55,16 @@ pub fn channel_of(operands: &[&str]) -> Result<Command, WordRefusal>
             seed: channel.seed,
         }),
         Err(refusal) => Err(refusal),
+    }
+}
+
+/// What the words behind `upgrade` ask for.
+pub fn upgrade_of(operands: &[&str]) -> Result<Command, WordRefusal>
+    ensures command { result ≡ upgrade_of (texts_of operands.now) }
+    ensures lawful { IfOk result IsLawful }
+{
+    match first_fault(&UPGRADE, operands) {
+        Some(refusal) => Err(refusal),
+        None => Ok(Command::Upgrade),
     }
 }

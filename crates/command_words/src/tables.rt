@@ -88,3 +88,6 @@ pub const DECODE: [Rule; 3] = [WINDOWS_NUMBER, LIMIT_NUMBER, WORKERS_NUMBER];
 
 /// What `channel` takes.
 pub const CHANNEL: [Rule; 3] = [AMP_NUMBER, NOISE_NUMBER, SEED_NUMBER];
+
+/// What `upgrade` takes.
+pub const UPGRADE: [Rule; 0] = [];

@@ -7,7 +7,7 @@ ghost use Rattle.command_words.specs.Words.{command_of};
 use crate::codeword::codeword_of;
 use crate::encode::encode_of;
 use crate::operands::WordRefusal;
-use crate::receiving::{channel_of, decode_of};
+use crate::receiving::{channel_of, decode_of, upgrade_of};
 use coded_stream::Version;
 use rate_match::{Match, Sends};
 
@@ -41,6 +41,8 @@ pub enum Command {
         noise: u8,
         seed: u64,
     },
+    /// A stream in the second version of the container.
+    Upgrade,
 }
 
 /// What the words ask for, or the first of them that is refused.
@@ -58,6 +60,7 @@ pub fn read_words(words: &[&str]) -> Result<Command, WordRefusal>
             "encode" => encode_of(operands),
             "decode" => decode_of(operands),
             "channel" => channel_of(operands),
+            "upgrade" => upgrade_of(operands),
             _ => Err(WordRefusal {
                 number: 2,
                 place: 0,

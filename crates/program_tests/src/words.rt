@@ -7,7 +7,7 @@ use turbo_run::{Command, WordRefusal, read_words};
 
 #[test]
 fn the_first_word_that_is_refused_is_named(rt: HostRuntime) -> Result<(), Fail> {
-    let rows: [(&str, u8, usize); 63] = [
+    let rows: [(&str, u8, usize); 65] = [
         ("", 1, 0),
         ("fly", 2, 0),
         ("codewords g=2", 2, 0),
@@ -71,6 +71,8 @@ fn the_first_word_that_is_refused_is_named(rt: HostRuntime) -> Result<(), Fail> 
         ("channel amp=128", 7, 1),
         ("channel noise=128", 7, 1),
         ("channel seed=18446744073709551616", 7, 1),
+        ("upgrade tb=2", 3, 1),
+        ("upgrade two", 3, 1),
     ];
     for (line, number, place) in rows {
         let words = words_of(rt.alloc(), line)?;
@@ -148,6 +150,7 @@ fn numbers_that_are_not_given_have_their_defaults(rt: HostRuntime) -> Result<(),
                 seed: u64::MAX,
             },
         ),
+        ("upgrade", Command::Upgrade),
     ];
     for (line, want) in rows {
         let words = words_of(rt.alloc(), line)?;
