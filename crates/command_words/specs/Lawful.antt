@@ -1,12 +1,12 @@
 -- What holds of each command that words ask for.
 use Rattle.std.specs.Prelude.{◌≡◌, ℕ, ◌≤◌, List, true, None}
 use Rattle.rate_match.specs.Fitting.{fits_all}
-use Rattle.rate_match.specs.Sendings.{AreSendings, common}
+use Rattle.rate_match.specs.Sendings.{AreSendings, AreEven, common}
 use Rattle.rate_match.specs.declared.sends.Sending.{Sending}
 use Rattle.coded_stream.specs.Header.{AreHeld}
 use Rattle.coded_stream.specs.Limit.{is_limit}
 use Rattle.command_words.specs.declared.words.Command.{Command}
-use Rattle.command_words.specs.declared.words.Command.TheVariants.{Codeword, Encode, Decode, Channel, Upgrade}
+use Rattle.command_words.specs.declared.words.Command.TheVariants.{Codeword, Encode, Decode, Channel, Upgrade, Trial}
 
 -- transmissions whose soft buffer fits every block of 1 to tb bytes
 pub record AreForBlocks (tb : ℕ) (sends : List Sending) : Type 0 where
@@ -33,3 +33,5 @@ IsLawful (Encode version tb sends) = AreForBlocks tb sends × AreHeld version se
 IsLawful (Decode windows limit workers) = IsDecoding windows limit × (1 ≤ workers) × (workers ≤ 16)
 IsLawful (Channel amp noise seed) = IsChannel amp noise
 IsLawful Upgrade = Unit {0}
+IsLawful (Trial seed blocks tb sends amp noise windows limit) = AreForBlocks tb sends × AreEven sends
+    × (1 ≤ blocks) × (blocks ≤ 4096) × IsChannel amp noise × IsDecoding windows limit

@@ -2,7 +2,7 @@
 use Rattle.std.specs.Prelude.{ℕ, List, [], ◌∷◌, Some, None}
 use Rattle.command_words.specs.Rules.{in_form}
 use Rattle.command_words.specs.declared.rules.Name.{Name}
-use Rattle.command_words.specs.declared.rules.Name.TheVariants.{Tb, G, Qm, Rv, Nl, Nir, Windows, Limit, Workers, Amp, Noise, Seed}
+use Rattle.command_words.specs.declared.rules.Name.TheVariants.{Tb, G, Qm, Rv, Nl, Nir, Windows, Limit, Workers, Amp, Noise, Seed, Blocks}
 use Rattle.command_words.specs.declared.rules.Form.TheVariants.{Number, ListOfOne, ForTransmissions}
 use Rattle.command_words.specs.declared.rules.Range.{Range}
 use Rattle.command_words.specs.declared.rules.Range.TheVariants.{Between, Even}
@@ -107,6 +107,14 @@ noise_number = required Noise strengths
 abbrev pub seed_number : Rule
 seed_number = required Seed seeds
 
+-- ---- a trial
+
+abbrev pub block_counts : Range
+block_counts = Between 1 4096
+
+abbrev pub blocks_number : Rule
+blocks_number = required Blocks block_counts
+
 -- ---- commands
 
 abbrev pub codeword_rules : List Rule
@@ -123,3 +131,8 @@ channel_rules = amp_number ∷ noise_number ∷ seed_number ∷ []
 
 abbrev pub upgrade_rules : List Rule
 upgrade_rules = []
+
+abbrev pub trial_rules : List Rule
+trial_rules =
+    seed_number ∷ blocks_number ∷ tb_number ∷ g_number ∷ qm_number ∷ rv_list ∷ nl_number ∷ nir_number
+    ∷ amp_number ∷ noise_number ∷ windows_number ∷ limit_number ∷ []

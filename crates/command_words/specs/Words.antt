@@ -11,16 +11,16 @@ use Rattle.command_words.specs.Blocks.{asked_of, blocks_given}
 use Rattle.command_words.specs.Operands.{first_fault, given, number_given, only}
 use Rattle.command_words.specs.Refusals.{refused, missing, unless}
 use Rattle.command_words.specs.Settings.{channel_numbers, decoding_numbers}
-use Rattle.command_words.specs.Tables.{codeword_rules, g_number, qm_number, rv_of_one, encode_rules, decode_rules, workers_number, channel_rules, upgrade_rules}
+use Rattle.command_words.specs.Tables.{codeword_rules, g_number, qm_number, rv_of_one, encode_rules, decode_rules, workers_number, channel_rules, upgrade_rules, trial_rules, blocks_number}
 use Rattle.command_words.specs.declared.blocks.CodedBlocks.{CodedBlocks}
 use Rattle.command_words.specs.declared.operands.Operand.{Operand}
 use Rattle.command_words.specs.declared.operands.WordRefusal.{WordRefusal}
-use Rattle.command_words.specs.declared.rules.Form.TheVariants.{ForTransmissions}
+use Rattle.command_words.specs.declared.rules.Form.TheVariants.{Number, ForTransmissions}
 use Rattle.command_words.specs.declared.settings.ChannelNumbers.{ChannelNumbers}
 use Rattle.command_words.specs.declared.settings.DecodingNumbers.{DecodingNumbers}
 use Rattle.command_words.specs.declared.transmissions.Asked.{Asked}
 use Rattle.command_words.specs.declared.words.Command.{Command}
-use Rattle.command_words.specs.declared.words.Command.TheVariants.{Codeword, Encode, Decode, Channel, Upgrade}
+use Rattle.command_words.specs.declared.words.Command.TheVariants.{Codeword, Encode, Decode, Channel, Upgrade, Trial}
 
 -- ---- codeword
 
@@ -82,6 +82,24 @@ channel_of operands = channel_with (channel_asked operands)
 abbrev pub upgrade_of : (operands : List (List ℕ)) → Result Command WordRefusal
 upgrade_of operands = unless (first_fault upgrade_rules [] operands) (Ok Upgrade)
 
+-- ---- trial
+
+abbrev pub trial_with : ChannelNumbers → DecodingNumbers → (count : ℕ) → Result CodedBlocks WordRefusal
+    → Result Command WordRefusal
+trial_with c d count (Ok blocks) = Ok (Trial c.seed count blocks.tb blocks.sends c.amp c.noise d.windows d.limit)
+trial_with c d count (Err refusal) = Err refusal
+
+abbrev pub trial_found : Option Asked → Option ChannelNumbers → Option DecodingNumbers → (count : Option ℕ)
+    → (none : WordRefusal) → Result Command WordRefusal
+trial_found (Some asked) (Some c) (Some d) (Some count) none = trial_with c d count (blocks_given asked)
+trial_found _ _ _ _ none = Err none
+
+-- G, Q_m and N_L are single numbers
+abbrev pub trial_of : (operands : List (List ℕ)) → Result Command WordRefusal
+trial_of operands = unless (first_fault trial_rules [] operands)
+    (trial_found (asked_of Number operands) (channel_numbers operands) (decoding_numbers operands)
+    (number_given blocks_number operands) (missing operands))
+
 -- ---- all
 
 abbrev pub command_of : (words : List (List ℕ)) → Result Command WordRefusal
@@ -91,4 +109,5 @@ command_of (name ∷ operands) = if bytes_eq name (codes "codeword") then codewo
     else if bytes_eq name (codes "decode") then decode_of operands
     else if bytes_eq name (codes "channel") then channel_of operands
     else if bytes_eq name (codes "upgrade") then upgrade_of operands
+    else if bytes_eq name (codes "trial") then trial_of operands
     else refused 2 0

@@ -15,6 +15,7 @@ mod splitting;
 mod tables;
 mod transmission_tables;
 mod transmissions;
+mod trial;
 mod words;
 
 pub use operands::WordRefusal;

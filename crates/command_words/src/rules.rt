@@ -30,6 +30,8 @@ pub enum Name {
     Noise,
     /// The seed of all that is drawn.
     Seed,
+    /// The blocks of a trial.
+    Blocks,
 }
 
 impl Name {
@@ -49,6 +51,7 @@ impl Name {
             Name::Amp => "amp",
             Name::Noise => "noise",
             Name::Seed => "seed",
+            Name::Blocks => "blocks",
         }
     }
 }

@@ -1,7 +1,8 @@
 //! What each command takes.
 use crate::rules::{Form, Name, Range, Rule};
 use crate::transmission_tables::{
-    G_LIST, G_NUMBER, NIR_NUMBER, NL_LIST, QM_LIST, QM_NUMBER, RV_LIST, RV_OF_ONE, TB_NUMBER,
+    G_LIST, G_NUMBER, NIR_NUMBER, NL_LIST, NL_NUMBER, QM_LIST, QM_NUMBER, RV_LIST, RV_OF_ONE,
+    TB_NUMBER,
 };
 
 const WINDOW_COUNTS: Range = Range::Between {
@@ -77,6 +78,19 @@ pub const SEED_NUMBER: Rule = Rule {
     default: None,
 };
 
+const BLOCK_COUNTS: Range = Range::Between {
+    least: 1,
+    greatest: 4_096,
+};
+
+/// The blocks of a trial.
+pub const BLOCKS_NUMBER: Rule = Rule {
+    name: Name::Blocks,
+    form: Form::Number,
+    range: BLOCK_COUNTS,
+    default: None,
+};
+
 /// What `codeword` takes.
 pub const CODEWORD: [Rule; 3] = [G_NUMBER, QM_NUMBER, RV_OF_ONE];
 
@@ -91,3 +105,19 @@ pub const CHANNEL: [Rule; 3] = [AMP_NUMBER, NOISE_NUMBER, SEED_NUMBER];
 
 /// What `upgrade` takes.
 pub const UPGRADE: [Rule; 0] = [];
+
+/// What `trial` takes.
+pub const TRIAL: [Rule; 12] = [
+    SEED_NUMBER,
+    BLOCKS_NUMBER,
+    TB_NUMBER,
+    G_NUMBER,
+    QM_NUMBER,
+    RV_LIST,
+    NL_NUMBER,
+    NIR_NUMBER,
+    AMP_NUMBER,
+    NOISE_NUMBER,
+    WINDOWS_NUMBER,
+    LIMIT_NUMBER,
+];

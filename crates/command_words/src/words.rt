@@ -8,6 +8,7 @@ use crate::codeword::codeword_of;
 use crate::encode::encode_of;
 use crate::operands::WordRefusal;
 use crate::receiving::{channel_of, decode_of, upgrade_of};
+use crate::trial::trial_of;
 use coded_stream::Version;
 use rate_match::{Match, Sends};
 
@@ -43,6 +44,19 @@ pub enum Command {
     },
     /// A stream in the second version of the container.
     Upgrade,
+    /// So many blocks, 1 to 4,096, drawn from a seed, and sent, received and decoded: the bytes of
+    /// each and the transmissions of each, all with one rate matching, and the numbers of `Channel`
+    /// and of `Decode`.
+    Trial {
+        seed: u64,
+        blocks: usize,
+        tb: usize,
+        sends: Sends,
+        amp: u8,
+        noise: u8,
+        windows: usize,
+        limit: usize,
+    },
 }
 
 /// What the words ask for, or the first of them that is refused.
@@ -61,6 +75,7 @@ pub fn read_words(words: &[&str]) -> Result<Command, WordRefusal>
             "decode" => decode_of(operands),
             "channel" => channel_of(operands),
             "upgrade" => upgrade_of(operands),
+            "trial" => trial_of(operands),
             _ => Err(WordRefusal {
                 number: 2,
                 place: 0,

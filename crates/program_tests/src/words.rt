@@ -7,7 +7,7 @@ use turbo_run::{Command, WordRefusal, read_words};
 
 #[test]
 fn the_first_word_that_is_refused_is_named(rt: HostRuntime) -> Result<(), Fail> {
-    let rows: [(&str, u8, usize); 65] = [
+    let rows: [(&str, u8, usize); 76] = [
         ("", 1, 0),
         ("fly", 2, 0),
         ("codewords g=2", 2, 0),
@@ -73,6 +73,25 @@ fn the_first_word_that_is_refused_is_named(rt: HostRuntime) -> Result<(), Fail> 
         ("channel seed=18446744073709551616", 7, 1),
         ("upgrade tb=2", 3, 1),
         ("upgrade two", 3, 1),
+        ("trial workers=1", 3, 1),
+        ("trial seed=1 blocks=3 seed=1", 4, 3),
+        ("trial seed=1 blocks=3 tb=2 g=132 qm=2 rv=0 amp=40", 5, 8),
+        ("trial g=132,132", 6, 1),
+        ("trial qm=2,2", 6, 1),
+        ("trial nl=1,1", 6, 1),
+        ("trial blocks=0", 7, 1),
+        ("trial blocks=4097", 7, 1),
+        ("trial rv=0,0,0,0,0,0,0,0,0", 7, 1),
+        (
+            "trial seed=1 g=133 qm=2 rv=0 amp=40 noise=0 blocks=3 tb=2",
+            7,
+            2,
+        ),
+        (
+            "trial nir=6176 tb=766 g=132 qm=2 rv=0 amp=40 noise=0 blocks=3 seed=1",
+            8,
+            1,
+        ),
     ];
     for (line, number, place) in rows {
         let words = words_of(rt.alloc(), line)?;
@@ -125,6 +144,8 @@ fn the_version_depends_on_how_many_numbers_are_given(rt: HostRuntime) -> Result<
 
 #[test]
 fn numbers_that_are_not_given_have_their_defaults(rt: HostRuntime) -> Result<(), Fail> {
+    let m = Match::new(2, 1, 132, Buffer::Full).expect(&rt, "a matching");
+    let sends = Sends::one(m, 0).expect(&rt, "a transmission");
     let rows = [
         (
             "decode",
@@ -151,6 +172,19 @@ fn numbers_that_are_not_given_have_their_defaults(rt: HostRuntime) -> Result<(),
             },
         ),
         ("upgrade", Command::Upgrade),
+        (
+            "trial seed=1 blocks=3 tb=2 g=132 qm=2 rv=0 amp=40 noise=20",
+            Command::Trial {
+                seed: 1,
+                blocks: 3,
+                tb: 2,
+                sends,
+                amp: 40,
+                noise: 20,
+                windows: 8,
+                limit: 8,
+            },
+        ),
     ];
     for (line, want) in rows {
         let words = words_of(rt.alloc(), line)?;
