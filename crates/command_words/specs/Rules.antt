@@ -1,7 +1,7 @@
 -- How the numbers of an operand are spelt, and which are accepted.
 use Rattle.std.specs.Prelude.{ℕ, ◌%◌, List, Bool, ◌&&◌, nat_le, ◌==◌, codes}
 use Rattle.command_words.specs.declared.rules.Name.{Name}
-use Rattle.command_words.specs.declared.rules.Name.TheVariants.{Tb, G, Qm, Rv, Nl, Nir, Windows, Limit, Workers, Amp, Noise, Seed, Blocks}
+use Rattle.command_words.specs.declared.rules.Name.TheVariants.{Tb, G, Qm, Rv, Nl, Nir, Windows, Limit, Workers, Amp, Noise, Seed, Blocks, Rnti, Q, Slot, Cell}
 use Rattle.command_words.specs.declared.rules.Form.{Form}
 use Rattle.command_words.specs.declared.rules.Form.TheVariants.{Number, ListOfOne, ForTransmissions}
 use Rattle.command_words.specs.declared.rules.Range.{Range}
@@ -22,6 +22,10 @@ name_text Amp = codes "amp"
 name_text Noise = codes "noise"
 name_text Seed = codes "seed"
 name_text Blocks = codes "blocks"
+name_text Rnti = codes "rnti"
+name_text Q = codes "q"
+name_text Slot = codes "slot"
+name_text Cell = codes "cell"
 
 -- the most numbers of an operand
 abbrev pub most : Form → ℕ

@@ -2,7 +2,7 @@
 use Rattle.std.specs.Prelude.{ℕ, List, [], ◌∷◌, Some, None}
 use Rattle.command_words.specs.Rules.{in_form}
 use Rattle.command_words.specs.declared.rules.Name.{Name}
-use Rattle.command_words.specs.declared.rules.Name.TheVariants.{Tb, G, Qm, Rv, Nl, Nir, Windows, Limit, Workers, Amp, Noise, Seed, Blocks}
+use Rattle.command_words.specs.declared.rules.Name.TheVariants.{Tb, G, Qm, Rv, Nl, Nir, Windows, Limit, Workers, Amp, Noise, Seed, Blocks, Rnti, Q, Slot, Cell}
 use Rattle.command_words.specs.declared.rules.Form.TheVariants.{Number, ListOfOne, ForTransmissions}
 use Rattle.command_words.specs.declared.rules.Range.{Range}
 use Rattle.command_words.specs.declared.rules.Range.TheVariants.{Between, Even}
@@ -115,6 +115,32 @@ block_counts = Between 1 4096
 abbrev pub blocks_number : Rule
 blocks_number = required Blocks block_counts
 
+-- ---- scrambling: n_RNTI, q, n_s and the cell's identity of 36.211 6.3.1
+
+abbrev pub identities : Range
+identities = Between 0 65535
+
+abbrev pub codewords : Range
+codewords = Between 0 1
+
+abbrev pub slots : Range
+slots = Between 0 19
+
+abbrev pub cells : Range
+cells = Between 0 503
+
+abbrev pub rnti_number : Rule
+rnti_number = required Rnti identities
+
+abbrev pub q_number : Rule
+q_number = required Q codewords
+
+abbrev pub slot_number : Rule
+slot_number = required Slot slots
+
+abbrev pub cell_number : Rule
+cell_number = required Cell cells
+
 -- ---- commands
 
 abbrev pub codeword_rules : List Rule
@@ -136,3 +162,6 @@ abbrev pub trial_rules : List Rule
 trial_rules =
     seed_number ∷ blocks_number ∷ tb_number ∷ g_number ∷ qm_number ∷ rv_list ∷ nl_number ∷ nir_number
     ∷ amp_number ∷ noise_number ∷ windows_number ∷ limit_number ∷ []
+
+abbrev pub scramble_rules : List Rule
+scramble_rules = rnti_number ∷ q_number ∷ slot_number ∷ cell_number ∷ []

@@ -11,7 +11,7 @@ use Rattle.command_words.specs.Blocks.{asked_of, blocks_given}
 use Rattle.command_words.specs.Operands.{first_fault, given, number_given, only}
 use Rattle.command_words.specs.Refusals.{refused, missing, unless}
 use Rattle.command_words.specs.Settings.{channel_numbers, decoding_numbers}
-use Rattle.command_words.specs.Tables.{codeword_rules, g_number, qm_number, rv_of_one, encode_rules, decode_rules, workers_number, channel_rules, upgrade_rules, trial_rules, blocks_number}
+use Rattle.command_words.specs.Tables.{codeword_rules, g_number, qm_number, rv_of_one, encode_rules, decode_rules, workers_number, channel_rules, upgrade_rules, trial_rules, blocks_number, scramble_rules, rnti_number, q_number, slot_number, cell_number}
 use Rattle.command_words.specs.declared.blocks.CodedBlocks.{CodedBlocks}
 use Rattle.command_words.specs.declared.operands.Operand.{Operand}
 use Rattle.command_words.specs.declared.operands.WordRefusal.{WordRefusal}
@@ -20,7 +20,7 @@ use Rattle.command_words.specs.declared.settings.ChannelNumbers.{ChannelNumbers}
 use Rattle.command_words.specs.declared.settings.DecodingNumbers.{DecodingNumbers}
 use Rattle.command_words.specs.declared.transmissions.Asked.{Asked}
 use Rattle.command_words.specs.declared.words.Command.{Command}
-use Rattle.command_words.specs.declared.words.Command.TheVariants.{Codeword, Encode, Decode, Channel, Upgrade, Trial}
+use Rattle.command_words.specs.declared.words.Command.TheVariants.{Codeword, Encode, Decode, Channel, Upgrade, Trial, Scramble}
 
 -- ---- codeword
 
@@ -82,6 +82,17 @@ channel_of operands = channel_with (channel_asked operands)
 abbrev pub upgrade_of : (operands : List (List ℕ)) → Result Command WordRefusal
 upgrade_of operands = unless (first_fault upgrade_rules [] operands) (Ok Upgrade)
 
+-- ---- scramble
+
+abbrev pub scramble_found : (rnti q slot cell : Option ℕ) → Option Command
+scramble_found (Some rnti) (Some q) (Some slot) (Some cell) = Some (Scramble rnti q slot cell)
+scramble_found _ _ _ _ = None
+
+abbrev pub scramble_of : (operands : List (List ℕ)) → Result Command WordRefusal
+scramble_of operands = unless (first_fault scramble_rules [] operands)
+    (ok_or (scramble_found (number_given rnti_number operands) (number_given q_number operands)
+    (number_given slot_number operands) (number_given cell_number operands)) (missing operands))
+
 -- ---- trial
 
 abbrev pub trial_with : ChannelNumbers → DecodingNumbers → (count : ℕ) → Result CodedBlocks WordRefusal
@@ -110,4 +121,5 @@ command_of (name ∷ operands) = if bytes_eq name (codes "codeword") then codewo
     else if bytes_eq name (codes "channel") then channel_of operands
     else if bytes_eq name (codes "upgrade") then upgrade_of operands
     else if bytes_eq name (codes "trial") then trial_of operands
+    else if bytes_eq name (codes "scramble") then scramble_of operands
     else refused 2 0

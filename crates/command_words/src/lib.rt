@@ -10,6 +10,7 @@ mod numbers;
 mod operands;
 mod receiving;
 mod rules;
+mod scramble;
 mod settings;
 mod splitting;
 mod tables;

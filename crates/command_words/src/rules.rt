@@ -32,6 +32,14 @@ pub enum Name {
     Seed,
     /// The blocks of a trial.
     Blocks,
+    /// The receiver's identity, n_RNTI.
+    Rnti,
+    /// The codeword's number, q.
+    Q,
+    /// The slot in the radio frame, n_s.
+    Slot,
+    /// The cell's identity.
+    Cell,
 }
 
 impl Name {
@@ -52,6 +60,10 @@ impl Name {
             Name::Noise => "noise",
             Name::Seed => "seed",
             Name::Blocks => "blocks",
+            Name::Rnti => "rnti",
+            Name::Q => "q",
+            Name::Slot => "slot",
+            Name::Cell => "cell",
         }
     }
 }

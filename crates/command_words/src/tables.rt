@@ -91,6 +91,50 @@ pub const BLOCKS_NUMBER: Rule = Rule {
     default: None,
 };
 
+/// The receiver's identity, n_RNTI.
+pub const RNTI_NUMBER: Rule = Rule {
+    name: Name::Rnti,
+    form: Form::Number,
+    range: Range::Between {
+        least: 0,
+        greatest: 65_535,
+    },
+    default: None,
+};
+
+/// The codeword's number, q.
+pub const Q_NUMBER: Rule = Rule {
+    name: Name::Q,
+    form: Form::Number,
+    range: Range::Between {
+        least: 0,
+        greatest: 1,
+    },
+    default: None,
+};
+
+/// The slot in the radio frame, n_s.
+pub const SLOT_NUMBER: Rule = Rule {
+    name: Name::Slot,
+    form: Form::Number,
+    range: Range::Between {
+        least: 0,
+        greatest: 19,
+    },
+    default: None,
+};
+
+/// The cell's identity.
+pub const CELL_NUMBER: Rule = Rule {
+    name: Name::Cell,
+    form: Form::Number,
+    range: Range::Between {
+        least: 0,
+        greatest: 503,
+    },
+    default: None,
+};
+
 /// What `codeword` takes.
 pub const CODEWORD: [Rule; 3] = [G_NUMBER, QM_NUMBER, RV_OF_ONE];
 
@@ -121,3 +165,6 @@ pub const TRIAL: [Rule; 12] = [
     WINDOWS_NUMBER,
     LIMIT_NUMBER,
 ];
+
+/// What `scramble` takes.
+pub const SCRAMBLE: [Rule; 4] = [RNTI_NUMBER, Q_NUMBER, SLOT_NUMBER, CELL_NUMBER];

@@ -8,6 +8,7 @@ use crate::codeword::codeword_of;
 use crate::encode::encode_of;
 use crate::operands::WordRefusal;
 use crate::receiving::{channel_of, decode_of, upgrade_of};
+use crate::scramble::scramble_of;
 use crate::trial::trial_of;
 use coded_stream::Version;
 use rate_match::{Match, Sends};
@@ -57,6 +58,14 @@ pub enum Command {
         windows: usize,
         limit: usize,
     },
+    /// A stream with its hard bits scrambled or its soft values turned (36.211 6.3.1): n_RNTI, the
+    /// codeword's number 0 or 1, the first slot 0 to 19, and the cell's identity 0 to 503.
+    Scramble {
+        rnti: u16,
+        q: u8,
+        slot: u8,
+        cell: u16,
+    },
 }
 
 /// What the words ask for, or the first of them that is refused.
@@ -76,6 +85,7 @@ pub fn read_words(words: &[&str]) -> Result<Command, WordRefusal>
             "channel" => channel_of(operands),
             "upgrade" => upgrade_of(operands),
             "trial" => trial_of(operands),
+            "scramble" => scramble_of(operands),
             _ => Err(WordRefusal {
                 number: 2,
                 place: 0,

@@ -7,7 +7,7 @@ use turbo_run::{Command, WordRefusal, read_words};
 
 #[test]
 fn the_first_word_that_is_refused_is_named(rt: HostRuntime) -> Result<(), Fail> {
-    let rows: [(&str, u8, usize); 76] = [
+    let rows: [(&str, u8, usize); 81] = [
         ("", 1, 0),
         ("fly", 2, 0),
         ("codewords g=2", 2, 0),
@@ -92,6 +92,11 @@ fn the_first_word_that_is_refused_is_named(rt: HostRuntime) -> Result<(), Fail> 
             8,
             1,
         ),
+        ("scramble rnti=0 q=0 slot=0", 5, 4),
+        ("scramble rnti=65536", 7, 1),
+        ("scramble q=2", 7, 1),
+        ("scramble rnti=0 q=0 slot=20 cell=0", 7, 3),
+        ("scramble cell=504", 7, 1),
     ];
     for (line, number, place) in rows {
         let words = words_of(rt.alloc(), line)?;
@@ -183,6 +188,15 @@ fn numbers_that_are_not_given_have_their_defaults(rt: HostRuntime) -> Result<(),
                 noise: 20,
                 windows: 8,
                 limit: 8,
+            },
+        ),
+        (
+            "scramble cell=503 slot=19 q=1 rnti=65535",
+            Command::Scramble {
+                rnti: 65_535,
+                q: 1,
+                slot: 19,
+                cell: 503,
             },
         ),
     ];
