@@ -6,7 +6,7 @@ use Rattle.rate_match.specs.declared.sends.Sending.{Sending}
 use Rattle.coded_stream.specs.Header.{AreHeld}
 use Rattle.coded_stream.specs.Limit.{is_limit}
 use Rattle.command_words.specs.declared.words.Command.{Command}
-use Rattle.command_words.specs.declared.words.Command.TheVariants.{Codeword, Encode, Decode, Channel, Upgrade, Trial, Scramble}
+use Rattle.command_words.specs.declared.words.Command.TheVariants.{Codeword, Encode, Decode, Channel, Upgrade, Trial, Scramble, Points}
 
 -- transmissions whose soft buffer fits every block of 1 to tb bytes
 pub record AreForBlocks (tb : ℕ) (sends : List Sending) : Type 0 where
@@ -36,3 +36,4 @@ IsLawful Upgrade = Unit {0}
 IsLawful (Trial seed blocks tb sends amp noise windows limit) = AreForBlocks tb sends × AreEven sends
     × (1 ≤ blocks) × (blocks ≤ 4096) × IsChannel amp noise × IsDecoding windows limit
 IsLawful (Scramble rnti q slot cell) = (rnti ≤ 65535) × (q ≤ 1) × (slot ≤ 19) × (cell ≤ 503)
+IsLawful (Points amp noise seed) = IsChannel amp noise

@@ -20,7 +20,7 @@ use Rattle.command_words.specs.declared.settings.ChannelNumbers.{ChannelNumbers}
 use Rattle.command_words.specs.declared.settings.DecodingNumbers.{DecodingNumbers}
 use Rattle.command_words.specs.declared.transmissions.Asked.{Asked}
 use Rattle.command_words.specs.declared.words.Command.{Command}
-use Rattle.command_words.specs.declared.words.Command.TheVariants.{Codeword, Encode, Decode, Channel, Upgrade, Trial, Scramble}
+use Rattle.command_words.specs.declared.words.Command.TheVariants.{Codeword, Encode, Decode, Channel, Upgrade, Trial, Scramble, Points}
 
 -- ---- codeword
 
@@ -57,7 +57,7 @@ abbrev pub encode_of : (operands : List (List ℕ)) → Result Command WordRefus
 encode_of operands = unless (first_fault encode_rules [] operands)
     (encode_found (asked_of ForTransmissions operands) (missing operands))
 
--- ---- decode, channel, upgrade
+-- ---- decode, channel, points, upgrade
 
 abbrev pub decode_found : Option DecodingNumbers → (workers : Option ℕ) → Option Command
 decode_found (Some d) (Some workers) = Some (Decode d.windows d.limit workers)
@@ -78,6 +78,14 @@ channel_with (Err refusal) = Err refusal
 
 abbrev pub channel_of : (operands : List (List ℕ)) → Result Command WordRefusal
 channel_of operands = channel_with (channel_asked operands)
+
+-- the operands of `channel`
+abbrev pub points_with : Result ChannelNumbers WordRefusal → Result Command WordRefusal
+points_with (Ok c) = Ok (Points c.amp c.noise c.seed)
+points_with (Err refusal) = Err refusal
+
+abbrev pub points_of : (operands : List (List ℕ)) → Result Command WordRefusal
+points_of operands = points_with (channel_asked operands)
 
 abbrev pub upgrade_of : (operands : List (List ℕ)) → Result Command WordRefusal
 upgrade_of operands = unless (first_fault upgrade_rules [] operands) (Ok Upgrade)
@@ -122,4 +130,5 @@ command_of (name ∷ operands) = if bytes_eq name (codes "codeword") then codewo
     else if bytes_eq name (codes "upgrade") then upgrade_of operands
     else if bytes_eq name (codes "trial") then trial_of operands
     else if bytes_eq name (codes "scramble") then scramble_of operands
+    else if bytes_eq name (codes "points") then points_of operands
     else refused 2 0

@@ -1,8 +1,8 @@
-//! The words of `decode`, `channel` and `upgrade`, which read a stream.
+//! The words of `decode`, `channel`, `points` and `upgrade`, which read a stream.
 ghost use Rattle.std.specs.Prelude.{◌≡◌, IfOk};
 ghost use Rattle.command_words.specs.Lawful.{IsLawful, IsChannel};
 ghost use Rattle.command_words.specs.Texts.{texts_of};
-ghost use Rattle.command_words.specs.Words.{decode_of, channel_asked, channel_of, upgrade_of};
+ghost use Rattle.command_words.specs.Words.{decode_of, channel_asked, channel_of, points_of, upgrade_of};
 
 use crate::operands::{WordRefusal, first_fault, missing, number_given};
 use crate::settings::{ChannelNumbers, channel_numbers, decoding_numbers};
@@ -50,6 +50,21 @@ pub fn channel_of(operands: &[&str]) -> Result<Command, WordRefusal>
 {
     match channel_asked(operands) {
         Ok(channel) => Ok(Command::Channel {
+            amp: channel.amp,
+            noise: channel.noise,
+            seed: channel.seed,
+        }),
+        Err(refusal) => Err(refusal),
+    }
+}
+
+/// What the words behind `points` ask for.
+pub fn points_of(operands: &[&str]) -> Result<Command, WordRefusal>
+    ensures command { result ≡ points_of (texts_of operands.now) }
+    ensures lawful { IfOk result IsLawful }
+{
+    match channel_asked(operands) {
+        Ok(channel) => Ok(Command::Points {
             amp: channel.amp,
             noise: channel.noise,
             seed: channel.seed,

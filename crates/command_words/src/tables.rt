@@ -144,7 +144,7 @@ pub const ENCODE: [Rule; 6] = [TB_NUMBER, G_LIST, QM_LIST, RV_LIST, NL_LIST, NIR
 /// What `decode` takes.
 pub const DECODE: [Rule; 3] = [WINDOWS_NUMBER, LIMIT_NUMBER, WORKERS_NUMBER];
 
-/// What `channel` takes.
+/// What `channel` and `points` take.
 pub const CHANNEL: [Rule; 3] = [AMP_NUMBER, NOISE_NUMBER, SEED_NUMBER];
 
 /// What `upgrade` takes.

@@ -7,7 +7,7 @@ ghost use Rattle.command_words.specs.Words.{command_of};
 use crate::codeword::codeword_of;
 use crate::encode::encode_of;
 use crate::operands::WordRefusal;
-use crate::receiving::{channel_of, decode_of, upgrade_of};
+use crate::receiving::{channel_of, decode_of, points_of, upgrade_of};
 use crate::scramble::scramble_of;
 use crate::trial::trial_of;
 use coded_stream::Version;
@@ -66,6 +66,13 @@ pub enum Command {
         slot: u8,
         cell: u16,
     },
+    /// A hard stream as soft values of constellation points with noise (36.211 7.1): the numbers of
+    /// `Channel`.
+    Points {
+        amp: u8,
+        noise: u8,
+        seed: u64,
+    },
 }
 
 /// What the words ask for, or the first of them that is refused.
@@ -86,6 +93,7 @@ pub fn read_words(words: &[&str]) -> Result<Command, WordRefusal>
             "upgrade" => upgrade_of(operands),
             "trial" => trial_of(operands),
             "scramble" => scramble_of(operands),
+            "points" => points_of(operands),
             _ => Err(WordRefusal {
                 number: 2,
                 place: 0,

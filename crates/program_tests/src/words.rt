@@ -7,7 +7,7 @@ use turbo_run::{Command, WordRefusal, read_words};
 
 #[test]
 fn the_first_word_that_is_refused_is_named(rt: HostRuntime) -> Result<(), Fail> {
-    let rows: [(&str, u8, usize); 81] = [
+    let rows: [(&str, u8, usize); 84] = [
         ("", 1, 0),
         ("fly", 2, 0),
         ("codewords g=2", 2, 0),
@@ -97,6 +97,9 @@ fn the_first_word_that_is_refused_is_named(rt: HostRuntime) -> Result<(), Fail> 
         ("scramble q=2", 7, 1),
         ("scramble rnti=0 q=0 slot=20 cell=0", 7, 3),
         ("scramble cell=504", 7, 1),
+        ("points tb=2", 3, 1),
+        ("points amp=30 seed=1", 5, 3),
+        ("points noise=128", 7, 1),
     ];
     for (line, number, place) in rows {
         let words = words_of(rt.alloc(), line)?;
@@ -197,6 +200,14 @@ fn numbers_that_are_not_given_have_their_defaults(rt: HostRuntime) -> Result<(),
                 q: 1,
                 slot: 19,
                 cell: 503,
+            },
+        ),
+        (
+            "points amp=40 noise=20 seed=5",
+            Command::Points {
+                amp: 40,
+                noise: 20,
+                seed: 5,
             },
         ),
     ];
