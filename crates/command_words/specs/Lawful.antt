@@ -17,15 +17,15 @@ pub record AreForBlocks (tb : ℕ) (sends : List Sending) : Type 0 where
   pub fits : fits_all (common sends).limit tb ≡ true
 
 pub record IsChannel (amp noise : ℕ) : Type 0 where
-  pub heard : 1 ≤ amp
-  pub in_range : amp ≤ 127
-  pub bounded : noise ≤ 127
+  pub least_amp : 1 ≤ amp
+  pub greatest_amp : amp ≤ 127
+  pub greatest_noise : noise ≤ 127
 
 pub record IsDecoding (windows limit : ℕ) : Type 0 where
-  pub some : 1 ≤ windows
-  pub few : windows ≤ 64
-  pub once : 1 ≤ limit
-  pub limited : limit ≤ 16
+  pub some_windows : 1 ≤ windows
+  pub few_windows : windows ≤ 64
+  pub some_iterations : 1 ≤ limit
+  pub few_iterations : limit ≤ 16
 
 abbrev pub IsLawful : Command → Type 0
 IsLawful (Codeword m rv) = (m.limit ≡ None) × (rv ≤ 3)

@@ -10,5 +10,6 @@ pub mod Taken
 pub mod Transmissions
 pub mod Blocks
 pub mod Settings
+pub mod Commands
 pub mod Words
 pub mod Lawful

@@ -4,7 +4,7 @@ ghost use Rattle.command_words.specs.Given.{IsGiven};
 ghost use Rattle.command_words.specs.Lawful.{IsLawful};
 ghost use Rattle.command_words.specs.Tables.{g_number, qm_number, rv_of_one};
 ghost use Rattle.command_words.specs.Texts.{texts_of};
-ghost use Rattle.command_words.specs.Words.{codeword_given, codeword_of};
+ghost use Rattle.command_words.specs.Commands.{codeword_given, codeword_of};
 
 use crate::operands::{Operand, WordRefusal, first_fault, given, missing};
 use crate::tables::CODEWORD;

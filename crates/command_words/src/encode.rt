@@ -4,7 +4,7 @@ ghost use Rattle.command_words.specs.Blocks.{blocks_given};
 ghost use Rattle.command_words.specs.Lawful.{IsLawful};
 ghost use Rattle.command_words.specs.Texts.{texts_of};
 ghost use Rattle.command_words.specs.Transmissions.{AreGiven};
-ghost use Rattle.command_words.specs.Words.{encode_with, encode_of};
+ghost use Rattle.command_words.specs.Commands.{encode_with, encode_of};
 
 use crate::blocks::{asked_of, blocks_given};
 use crate::operands::{WordRefusal, first_fault, missing};

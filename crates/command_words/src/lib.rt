@@ -5,6 +5,7 @@ mod blocks;
 mod codeword;
 mod encode;
 mod lists;
+mod names;
 mod number;
 mod numbers;
 mod operands;

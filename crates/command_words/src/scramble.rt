@@ -2,7 +2,7 @@
 ghost use Rattle.std.specs.Prelude.{◌≡◌, IfOk};
 ghost use Rattle.command_words.specs.Lawful.{IsLawful};
 ghost use Rattle.command_words.specs.Texts.{texts_of};
-ghost use Rattle.command_words.specs.Words.{scramble_of};
+ghost use Rattle.command_words.specs.Commands.{scramble_of};
 
 use crate::operands::{WordRefusal, first_fault, missing, number_given};
 use crate::tables::{CELL_NUMBER, Q_NUMBER, RNTI_NUMBER, SCRAMBLE, SLOT_NUMBER};

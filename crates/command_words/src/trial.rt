@@ -4,7 +4,7 @@ ghost use Rattle.command_words.specs.Blocks.{blocks_given};
 ghost use Rattle.command_words.specs.Lawful.{IsLawful, IsChannel, IsDecoding};
 ghost use Rattle.command_words.specs.Texts.{texts_of};
 ghost use Rattle.command_words.specs.Transmissions.{AreGiven, version_in};
-ghost use Rattle.command_words.specs.Words.{trial_with, trial_of};
+ghost use Rattle.command_words.specs.Commands.{trial_with, trial_of};
 
 use crate::blocks::{asked_of, blocks_given};
 use crate::operands::{WordRefusal, first_fault, missing, number_given};

@@ -1,11 +1,12 @@
 //! What the words ask for.
-ghost use Rattle.std.specs.Prelude.{◌≡◌, IfOk};
+ghost use Rattle.std.specs.Prelude.{◌≡◌, IfOk, Some};
 ghost use Rattle.command_words.specs.Lawful.{IsLawful};
 ghost use Rattle.command_words.specs.Texts.{texts_of};
-ghost use Rattle.command_words.specs.Words.{command_of};
+ghost use Rattle.command_words.specs.Words.{command_of, command_with};
 
 use crate::codeword::codeword_of;
 use crate::encode::encode_of;
+use crate::names::{CommandName, command_named};
 use crate::operands::WordRefusal;
 use crate::receiving::{channel_of, decode_of, points_of, upgrade_of};
 use crate::scramble::scramble_of;
@@ -75,6 +76,23 @@ pub enum Command {
     },
 }
 
+/// What the words behind a command's name ask for.
+fn command_with(name: CommandName, operands: &[&str]) -> Result<Command, WordRefusal>
+    ensures command { result ≡ command_with (Some name) (texts_of operands.now) }
+    ensures lawful { IfOk result IsLawful }
+{
+    match name {
+        CommandName::Codeword => codeword_of(operands),
+        CommandName::Encode => encode_of(operands),
+        CommandName::Decode => decode_of(operands),
+        CommandName::Channel => channel_of(operands),
+        CommandName::Upgrade => upgrade_of(operands),
+        CommandName::Trial => trial_of(operands),
+        CommandName::Scramble => scramble_of(operands),
+        CommandName::Points => points_of(operands),
+    }
+}
+
 /// What the words ask for, or the first of them that is refused.
 pub fn read_words(words: &[&str]) -> Result<Command, WordRefusal>
     ensures command { result ≡ command_of (texts_of words.now) }
@@ -85,16 +103,9 @@ pub fn read_words(words: &[&str]) -> Result<Command, WordRefusal>
             number: 1,
             place: 0,
         }),
-        [name, operands @ ..] => match *name {
-            "codeword" => codeword_of(operands),
-            "encode" => encode_of(operands),
-            "decode" => decode_of(operands),
-            "channel" => channel_of(operands),
-            "upgrade" => upgrade_of(operands),
-            "trial" => trial_of(operands),
-            "scramble" => scramble_of(operands),
-            "points" => points_of(operands),
-            _ => Err(WordRefusal {
+        [name, operands @ ..] => match command_named(name) {
+            Some(name) => command_with(name, operands),
+            None => Err(WordRefusal {
                 number: 2,
                 place: 0,
             }),
