@@ -1,4 +1,4 @@
--- What `encode` asks for, once its words were accepted.
+-- What `encode` and `trial` ask for, once their words were accepted.
 use Rattle.std.proofs.Common.{◌≡◌, ℕ, zero, suc, ◌≤◌, Bool, true, false, ◌&&◌, not, nat_le, ◌==◌, if◌then◌else◌, List, length, map, slice_index, Some, None, refl, ap, sym, subst, ◌∙◌, arith}
 use Rattle.std.proofs.lemmas.Bool.{and_parts, leb-true}
 use Rattle.std.proofs.lemmas.Grind.{common_steps}
@@ -11,24 +11,25 @@ use Rattle.rate_match.specs.declared.sends.Sending.{Sending}
 use Rattle.coded_stream.specs.Header.{AreHeld}
 use Rattle.coded_stream.specs.Limit.{is_limit}
 use Rattle.coded_stream.specs.declared.version.Version.TheVariants.{One, Two}
-use Rattle.command_words.specs.Rules.{in_range, lengths, limits}
+use Rattle.command_words.specs.Rules.{in_range}
+use Rattle.command_words.specs.Tables.{lengths, limits}
 use Rattle.command_words.specs.Transmissions.{each, sending_at, limit_asked, limit_in, version_in}
-use Rattle.command_words.specs.Words.{refused_at}
+use Rattle.command_words.specs.Refusals.{refused_at}
 use Rattle.command_words.specs.declared.operands.Operand.{Operand}
 use Rattle.command_words.specs.declared.operands.WordRefusal.{WordRefusal}
 use Rattle.command_words.specs.declared.transmissions.Asked.{Asked}
-use Rattle.command_words.specs.declared.words.Command.{Command}
+use Rattle.command_words.specs.declared.blocks.CodedBlocks.{CodedBlocks}
 
 -- ---- the chain of refusals
 
-pub accepted : (p : Option ℕ) (b1 b2 : Bool) (x y z : Result Command WordRefusal) → None ≡ p → b1 ≡ true → b2 ≡ true →
+pub accepted : (p : Option ℕ) (b1 b2 : Bool) (x y z : Result CodedBlocks WordRefusal) → None ≡ p → b1 ≡ true → b2 ≡ true →
     refused_at p (if not b1 then x else if not b2 then y else z) ≡ z
 accepted (Some place) b1 b2 x y z e1 e2 e3 = cc
 accepted None false b2 x y z e1 e2 e3 = cc
 accepted None true false x y z e1 e2 e3 = cc
 accepted None true true x y z e1 e2 e3 = refl
 
-pub unfit : (p : Option ℕ) (b1 b2 : Bool) (x y z : Result Command WordRefusal) → None ≡ p → b1 ≡ true → b2 ≡ false →
+pub unfit : (p : Option ℕ) (b1 b2 : Bool) (x y z : Result CodedBlocks WordRefusal) → None ≡ p → b1 ≡ true → b2 ≡ false →
     refused_at p (if not b1 then x else if not b2 then y else z) ≡ y
 unfit (Some place) b1 b2 x y z e1 e2 e3 = cc
 unfit None false b2 x y z e1 e2 e3 = cc

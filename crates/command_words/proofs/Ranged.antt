@@ -8,7 +8,8 @@ use Rattle.rate_match.specs.Matching.{is_qm, is_nl}
 use Rattle.command_words.specs.Given.{IsGiven}
 use Rattle.command_words.specs.Number.{is_spelt, worth}
 use Rattle.command_words.specs.Operands.{listed, onto_first, numbers_of, texts_in, is_comma}
-use Rattle.command_words.specs.Rules.{most, in_range, modulations, layers}
+use Rattle.command_words.specs.Rules.{most, in_range}
+use Rattle.command_words.specs.Tables.{modulations, layers}
 use Rattle.command_words.specs.declared.rules.Form.{Form}
 use Rattle.command_words.specs.declared.rules.Form.TheVariants.{Number, ListOfOne, ForTransmissions}
 use Rattle.command_words.specs.declared.rules.Rule.{Rule}
@@ -55,6 +56,9 @@ pub ranged_at : (p : ℕ → Bool) (numbers : List ℕ) (i : ℕ) → list_all p
 ranged_at p [] i all within = absurd (omega (arith, within))
 ranged_at p (n ∷ numbers) zero all within = grind (arith, common_steps, all)
 ranged_at p (n ∷ numbers) (suc i) all within = ranged_at p numbers i (grind (arith, common_steps, all)) (omega (arith, within))
+
+pub first_ranged : (rule : Rule) (numbers : List ℕ) → IsGiven rule numbers → in_range rule.range (slice_index numbers 0) ≡ true
+first_ranged rule numbers given = ranged_at (in_range rule.range) numbers 0 given.ranged given.some
 
 -- ---- numbers of the rate matching
 

@@ -2,9 +2,14 @@ pub mod Number
 pub mod Texts
 pub mod Splitting
 pub mod Rules
+pub mod Tables
 pub mod Operands
+pub mod Refusals
 pub mod Given
 pub mod Taken
 pub mod Transmissions
+pub mod Blocks
+pub mod Settings
+pub mod Commands
 pub mod Words
 pub mod Lawful

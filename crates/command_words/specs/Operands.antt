@@ -1,6 +1,6 @@
 -- Operands, such as `g=132`: which are refused, and which numbers they give. A number says why: 3 unknown
 -- name, 4 repeated name, 6 not spelt as a number, 7 out of range.
-use Rattle.std.specs.Prelude.{ℕ, ◌+◌, List, [], ◌∷◌, ◌++◌, length, map, Bool, ◌&&◌, ◌||◌, not, nat_lt, ◌==◌, if◌then◌else◌, Some, None, Ok, Err}
+use Rattle.std.specs.Prelude.{ℕ, ◌+◌, List, [], ◌∷◌, ◌++◌, length, map, slice_index, Bool, ◌&&◌, ◌||◌, not, nat_lt, ◌==◌, if◌then◌else◌, Some, None, Ok, Err}
 use Rattle.std.specs.Str.{bytes_eq}
 use Rattle.std.specs.List.{before_first, after_first, list_any, list_all}
 use Rattle.std.specs.declared.option.Option.{Option}
@@ -111,3 +111,14 @@ given_from place rule (word ∷ words) = if is_named (name_text rule.name) word
 
 abbrev pub given : Rule → (words : List (List ℕ)) → Option Operand
 given rule words = given_from 1 rule words
+
+abbrev pub only : Operand → ℕ
+only operand = slice_index operand.numbers 0
+
+abbrev pub only_of : Option Operand → Option ℕ
+only_of None = None
+only_of (Some operand) = Some (only operand)
+
+-- the one number that the words give for a rule
+abbrev pub number_given : Rule → (words : List (List ℕ)) → Option ℕ
+number_given rule words = only_of (given rule words)

@@ -1,4 +1,4 @@
--- The transmissions that the words of `encode` ask for.
+-- The transmissions that the words of `encode` and `trial` ask for.
 use Rattle.std.specs.Prelude.{ℕ, ◌*◌, List, length, map, slice_index, Bool, ◌&&◌, ◌||◌, not, ◌==◌, if◌then◌else◌, Some, None}
 use Rattle.std.specs.List.{range_with_len}
 use Rattle.std.specs.declared.option.Option.{Option}
@@ -7,7 +7,7 @@ use Rattle.rate_match.specs.declared.sends.Sending.{Sending}
 use Rattle.coded_stream.specs.declared.version.Version.{Version}
 use Rattle.coded_stream.specs.declared.version.Version.TheVariants.{One, Two}
 use Rattle.command_words.specs.Given.{IsGiven}
-use Rattle.command_words.specs.Rules.{tb_number, g_list, qm_list, rv_list, nl_list, nir_number}
+use Rattle.command_words.specs.Tables.{tb_number, g_list, qm_list, rv_list, nl_list, nir_number}
 use Rattle.command_words.specs.declared.operands.Operand.{Operand}
 use Rattle.command_words.specs.declared.transmissions.Asked.{Asked}
 use Rattle.command_words.specs.declared.transmissions.Lists.{Lists}

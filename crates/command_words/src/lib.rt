@@ -1,14 +1,23 @@
 //! The commands of the program, as words ask for them.
 #![tactic(auto)]
 
+mod blocks;
+mod codeword;
+mod encode;
 mod lists;
+mod names;
 mod number;
 mod numbers;
 mod operands;
+mod receiving;
 mod rules;
+mod scramble;
+mod settings;
 mod splitting;
 mod tables;
+mod transmission_tables;
 mod transmissions;
+mod trial;
 mod words;
 
 pub use operands::WordRefusal;

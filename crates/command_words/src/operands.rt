@@ -1,7 +1,9 @@
 //! The operands of a command, such as `g=132`.
-ghost use Rattle.std.specs.Prelude.{◌≡◌, [], IfSome};
+ghost use Rattle.std.specs.Prelude.{◌≡◌, [], IfSome, true};
 ghost use Rattle.command_words.specs.Given.{IsGiven, HasDefault};
-ghost use Rattle.command_words.specs.Operands.{rule_of, is_named, value_under, accepted, numbers_of, default_of, fault_of, first_fault, given};
+ghost use Rattle.command_words.specs.Operands.{rule_of, is_named, value_under, accepted, numbers_of, default_of, fault_of, first_fault, given, number_given};
+ghost use Rattle.command_words.specs.Refusals.{missing};
+ghost use Rattle.command_words.specs.Rules.{in_range};
 ghost use Rattle.command_words.specs.Texts.{text_of_option, texts_of};
 ghost use Rattle.std.specs.List.{list_any};
 
@@ -128,4 +130,27 @@ pub fn given(rule: &Rule, operands: &[&str]) -> Option<Operand>
         }
     }
     default_of(rule)
+}
+
+#[tactic(auto, using(crate::proofs::Ranged::first_ranged))]
+/// The one number that the operands give for a rule, or its default.
+pub fn number_given(rule: &Rule, operands: &[&str]) -> Option<u64>
+    requires { HasDefault rule.now }
+    ensures value { result ≡ number_given rule.now (texts_of operands.now) }
+    ensures ranged { IfSome result (λ n. in_range rule.now.range n ≡ true) }
+{
+    match given(rule, operands) {
+        Some(operand) => Some(operand.numbers.at(0)),
+        None => None,
+    }
+}
+
+/// A name that is required isn't given; the place is the number of words, the command among them.
+pub fn missing(operands: &[&str]) -> WordRefusal
+    ensures { result ≡ missing (texts_of operands.now) }
+{
+    WordRefusal {
+        number: 5,
+        place: operands.len() + 1,
+    }
 }

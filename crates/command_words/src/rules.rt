@@ -1,7 +1,7 @@
 //! What the commands take: for each name of an operand how its numbers are spelt, which of them
 //! are accepted, and what stands where it isn't given.
 ghost use Rattle.std.specs.Prelude.{◌≡◌, ◌<◌, ◌^◌, ◌≤◌, IsTrue};
-ghost use Rattle.command_words.specs.Rules.{name_text, most, in_range};
+ghost use Rattle.command_words.specs.Rules.{name_text, most, in_range, in_form};
 
 /// The names of operands.
 #[derive(Clone, Copy, Debug, PartialEq, Eq)]
@@ -18,6 +18,28 @@ pub enum Name {
     Nl,
     /// N_IR, 0 for a full buffer.
     Nir,
+    /// The most windows of a code block.
+    Windows,
+    /// The most iterations.
+    Limit,
+    /// The threads that decode.
+    Workers,
+    /// The soft value of a bit 0.
+    Amp,
+    /// How strong the noise is.
+    Noise,
+    /// The seed of all that is drawn.
+    Seed,
+    /// The blocks of a trial.
+    Blocks,
+    /// The receiver's identity, n_RNTI.
+    Rnti,
+    /// The codeword's number, q.
+    Q,
+    /// The slot in the radio frame, n_s.
+    Slot,
+    /// The cell's identity.
+    Cell,
 }
 
 impl Name {
@@ -31,6 +53,17 @@ impl Name {
             Name::Rv => "rv",
             Name::Nl => "nl",
             Name::Nir => "nir",
+            Name::Windows => "windows",
+            Name::Limit => "limit",
+            Name::Workers => "workers",
+            Name::Amp => "amp",
+            Name::Noise => "noise",
+            Name::Seed => "seed",
+            Name::Blocks => "blocks",
+            Name::Rnti => "rnti",
+            Name::Q => "q",
+            Name::Slot => "slot",
+            Name::Cell => "cell",
         }
     }
 }
@@ -90,4 +123,13 @@ pub struct Rule {
     pub range: Range,
     /// The number that stands where none is given. `None`: one has to be given.
     pub default: Option<u64>,
+}
+
+impl Rule {
+    /// The same rule for numbers in another form.
+    pub fn in_form(self, form: Form) -> Rule
+        ensures { result ≡ in_form form self }
+    {
+        Rule { form, ..self }
+    }
 }

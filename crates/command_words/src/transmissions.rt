@@ -1,8 +1,9 @@
-//! The transmissions that the words of `encode` ask for.
+//! The transmissions that the words of `encode` and `trial` ask for.
 ghost use Rattle.std.specs.Prelude.{◌≡◌, ◌<◌, ◌≤◌, ◌*◌, IfSome, None, Some, length, true, if◌then◌else◌};
 ghost use Rattle.std.specs.List.{list_all};
 ghost use Rattle.rate_match.specs.Matching.{is_g, limit_of};
-ghost use Rattle.command_words.specs.Rules.{in_range, modulations, layers, to_a_million, limits};
+ghost use Rattle.command_words.specs.Rules.{in_range};
+ghost use Rattle.command_words.specs.Tables.{modulations, layers, to_a_million, limits};
 ghost use Rattle.command_words.specs.Transmissions.{each, is_each, place_of, uneven_list, limit_asked, sending_at, sendings, is_multiple, version_in, AreGiven};
 
 use crate::operands::Operand;
@@ -18,7 +19,7 @@ pub struct Lists {
     pub nl: Operand,
 }
 
-/// What the words of `encode` gave.
+/// What the words gave of the blocks and their transmissions.
 #[derive(Debug, Drop)]
 pub struct Asked {
     pub lists: Lists,

@@ -7,7 +7,7 @@ use turbo_run::{Command, WordRefusal, read_words};
 
 #[test]
 fn the_first_word_that_is_refused_is_named(rt: HostRuntime) -> Result<(), Fail> {
-    let rows: [(&str, u8, usize); 44] = [
+    let rows: [(&str, u8, usize); 84] = [
         ("", 1, 0),
         ("fly", 2, 0),
         ("codewords g=2", 2, 0),
@@ -52,6 +52,54 @@ fn the_first_word_that_is_refused_is_named(rt: HostRuntime) -> Result<(), Fail> 
         ("encode tb=2 g=132,6 qm=2 rv=0,1 nl=1,2", 7, 2),
         ("encode tb=766 g=132 qm=2 rv=0 nir=6176", 8, 5),
         ("encode nir=6176 g=133 qm=2 rv=0 tb=766", 7, 2),
+        ("decode tb=2", 3, 1),
+        ("decode workers=1 workers=2", 4, 2),
+        ("decode windows=08", 6, 1),
+        ("decode windows=8,8", 6, 1),
+        ("decode windows=0", 7, 1),
+        ("decode windows=65", 7, 1),
+        ("decode limit=0", 7, 1),
+        ("decode limit=17", 7, 1),
+        ("decode workers=0", 7, 1),
+        ("decode workers=17", 7, 1),
+        ("channel amp=30 noise=0 windows=8", 3, 3),
+        ("channel amp=30 noise=0 amp=30", 4, 3),
+        ("channel", 5, 1),
+        ("channel amp=30 noise=0", 5, 3),
+        ("channel seed=-1", 6, 1),
+        ("channel amp=0", 7, 1),
+        ("channel amp=128", 7, 1),
+        ("channel noise=128", 7, 1),
+        ("channel seed=18446744073709551616", 7, 1),
+        ("upgrade tb=2", 3, 1),
+        ("upgrade two", 3, 1),
+        ("trial workers=1", 3, 1),
+        ("trial seed=1 blocks=3 seed=1", 4, 3),
+        ("trial seed=1 blocks=3 tb=2 g=132 qm=2 rv=0 amp=40", 5, 8),
+        ("trial g=132,132", 6, 1),
+        ("trial qm=2,2", 6, 1),
+        ("trial nl=1,1", 6, 1),
+        ("trial blocks=0", 7, 1),
+        ("trial blocks=4097", 7, 1),
+        ("trial rv=0,0,0,0,0,0,0,0,0", 7, 1),
+        (
+            "trial seed=1 g=133 qm=2 rv=0 amp=40 noise=0 blocks=3 tb=2",
+            7,
+            2,
+        ),
+        (
+            "trial nir=6176 tb=766 g=132 qm=2 rv=0 amp=40 noise=0 blocks=3 seed=1",
+            8,
+            1,
+        ),
+        ("scramble rnti=0 q=0 slot=0", 5, 4),
+        ("scramble rnti=65536", 7, 1),
+        ("scramble q=2", 7, 1),
+        ("scramble rnti=0 q=0 slot=20 cell=0", 7, 3),
+        ("scramble cell=504", 7, 1),
+        ("points tb=2", 3, 1),
+        ("points amp=30 seed=1", 5, 3),
+        ("points noise=128", 7, 1),
     ];
     for (line, number, place) in rows {
         let words = words_of(rt.alloc(), line)?;
@@ -98,6 +146,74 @@ fn the_version_depends_on_how_many_numbers_are_given(rt: HostRuntime) -> Result<
             Ok(Command::Encode { version, .. }) => assert!(rt; version == want, "of {line}"),
             _ => assert!(rt; false, "of {line}"),
         }
+    }
+    Ok(())
+}
+
+#[test]
+fn numbers_that_are_not_given_have_their_defaults(rt: HostRuntime) -> Result<(), Fail> {
+    let m = Match::new(2, 1, 132, Buffer::Full).expect(&rt, "a matching");
+    let sends = Sends::one(m, 0).expect(&rt, "a transmission");
+    let rows = [
+        (
+            "decode",
+            Command::Decode {
+                windows: 8,
+                limit: 8,
+                workers: 1,
+            },
+        ),
+        (
+            "decode workers=16 limit=3 windows=64",
+            Command::Decode {
+                windows: 64,
+                limit: 3,
+                workers: 16,
+            },
+        ),
+        (
+            "channel seed=18446744073709551615 noise=0 amp=127",
+            Command::Channel {
+                amp: 127,
+                noise: 0,
+                seed: u64::MAX,
+            },
+        ),
+        ("upgrade", Command::Upgrade),
+        (
+            "trial seed=1 blocks=3 tb=2 g=132 qm=2 rv=0 amp=40 noise=20",
+            Command::Trial {
+                seed: 1,
+                blocks: 3,
+                tb: 2,
+                sends,
+                amp: 40,
+                noise: 20,
+                windows: 8,
+                limit: 8,
+            },
+        ),
+        (
+            "scramble cell=503 slot=19 q=1 rnti=65535",
+            Command::Scramble {
+                rnti: 65_535,
+                q: 1,
+                slot: 19,
+                cell: 503,
+            },
+        ),
+        (
+            "points amp=40 noise=20 seed=5",
+            Command::Points {
+                amp: 40,
+                noise: 20,
+                seed: 5,
+            },
+        ),
+    ];
+    for (line, want) in rows {
+        let words = words_of(rt.alloc(), line)?;
+        assert!(rt; read_words(&words) == Ok(want), "of {line}");
     }
     Ok(())
 }
