@@ -3,33 +3,39 @@ ghost use Rattle.std.specs.Prelude.{◌≡◌, ◌≤◌, IfOk, length};
 ghost use Rattle.sender_model.specs.Segmentation.{plan_of};
 ghost use Rattle.sender_model.specs.CircularBuffer.{FitsIn};
 ghost use Rattle.rate_match.specs.Sendings.{common};
+ghost use Rattle.receiver_model.specs.Decoding.{code_result};
 ghost use Rattle.receiver_model.specs.TransportBlocks.{outcome};
+ghost use Rattle.serial_decode.specs.Views.{AreStreams};
+ghost use Rattle.block_receive.specs.Decoders.{GivesResults, TakesBlocks};
 ghost use Rattle.block_receive.specs.Effort.{plan_in, effort_in};
 ghost use Rattle.block_receive.specs.Receptions.{receptions, value_count};
 
-use crate::decoder::{Alone, BlockDecoder};
 use crate::joining::join;
 use crate::task::Task;
-use crate::tries::{all_passed, none_held, total_iterations, try_blocks};
-use lte_bits::{NoMemory, Soft};
+use crate::tries::{Decoded, all_passed, none_held, total_iterations, try_blocks};
+use lte_bits::{NoMemory, Soft, SoftStreams};
 use rate_match::Sends;
 use receiver_model::TbOutcome;
 use segmentation::plans::Plan;
+use serial_decode::decode_block;
 use soft_buffers::HarqBuffers;
 use std::alloc::Global;
+use window_decode::Shape;
 
-/// What the transmissions of a transport block come to, where `decoder` decodes its code blocks. The
+/// What the transmissions of a transport block come to, where `decode` decodes its code blocks. The
 /// buffer of `sends` fits the plan, and `softs` has the G values of each transmission, one transmission
 /// after the other.
-pub fn receive<D: BlockDecoder>(
+pub fn receive<F: Fn(Global, &SoftStreams, &Shape) -> Decoded>(
     alloc: Global,
-    decoder: &D,
+    decode: &F,
     task: &Task,
     sends: &Sends,
     softs: &[Soft],
 ) -> Result<TbOutcome, NoMemory>
     requires fits { FitsIn (common sends.now).limit (plan_in task.now).c (plan_in task.now).k_plus }
     requires values { length softs.now ≡ value_count sends.now }
+    requires takes { TakesBlocks (F.pre decode.now) }
+    requires gives { GivesResults (F.post decode.now) }
     ensures { IfOk result (λ o. o ≡ outcome (plan_in task.now) (effort_in task.now)
         (receptions sends.now softs.now)) }
 {
@@ -43,7 +49,7 @@ pub fn receive<D: BlockDecoder>(
         let (values, after) = rest.split_at(m.g());
         rest = after;
         buffers.combine(&m, rv, values);
-        results = try_blocks(alloc, decoder, task, &buffers, results)?;
+        results = try_blocks(alloc, decode, task, &buffers, results)?;
         iterations = total_iterations(results.as_slice());
         if all_passed(results.as_slice()) {
             let joined = join(alloc, results, plan)?;
@@ -88,5 +94,9 @@ pub fn receive_alone(
         windows,
         limit,
     };
-    receive(alloc, &Alone, &task, sends, softs)
+    let decode = |alloc: Global, streams: &SoftStreams, shape: &Shape| -> Decoded
+        requires { AreStreams streams.now shape.now }
+        ensures { IfOk result (λ r. r ≡ code_result streams.now shape.now) }
+    { decode_block(alloc, streams, shape) };
+    receive(alloc, &decode, &task, sends, softs)
 }

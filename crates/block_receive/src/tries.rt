@@ -3,16 +3,19 @@ ghost use Rattle.std.specs.Prelude.{◌≡◌, ℕ, ◌≤◌, ◌<◌, List, Al
 ghost use Rattle.receiver_model.specs.SoftCells.{Reception};
 ghost use Rattle.receiver_model.specs.TransportBlocks.{all_passed, block_result, if_passed, iterations_of, tried};
 ghost use Rattle.soft_buffers.specs.Buffers.{Hold};
+ghost use Rattle.block_receive.specs.Decoders.{GivesResults, TakesBlocks};
 ghost use Rattle.block_receive.specs.Effort.{plan_in, effort_in};
 ghost use Rattle.block_receive.specs.Held.{none_of};
 
-use crate::decoder::BlockDecoder;
 use crate::shapes::block_shape;
 use crate::task::Task;
-use lte_bits::{Block, List, NoMemory};
+use lte_bits::{Block, List, NoMemory, SoftStreams};
 use soft_buffers::HarqBuffers;
 use std::alloc::Global;
-use window_decode::CodeResult;
+use window_decode::{CodeResult, Shape};
+
+/// What the decoding of a code block gives, or that there was no memory.
+pub type Decoded = Result<CodeResult, NoMemory>;
 
 /// Results of `c` blocks of which none passed, so that none is held.
 pub fn none_held(alloc: Global, c: usize) -> Result<Vec<CodeResult>, NoMemory>
@@ -33,9 +36,9 @@ pub fn none_held(alloc: Global, c: usize) -> Result<Vec<CodeResult>, NoMemory>
 }
 
 /// Decodes block `r`, below C, from the cells so far.
-fn decode_at<D: BlockDecoder>(
+fn decode_at<F: Fn(Global, &SoftStreams, &Shape) -> Decoded>(
     alloc: Global,
-    decoder: &D,
+    decode: &F,
     task: &Task,
     buffers: &HarqBuffers,
     r: usize,
@@ -43,17 +46,19 @@ fn decode_at<D: BlockDecoder>(
     requires block { r < task.now.plan.c }
     requires plan { buffers.now.plan ≡ plan_in task.now }
     requires holds { (xs : List Reception) × Hold buffers.now xs }
+    requires takes { TakesBlocks (F.pre decode.now) }
+    requires gives { GivesResults (F.post decode.now) }
     ensures { (xs : List Reception) → Hold buffers.now xs →
         IfOk result (λ x. x ≡ block_result (plan_in task.now) (effort_in task.now) xs r) }
 {
     let streams = buffers.streams(alloc, r)?;
-    decoder.decode(alloc, &streams, &block_shape(task, r))
+    decode(alloc, &streams, &block_shape(task, r))
 }
 
 /// The results of a try, from those of the try before, of which the ones that passed are held.
-pub fn try_blocks<D: BlockDecoder>(
+pub fn try_blocks<F: Fn(Global, &SoftStreams, &Shape) -> Decoded>(
     alloc: Global,
-    decoder: &D,
+    decode: &F,
     task: &Task,
     buffers: &HarqBuffers,
     held: Vec<CodeResult>,
@@ -61,13 +66,15 @@ pub fn try_blocks<D: BlockDecoder>(
     requires count { length held.items ≡ task.now.plan.c }
     requires plan { buffers.now.plan ≡ plan_in task.now }
     requires holds { (xs : List Reception) × Hold buffers.now xs }
+    requires takes { TakesBlocks (F.pre decode.now) }
+    requires gives { GivesResults (F.post decode.now) }
     ensures { (xs : List Reception) → Hold buffers.now xs → IfOk result (λ results. results.items
         ≡ tried (plan_in task.now) (effort_in task.now) xs (map if_passed held.items)) }
 {
     let mut results = held;
     for r in 0..task.plan.c {
         if !results[r].passed {
-            results[r] = decode_at(alloc, decoder, task, buffers, r)?;
+            results[r] = decode_at(alloc, decode, task, buffers, r)?;
         }
     }
     Ok(results)

@@ -10,7 +10,8 @@ use Rattle.cell_shares.specs.declared.cells.Cells.{Cells}
 use Rattle.cell_shares.specs.declared.order.Order.{Order}
 use Rattle.cell_shares.specs.declared.part.Part.{Part}
 use Rattle.cell_shares.specs.declared.share.Share.{Share}
-use Rattle.cell_shares.specs.Shares.{Name, name_of, cell_values, share_label, share_values}
+use Rattle.cell_shares.specs.Names.{Name}
+use Rattle.cell_shares.specs.Shares.{name_of, cell_values, share_label, share_values}
 use Rattle.cell_shares.proofs.Numbers.{values-long}
 use Rattle.cell_shares.proofs.Told.{Tells, told_values, tells_take, tells_drop, tells_shuffled, tells_all, places-take, places-drop, pushed}
 

@@ -10,7 +10,8 @@ use Rattle.cell_shares.specs.declared.order.Order.{Order}
 use Rattle.cell_shares.specs.declared.part.Part.{Part}
 use Rattle.cell_shares.specs.declared.share.Share.{Share}
 use Rattle.cell_shares.specs.declared.share.Split.{Split}
-use Rattle.cell_shares.specs.Shares.{Name, share_label, share_values, AreAllOf}
+use Rattle.cell_shares.specs.Names.{Name}
+use Rattle.cell_shares.specs.Shares.{share_label, share_values, AreAllOf}
 use lib.ListN.{length-map}
 use Rattle.std.proofs.lemmas.List.FromFn.{length-range_with_len}
 use Rattle.cell_shares.proofs.Told.{Tells, told_values, tells_first, tells_others, map-append, run-append, popped, last_is}

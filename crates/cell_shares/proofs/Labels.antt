@@ -6,7 +6,8 @@ use Rattle.std.proofs.lemmas.List.FromFn.{get_or-map-range_with_len, length-map-
 use Rattle.cell_shares.specs.declared.cells.Cells.{Cells}
 use Rattle.cell_shares.specs.declared.order.Order.{Order}
 use Rattle.cell_shares.specs.declared.share.Share.{Share}
-use Rattle.cell_shares.specs.Shares.{Name, name_of, cell_values, share_name, share_values, share_label, AreAllOf}
+use Rattle.cell_shares.specs.Names.{Name}
+use Rattle.cell_shares.specs.Shares.{name_of, cell_values, share_name, share_values, share_label, AreAllOf}
 use Rattle.cell_shares.proofs.Numbers.{values-long}
 use Rattle.cell_shares.proofs.Positions.{width-long}
 

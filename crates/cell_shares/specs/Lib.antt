@@ -1,3 +1,4 @@
+pub mod Names
 pub mod Buffers
 pub mod Deal
 pub mod Orders

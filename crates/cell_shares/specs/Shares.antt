@@ -1,19 +1,14 @@
 -- What contracts see of cells and of their shares.
 use Rattle.std.specs.Prelude.{◌≡◌, ℕ, ◌+◌, ◌*◌, ◌≤◌, List, length, map}
 use Rattle.std.specs.List.{range_with_len}
-use Rattle.std.specs.Ptr.{Ptr}
 use Rattle.cell_shares.specs.declared.cells.Cells.{Cells}
 use Rattle.cell_shares.specs.declared.order.Order.{Order}
 use Rattle.cell_shares.specs.declared.share.Share.{Share}
+use Rattle.cell_shares.specs.Names.{Name}
 use Rattle.cell_shares.specs.Orders.{place_in}
 use Rattle.cell_shares.specs.Parts.{values}
 
--- the name of cells: where their buffer begins, their number K, and the number M of their windows
-pub record Name : Type 0 where
-  pub start : Ptr
-  pub count : ℕ
-  pub windows : ℕ
-
+-- the name of cells
 abbrev pub name_of : {X : Type 0} → Cells X → Name
 name_of c = record { start = c.part.ptr; count = c.part.count; windows = c.windows }
 

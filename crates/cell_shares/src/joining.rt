@@ -2,7 +2,8 @@
 ghost use Rattle.std.specs.Prelude.{◌≡◌, ◌≤◌, ◌<◌, map};
 ghost use Rattle.cell_shares.specs.declared.order.Order.{Order};
 ghost use Rattle.cell_shares.specs.Deal.{deal};
-ghost use Rattle.cell_shares.specs.Shares.{Name, name_of, cell_values, share_values, AreAllOf};
+ghost use Rattle.cell_shares.specs.Names.{Name};
+ghost use Rattle.cell_shares.specs.Shares.{name_of, cell_values, share_values, AreAllOf};
 
 use crate::cells::Cells;
 use crate::order::Order;

@@ -4,6 +4,7 @@
 pub mod cells;
 pub mod deal;
 pub mod joining;
+pub mod name;
 pub mod order;
 mod part;
 mod right;
@@ -12,5 +13,6 @@ pub mod share;
 pub use cells::Cells;
 pub use deal::{one_list_is_dealt, values_are_dealt_by_place};
 pub use joining::join;
+pub use name::CellsName;
 pub use order::Order;
 pub use share::Share;

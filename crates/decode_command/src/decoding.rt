@@ -5,23 +5,28 @@ ghost use Rattle.coded_stream.specs.Shown.{header_of};
 ghost use Rattle.coded_stream.specs.declared.kind.Kind.TheVariants as kind;
 ghost use Rattle.stream_loop.specs.Rounds.{block_of, handled_of};
 ghost use Rattle.decode_command.specs.Decoding.{decoded, handled};
+ghost use Rattle.decode_command.specs.Receivers.{GivesOutcomes, TakesTransmissions};
 
 use crate::lines::{block_line, last_line};
-use block_receive::{BlockDecoder, Task, receive};
+use block_receive::Task;
 use coded_stream::{Header, Want};
 use edge_io::{Sink, SinkFault, write_all};
-use lte_bits::NoMemory;
+use lte_bits::{NoMemory, Soft};
+use rate_match::Sends;
 use receiver_model::TbOutcome;
 use segmentation::plan;
 use std::alloc::Global;
 use stream_loop::{Handled, Handler};
 use stream_values::softs_of;
 
-/// Who decodes code blocks, and with what effort: at most so many windows, 1 to 64, and so many
-/// iterations, 1 to 16.
+/// What the reception of a transport block comes to, or that there was no memory.
+pub type Received = Result<TbOutcome, NoMemory>;
+
+/// Who receives transport blocks, and with what effort: in at most so many windows, 1 to 64, and with at most
+/// so many iterations, 1 to 16.
 #[derive(Drop)]
-pub struct Decoding<D: BlockDecoder> {
-    pub decoder: D,
+pub struct Decoding<'a, F: Fn(Global, &Task, &Sends, &[Soft]) -> Received> {
+    pub receive: &'a F,
     pub windows: usize,
     pub limit: usize,
     pub ghost some_windows: { 1 ≤ windows },
@@ -30,7 +35,7 @@ pub struct Decoding<D: BlockDecoder> {
     pub ghost few_iterations: { limit ≤ 16 },
 }
 
-impl<D: BlockDecoder> Decoding<D> {
+impl<'a, F: Fn(Global, &Task, &Sends, &[Soft]) -> Received> Decoding<'a, F> {
     /// What the transmissions of a block come to.
     fn outcome(
         &self,
@@ -39,6 +44,8 @@ impl<D: BlockDecoder> Decoding<D> {
         payload: usize,
         bytes: &[u8],
     ) -> Result<TbOutcome, NoMemory>
+        requires takes { TakesTransmissions (F.pre self.now.receive.now) }
+        requires gives { GivesOutcomes (F.post self.now.receive.now) }
         requires soft { header.now.kind ≡ kind.Soft }
         requires accepted { IsBlock (header_of header.now) (block_of payload bytes.now) }
         ensures { IfOk result (λ o. o ≡ decoded (record {
@@ -52,7 +59,7 @@ impl<D: BlockDecoder> Decoding<D> {
             limit: self.limit,
         };
         let softs = softs_of(alloc, bytes)?;
-        receive(alloc, &self.decoder, &task, &header.sends, softs.as_slice())
+        (self.receive)(alloc, &task, &header.sends, softs.as_slice())
     }
 }
 
@@ -75,8 +82,10 @@ fn handled(alloc: Global, number: usize, outcome: TbOutcome) -> Result<Handled, 
     })
 }
 
-impl<D: BlockDecoder + Drop> Handler for Decoding<D> {
+impl<'a, F: Fn(Global, &Task, &Sends, &[Soft]) -> Received> Handler for Decoding<'a, F> {
     ghost use Rattle.decode_command.specs.Decoding.{decoding};
+
+    ghost able = { λ s. TakesTransmissions (F.pre s.receive.now) × GivesOutcomes (F.post s.receive.now) };
 
     ghost handling = { λ s. decoding (record { windows = s.windows; limit = s.limit }) };
 

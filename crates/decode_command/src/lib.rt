@@ -5,4 +5,4 @@ mod decoding;
 mod lines;
 mod running;
 
-pub use running::run_decode;
+pub use running::{run_decode, run_decode_shared};

@@ -2,6 +2,7 @@ pub mod Acts
 pub mod Carried
 pub mod Clears
 pub mod Closes
+pub mod Crossing
 pub mod Cuts
 pub mod Dones
 pub mod Draws

@@ -9,7 +9,7 @@ pub mod block;
 pub mod decoder;
 pub mod half;
 pub mod left;
-mod lists;
+pub mod lists;
 pub mod strip;
 pub mod tail;
 pub mod views;

@@ -22,6 +22,7 @@ pub fn run_stream<H: Handler, S: Source, D: Sink, R: Sink>(
     out: &mut D,
     report: &mut R,
 ) -> Status
+    requires { H.able handler }
     ensures ended { (input : List ℕ) → S.left source.old ≡ Some input →
         EndsReply (stream_reply (H.handling handler) input)
         (held (S.left source.old) (D.held out.old) (R.held report.old))

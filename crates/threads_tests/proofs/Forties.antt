@@ -3,7 +3,8 @@ use Rattle.std.proofs.Common.{◌≡◌, ℕ, ◌+◌, ◌*◌, ◌<◌, List, l
 use Rattle.cell_shares.specs.Orders.{place_in}
 use Rattle.cell_shares.specs.declared.order.Order.{Order}
 use Rattle.cell_shares.specs.declared.share.Share.{Share}
-use Rattle.cell_shares.specs.Shares.{Name, share_name, share_values, share_place, share_label, AreAllOf}
+use Rattle.cell_shares.specs.Names.{Name}
+use Rattle.cell_shares.specs.Shares.{share_name, share_values, share_place, share_label, AreAllOf}
 use Rattle.cell_shares.proofs.Labels.{shares-long, share-told, width-whole}
 
 module _ {X : Type 0} (name : Name) (order : Order) (shares : List (Share X)) (all : AreAllOf name order shares) (count : name.count ≡ 40) (windows : name.windows ≡ 4) where

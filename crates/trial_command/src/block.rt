@@ -7,7 +7,7 @@ ghost use Rattle.trial_command.specs.Shown.{trial_of};
 ghost use Rattle.trial_command.specs.Trials.{block_outcome, payload, received, softs};
 
 use crate::trial::Trial;
-use block_receive::{Alone, Task, receive};
+use block_receive::receive_alone;
 use lte_bits::{NoMemory, Soft};
 use rate_match::codeword;
 use rate_match::sends::Sending;
@@ -89,12 +89,15 @@ impl Trial {
         requires long { length sent.now ≡ self.now.tb }
         ensures { IfOk result (λ o. o ≡ block_outcome (trial_of self.now) block) }
     {
-        let task = Task {
-            plan: plan(self.tb).unwrap(),
-            windows: self.windows,
-            limit: self.limit,
-        };
+        let plan = plan(self.tb).unwrap();
         let softs = self.softs(alloc, block, sent)?;
-        receive(alloc, &Alone, &task, &self.sends, softs.as_slice())
+        receive_alone(
+            alloc,
+            &plan,
+            &self.sends,
+            self.windows,
+            self.limit,
+            softs.as_slice(),
+        )
     }
 }

@@ -3,11 +3,12 @@ use Rattle.std.specs.Prelude.{ℕ, ◌+◌, List, [], ◌∷◌, ◌++◌, lengt
 use Rattle.lte_bits.specs.Packing.{packed}
 use Rattle.sender_model.specs.CircularBuffer.{Match}
 use Rattle.sender_model.specs.Codeword.{codeword}
+use Rattle.report_lines.specs.Lines.{line_end}
 use Rattle.run_loop.specs.Answer.{Part, Answer, finished, behind, refusal, closed}
 
 -- `end bits G`
-abbrev pub end_line : Match → List ℕ
-end_line m = codes "end bits " ++ decimal m.g ++ 10 ∷ []
+abbrev pub bits_line : Match → List ℕ
+bits_line m = codes "end bits " ++ decimal m.g ++ line_end
 
 -- the codeword of a redundancy version, as bytes
 abbrev pub codeword_text : Match → ℕ → List ℕ → List ℕ
@@ -23,4 +24,4 @@ abbrev pub codeword_answer : Match → ℕ → List ℕ → Answer
 codeword_answer m rv input = if length input == 0
     then refusal 4 0 0 1
     else if nat_lt 18722 (length input) then refusal 4 18722 18723 18723
-    else behind (codeword_part m rv input ∷ []) (closed [] (end_line m) finished 0 0)
+    else behind (codeword_part m rv input ∷ []) (closed [] (bits_line m) finished 0 0)

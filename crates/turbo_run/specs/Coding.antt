@@ -6,11 +6,11 @@ use Rattle.run_loop.specs.declared.work.Block.{Block}
 use Rattle.run_loop.specs.declared.work.Round.{Round}
 use Rattle.run_loop.specs.declared.work.Stop.{Stop}
 use Rattle.run_loop.specs.declared.work.Stop.TheVariants.{End, Bad, NoMemory}
-use Rattle.turbo_run.specs.Codeword.{codeword_part, end_line}
+use Rattle.turbo_run.specs.Codeword.{codeword_part, bits_line}
 
 abbrev pub IsCoded : Match → (rv : ℕ) → (payload : List ℕ) → List Block → Stop → Type 0
 IsCoded m rv payload blocks (End closing last failed) = (parts_of blocks ≡ codeword_part m rv payload ∷ [])
-    × (closing.items ≡ []) × (last.items ≡ end_line m) × (failed ≡ false)
+    × (closing.items ≡ []) × (last.items ≡ bits_line m) × (failed ≡ false)
 IsCoded m rv payload blocks _ = ⊥
 
 -- an input of no byte is refused; else the block is made, or memory was wanting

@@ -1,11 +1,12 @@
 -- What `encode` answers to an input: a hard stream of its blocks.
-use Rattle.std.specs.Prelude.{ℕ, zero, suc, ◌+◌, ◌*◌, List, [], ◌∷◌, ◌++◌, length, take, drop, flat_map, nat_lt, ◌==◌, if◌then◌else◌, codes, decimal}
+use Rattle.std.specs.Prelude.{ℕ, zero, suc, ◌+◌, ◌*◌, List, [], ◌∷◌, ◌++◌, length, take, drop, flat_map, nat_lt, ◌==◌, if◌then◌else◌}
 use Rattle.lte_bits.specs.Packing.{packed}
 use Rattle.sender_model.specs.Codeword.{codeword}
 use Rattle.rate_match.specs.declared.sends.Sending.{Sending}
 use Rattle.coded_stream.specs.Header.{Header, header_text, word_text}
 use Rattle.coded_stream.specs.declared.kind.Kind.TheVariants.{Hard}
 use Rattle.coded_stream.specs.declared.version.Version.{Version}
+use Rattle.report_lines.specs.Lines.{blocks_line}
 use Rattle.run_loop.specs.Answer.{Part, Answer, finished, behind, opened, refusal, closed}
 
 abbrev pub hard_header : Version → (tb : ℕ) → List Sending → Header
@@ -26,10 +27,6 @@ block_part h payload wants =
     record { text = block_text h.sends payload; line = []; size = length payload; wants = wants }
 
 -- ---- all
-
--- `end blocks N`
-abbrev pub blocks_line : ℕ → List ℕ
-blocks_line count = codes "end blocks " ++ decimal count ++ 10 ∷ []
 
 -- the end word and the last line
 abbrev pub end_behind : (count due : ℕ) → Answer

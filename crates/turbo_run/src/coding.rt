@@ -1,15 +1,15 @@
 //! The work of the command `codeword`.
 ghost use Rattle.std.specs.Prelude.{◌≡◌, ◌≤◌, [], IfOk, None, length};
-ghost use Rattle.turbo_run.specs.Codeword.{end_line, codeword_text};
+ghost use Rattle.turbo_run.specs.Codeword.{bits_line, codeword_text};
 ghost use Rattle.turbo_run.specs.Coding.{IsCoded, IsRoundOf};
 
 use crate::reading::{Reading, read_up_to};
 use edge_io::{Sink, SinkFault, Source, write_all};
-use itoa::Buffer;
 use lte_bits::{List, NoMemory, pack};
 use rate_match::{Match, codeword};
+use report_lines::{end_line, push_number};
 use run_loop::{Block, Round, Stop, Work};
-use std::alloc::{AllocError, Global};
+use std::alloc::Global;
 
 /// The codeword of one transport block, over a full buffer: all in one round.
 #[derive(Debug, Drop)]
@@ -48,13 +48,12 @@ fn codeword_text(alloc: Global, payload: &[u8], m: &Match, rv: u8) -> Result<Lis
 }
 
 /// `end bits G`.
-fn end_line(alloc: Global, m: &Match) -> Result<Vec<u8>, AllocError>
-    ensures { IfOk result (λ line. line.items ≡ end_line m.now) }
+fn bits_line(alloc: Global, m: &Match) -> Result<Vec<u8>, NoMemory>
+    ensures { IfOk result (λ line. line.items ≡ bits_line m.now) }
 {
-    let mut buffer = Buffer::new();
-    let mut line = Vec::from_slice(alloc, b"end bits ")?;
-    line.extend_from_slice(buffer.format(m.g()).as_bytes())?;
-    line.push(b'\n')?;
+    let mut line = Vec::new(alloc);
+    push_number(&mut line, b"end bits ", m.g() as u128)?;
+    end_line(&mut line)?;
     Ok(line)
 }
 
@@ -67,7 +66,7 @@ fn coded(alloc: Global, payload: &[u8], m: &Match, rv: u8) -> Result<Round, NoMe
     ensures { IfOk result (λ round. IsCoded m.now rv payload.now round.blocks.items round.stop) }
 {
     let text = codeword_text(alloc, payload, m, rv)?;
-    let last = end_line(alloc, m)?;
+    let last = bits_line(alloc, m)?;
     let mut blocks = Vec::new(alloc);
     blocks.push(Block {
         text: text.into_vec(),

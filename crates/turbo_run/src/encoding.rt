@@ -2,17 +2,16 @@
 ghost use Rattle.std.specs.Prelude.{◌≡◌, ◌≤◌, ◌<◌, ◌+◌, ◌*◌, [], IfOk, length};
 ghost use Rattle.edge_io.specs.Edge.{Rose};
 ghost use Rattle.coded_stream.specs.Shown.{header_of};
-ghost use Rattle.turbo_run.specs.Encode.{blocks_line};
 ghost use Rattle.turbo_run.specs.Encoding.{IsBehindAll, IsEnd, IsGoing, IsLast, IsOfBlock, IsShort};
 
 use crate::blocks::block;
 use crate::reading::{Reading, read_up_to};
 use coded_stream::{Header, length_word, write_header};
 use edge_io::{ReadStop, Sink, SinkFault, Source, read_exactly};
-use itoa::Buffer;
 use lte_bits::NoMemory;
+use report_lines::blocks_line;
 use run_loop::{Round, Stop, Work};
-use std::alloc::{AllocError, Global};
+use std::alloc::Global;
 
 /// The most blocks of a stream.
 const MOST_BLOCKS: u32 = 4096;
@@ -42,23 +41,12 @@ impl Encoding {
     }
 }
 
-/// `end blocks N`.
-fn blocks_line(alloc: Global, count: u32) -> Result<Vec<u8>, AllocError>
-    ensures { IfOk result (λ line. line.items ≡ blocks_line count) }
-{
-    let mut buffer = Buffer::new();
-    let mut line = Vec::from_slice(alloc, b"end blocks ")?;
-    line.extend_from_slice(buffer.format(count).as_bytes())?;
-    line.push(b'\n')?;
-    Ok(line)
-}
-
 /// The end behind so many blocks.
-fn end(alloc: Global, count: u32) -> Result<Stop, AllocError>
+fn end(alloc: Global, count: u32) -> Result<Stop, NoMemory>
     ensures { IfOk result (IsEnd count) }
 {
     let closing = length_word(alloc, 0)?;
-    let last = blocks_line(alloc, count)?;
+    let last = blocks_line(alloc, count as usize)?;
     Ok(Stop::End {
         closing,
         last,
@@ -115,7 +103,7 @@ fn last(alloc: Global, header: &Header, count: u32, payload: &[u8]) -> Round
     if payload.is_empty() {
         return match end(alloc, count) {
             Ok(stop) => Round::stopped(alloc, stop),
-            Err(AllocError) => Round::stopped(alloc, Stop::NoMemory),
+            Err(NoMemory) => Round::stopped(alloc, Stop::NoMemory),
         };
     }
     match short(alloc, header, count, payload) {

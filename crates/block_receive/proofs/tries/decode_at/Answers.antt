@@ -21,26 +21,8 @@ fitting task xs r p soft shape below same soft_is shape_is =
     (sym (soft_is ∙ ap (λ (q : Plan). soft_streams q xs r) same))
     (let block = block_in task r below in streams-long (plan_in task) xs r block.fills))
 
-pub decode-requires-clause-fill : goal.decode-requires-clause-fill
-decode-requires-clause-fill g c =
+pub decode-requires : goal.decode-requires
+decode-requires g c =
     let xs = c.requires.holds.0 in
     let fits = fitting c.args.task.now xs c.args.r c.args.buffers.now.plan c.in_ok-streams.streams c.block_shape.result c.requires.block c.requires.plan (c.in_ok-streams.ensures xs c.requires.holds.1) c.block_shape.ensures in
-    fits.fill
-
-pub decode-requires-clause-d0 : goal.decode-requires-clause-d0
-decode-requires-clause-d0 g c =
-    let xs = c.requires.holds.0 in
-    let fits = fitting c.args.task.now xs c.args.r c.args.buffers.now.plan c.in_ok-streams.streams c.block_shape.result c.requires.block c.requires.plan (c.in_ok-streams.ensures xs c.requires.holds.1) c.block_shape.ensures in
-    fits.d0
-
-pub decode-requires-clause-d1 : goal.decode-requires-clause-d1
-decode-requires-clause-d1 g c =
-    let xs = c.requires.holds.0 in
-    let fits = fitting c.args.task.now xs c.args.r c.args.buffers.now.plan c.in_ok-streams.streams c.block_shape.result c.requires.block c.requires.plan (c.in_ok-streams.ensures xs c.requires.holds.1) c.block_shape.ensures in
-    fits.d1
-
-pub decode-requires-clause-d2 : goal.decode-requires-clause-d2
-decode-requires-clause-d2 g c =
-    let xs = c.requires.holds.0 in
-    let fits = fitting c.args.task.now xs c.args.r c.args.buffers.now.plan c.in_ok-streams.streams c.block_shape.result c.requires.block c.requires.plan (c.in_ok-streams.ensures xs c.requires.holds.1) c.block_shape.ensures in
-    fits.d2
+    c.requires.takes _ _ _ (record { fill = fits.fill; d0 = fits.d0; d1 = fits.d1; d2 = fits.d2 })

@@ -4,7 +4,8 @@ use Rattle.std.specs.List.{range_with_len}
 use Rattle.cell_shares.specs.Orders.{order_places, order_size, IsOrderOf}
 use Rattle.cell_shares.specs.Parts.{places, values, Shuffled}
 use Rattle.cell_shares.specs.Rights.{HoldsRight}
-use Rattle.cell_shares.specs.Shares.{Name, AreAllOf}
+use Rattle.cell_shares.specs.Names.{Name}
+use Rattle.cell_shares.specs.Shares.{AreAllOf}
 use Rattle.cell_shares.specs.declared.order.Order.{Order}
 use Rattle.cell_shares.specs.declared.order.Order.TheVariants.{Natural}
 use Rattle.cell_shares.proofs.Gathering.{Gathering, gathers_last, last_label, gathers_next, next_label, all_long, all_placed, all_dealt, empty_list}

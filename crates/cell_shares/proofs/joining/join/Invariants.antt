@@ -1,7 +1,8 @@
 use Rattle.std.proofs.Common.{◌≤◌}
 use Rattle.std.specs.Prelude.{vec_len, vec_capacity}
 use Rattle.cell_shares.specs.Rights.{HoldsRight}
-use Rattle.cell_shares.specs.Shares.{Name, AreAllOf}
+use Rattle.cell_shares.specs.Names.{Name}
+use Rattle.cell_shares.specs.Shares.{AreAllOf}
 use Rattle.cell_shares.specs.declared.order.Order.{Order}
 use Rattle.cell_shares.proofs.Gathering.{Gathering, IsSplitOf}
 use Rattle.cell_shares.proofs.joining.join.Given as goal

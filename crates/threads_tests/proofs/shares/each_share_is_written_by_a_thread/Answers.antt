@@ -4,7 +4,8 @@ use lib.ListN.{take, drop, length-map}
 use Rattle.std.proofs.Math.Seq.{take-append_seam}
 use Rattle.std.proofs.lemmas.Nat.Gcd.{dvd_of_mod-eq-zero}
 use Rattle.cell_shares.specs.declared.order.Order.TheVariants.{Interleaved}
-use Rattle.cell_shares.specs.Shares.{Name, name_of, share_label, AreAllOf}
+use Rattle.cell_shares.specs.Names.{Name}
+use Rattle.cell_shares.specs.Shares.{name_of, share_label, AreAllOf}
 use Rattle.cell_shares.proofs.Labels.{cells-long, still-all}
 use Rattle.threads_tests.proofs.Forties.{four, ten}
 use Rattle.threads_tests.proofs.shares.each_share_is_written_by_a_thread.Goals as goal

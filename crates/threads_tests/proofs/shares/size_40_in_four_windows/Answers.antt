@@ -6,7 +6,8 @@ use Rattle.cell_shares.specs.Orders.{place_in}
 use Rattle.cell_shares.specs.declared.order.Order.{Order}
 use Rattle.cell_shares.specs.declared.order.Order.TheVariants.{Interleaved}
 use Rattle.cell_shares.specs.declared.share.Share.{Share}
-use Rattle.cell_shares.specs.Shares.{Name, name_of, share_label, share_values, share_place, AreAllOf}
+use Rattle.cell_shares.specs.Names.{Name}
+use Rattle.cell_shares.specs.Shares.{name_of, share_label, share_values, share_place, AreAllOf}
 use Rattle.cell_shares.proofs.Labels.{cells-long, still-all}
 use Rattle.threads_tests.proofs.Forties.{four, ten, place_is}
 use Rattle.threads_tests.proofs.shares.size_40_in_four_windows.Goals as goal

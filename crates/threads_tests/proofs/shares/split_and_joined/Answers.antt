@@ -1,6 +1,6 @@
 use Rattle.std.proofs.Common.{ℕ, sym, ap, ◌∙◌, subst}
 use Prim.Native.Nat.{◌∣◌}
-use Rattle.cell_shares.specs.Shares.{Name}
+use Rattle.cell_shares.specs.Names.{Name}
 use Rattle.threads_tests.proofs.shares.split_and_joined.Goals as goal
 
 pub new-requires-clause-divides : goal.new-requires-clause-divides

@@ -9,16 +9,14 @@ use Rattle.rate_match.proofs.FitTest.{fits_all-true}
 use Rattle.decode_command.proofs.Values.{softs_counted}
 use Rattle.decode_command.proofs.decoding.Decoding.outcome.Goals as goal
 
-pub receive-requires-clause-fits : goal.receive-requires-clause-fits
-receive-requires-clause-fits g c =
+pub receive-requires : goal.receive-requires
+receive-requires g c =
     let h = c.args.header.now in
     let a = c.requires.accepted in
     let P : ℕ → Type 0 = λ n. FitsIn (common h.sends).limit (plan_of n).c (plan_of n).k_plus in
     let B : Result Plan BadLength → Type 0 = λ r. IfOk r (λ plan. plan.bytes ≡ c.args.payload) in
     let same : c.unwrap.result.bytes ≡ c.args.payload = subst B c.unwrap.ensures c.plan.ensures.bytes in
-    subst P (sym same) (fits_all-true (common h.sends).limit h.tb h.fits c.args.payload a.some a.few)
-
-pub receive-requires-clause-values : goal.receive-requires-clause-values
-receive-requires-clause-values g c =
-    let h = c.args.header.now in
-    ap length (c.as_slice.ensures ∙ c.in_ok-softs.ensures) ∙ softs_counted h.kind h.sends c.args.bytes.now c.requires.soft c.requires.accepted.sent
+    c.requires.takes _ _ _ _ (record {
+      fits = subst P (sym same) (fits_all-true (common h.sends).limit h.tb h.fits c.args.payload a.some a.few);
+      values = ap length (c.as_slice.ensures ∙ c.in_ok-softs.ensures) ∙ softs_counted h.kind h.sends c.args.bytes.now c.requires.soft a.sent;
+    })

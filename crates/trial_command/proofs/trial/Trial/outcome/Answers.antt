@@ -12,8 +12,8 @@ use Rattle.trial_command.specs.Shown.{trial_of}
 use Rattle.trial_command.specs.Trials.{block_outcome}
 use Rattle.trial_command.proofs.trial.Trial.outcome.Goals as goal
 
-pub receive-requires-clause-fits : goal.receive-requires-clause-fits
-receive-requires-clause-fits c =
+pub receive_alone-requires-clause-fits : goal.receive_alone-requires-clause-fits
+receive_alone-requires-clause-fits c =
     let t = c.args.self.now in
     let P : ℕ → Type 0 = λ n. FitsIn (common t.sends).limit (plan_of n).c (plan_of n).k_plus in
     let B : Result Plan BadLength → Type 0 = λ r. IfOk r (λ plan. plan.bytes ≡ t.tb) in
@@ -26,6 +26,6 @@ returns c =
     let t = trial_of c.args.self.now in
     let B : Result Plan BadLength → Type 0 = λ r. IfOk r (λ plan. plan.bytes ≡ t.tb) in
     let same : c.unwrap.result.bytes ≡ t.tb = subst B c.unwrap.ensures c.plan.ensures.bytes in
-    let P : ℕ → Type 0 = λ n. IfOk c.receive.result (λ o. o ≡ outcome (plan_of n) t.effort (receptions t.sends c.as_slice.result.now)) in
-    let Q : List ℤ → Type 0 = λ xs. IfOk c.receive.result (λ o. o ≡ outcome (plan_of t.tb) t.effort (receptions t.sends xs)) in
-    subst Q (c.as_slice.ensures.value ∙ c.in_ok-softs.ensures.values) (subst P same c.receive.ensures)
+    let P : ℕ → Type 0 = λ n. IfOk c.receive_alone.result (λ o. o ≡ outcome (plan_of n) t.effort (receptions t.sends c.as_slice.result.now)) in
+    let Q : List ℤ → Type 0 = λ xs. IfOk c.receive_alone.result (λ o. o ≡ outcome (plan_of t.tb) t.effort (receptions t.sends xs)) in
+    subst Q (c.as_slice.ensures.value ∙ c.in_ok-softs.ensures.values) (subst P same c.receive_alone.ensures)

@@ -1,0 +1,15 @@
+pub mod HalfCells
+pub mod OrdersOfHalves
+pub mod SharesOfHalves
+pub mod ReadyWindows
+pub mod DonePieces
+pub mod OwnJobs
+pub mod MovedOver
+pub mod Somes
+pub mod HalfSteps
+pub mod ReadyPieces
+pub mod Verdicts
+pub mod EndedHalves
+pub mod OpenedBoards
+pub mod SharePlaces
+pub mod Crossing

@@ -1,0 +1,8 @@
+use Rattle.std.proofs.Common.{◌≡◌, ℕ, ◌<◌, get_or}
+use Rattle.lte_bits.specs.declared.bit.Bit.TheVariants.{Zero}
+use Rattle.receiver_model.specs.Decoding.{decided_bits}
+use Rattle.cell_shares.specs.Shares.{cell_values}
+use Rattle.window_workers.proofs.bits.decide.Given as goal
+
+abbrev pub invariant-loop-i : goal.invariant-loop-i
+invariant-loop-i l = (k : ℕ) → k < l.i → get_or l.bits k Zero ≡ get_or (decided_bits l.fill (cell_values l.cells)) k Zero

@@ -1,0 +1,53 @@
+//! What the windows of a half have in common.
+ghost use Rattle.std.specs.Prelude.{◌≡◌, ◌%◌, ◌==◌, if◌then◌else◌};
+
+use crate::piece::Tools;
+use cell_shares::Share;
+use lte_bits::Bit;
+use qpp_table::interleaver::Qpp;
+use serial_decode::left::Left;
+use window_decode::{Border, CodeResult, Ext, Shape};
+
+/// A decoding in a half: the tail borders, the borders that each window left in the half before, and the
+/// decided bits of the last iteration.
+#[derive(Drop)]
+pub struct Progress {
+    pub(crate) shape: Shape,
+    pub(crate) interleaver: Qpp,
+    pub(crate) even_tail: Border,
+    pub(crate) odd_tail: Border,
+    pub(crate) left: Vec<Left>,
+    pub(crate) bits: Vec<Bit>,
+}
+
+impl Progress {
+    /// The border after the last position in half `half`.
+    pub(crate) fn tail(&self, half: u32) -> Border
+        ensures { result ≡ (if half % 2 == 0 then self.now.even_tail else self.now.odd_tail) }
+    {
+        if half % 2 == 0 {
+            self.even_tail
+        } else {
+            self.odd_tail
+        }
+    }
+}
+
+/// Room for the shares and the tools of all pieces.
+pub struct Rooms {
+    pub(crate) shares: Vec<Share<Ext>>,
+    pub(crate) tools: Vec<Tools>,
+}
+
+/// How far a decoding is.
+pub enum Stage {
+    /// It is in a half.
+    Running(Progress, Rooms),
+    /// It has ended.
+    Decided(CodeResult),
+}
+
+/// What the pieces of a board have in common: a decoding that runs, or its result.
+pub struct WindowCommon {
+    pub(crate) stage: Stage,
+}
