@@ -4,4 +4,8 @@
 #[cfg(test)]
 mod board;
 #[cfg(test)]
+mod pair_gate;
+#[cfg(test)]
 mod shares;
+#[cfg(test)]
+mod workers;

@@ -1,0 +1,189 @@
+//! Code blocks and a transport block, decoded by several threads.
+ghost use Rattle.std.specs.Prelude.{◌≡◌, IfOk, length};
+
+use crate::pair_gate::PairGate;
+use block_crc::crc24a;
+use block_receive::{TbOutcome, receive_shared};
+use lte_bits::{Bit, Block, Cell, List, NoMemory, Soft, SoftStreams};
+use qpp_table::qpp;
+use rate_match::{Buffer, Match, Sends, fits_plan};
+use segmentation::plan;
+use std::alloc::Global;
+use std::process::Abort;
+use std::test::Fail;
+use std::thread::join;
+use turbo_encode::encode;
+use window_decode::{CheckKind, Shape};
+use window_workers::{NoGate, decode_block_shared, open_board, serve, take_result};
+
+/// Streams of 44 zeros.
+fn zeros(alloc: Global) -> Result<SoftStreams, NoMemory>
+    ensures fill { IfOk result (λ s. s.fill ≡ 0) }
+    ensures d0 { IfOk result (λ s. length s.d0 ≡ 44) }
+    ensures d1 { IfOk result (λ s. length s.d1 ≡ 44) }
+    ensures d2 { IfOk result (λ s. length s.d2 ≡ 44) }
+{
+    Ok(SoftStreams {
+        fill: 0,
+        d0: List::from_vec(vec![in alloc; Soft::ZERO; 44]?),
+        d1: List::from_vec(vec![in alloc; Soft::ZERO; 44]?),
+        d2: List::from_vec(vec![in alloc; Soft::ZERO; 44]?),
+    })
+}
+
+/// A code block of 488 bits, in which a one stands where the place is 1, 2 or 4 modulo 7, and 24 check bits.
+fn code_block(alloc: Global) -> Result<Block, NoMemory> {
+    let mut bits = Vec::new(alloc);
+    for i in 0..488u32 {
+        bits.push(match i % 7 {
+            1 | 2 | 4 => Bit::One,
+            _ => Bit::Zero,
+        })?;
+    }
+    let check = crc24a(bits.as_slice());
+    bits.extend_from_slice(&check)?;
+    Ok(Block {
+        fill: 0,
+        bits: List::from_vec(bits),
+    })
+}
+
+/// Soft values of cells: 20 for a 0 and -20 for a 1, but for each eleventh, which is the other way.
+fn softs(alloc: Global, cells: &[Cell]) -> Result<List<Soft>, NoMemory> {
+    let mut values = Vec::new(alloc);
+    for (i, cell) in cells.iter().enumerate() {
+        let one = *cell == Cell::One;
+        let value = if one == (i % 11 == 0) { 20 } else { -20 };
+        values.push(Soft::from_i8(value))?;
+    }
+    Ok(List::from_vec(values))
+}
+
+#[test]
+fn two_threads_serve_a_board(rt: HostRuntime) -> Result<(), Fail> {
+    let streams = zeros(rt.alloc())?;
+    let shape = Shape::new(40, 0, CheckKind::A, 5, 8).ok_or("it is a shape")?;
+    let (board, seat) = open_board(rt.alloc(), &streams, &shape)?;
+    let (one, two) = board.split_seat(seat);
+    let (one, two) = join(
+        &rt,
+        || serve(&rt, &board, one, &NoGate),
+        || serve(&rt, &board, two, &NoGate),
+    );
+    let seat = board.join_seat(one, two);
+    assert!(rt; seat.saw_over());
+    let (common, closed) = board.close(seat);
+    assert_eq!(rt; closed.half(), 1);
+    let result = take_result(common);
+    assert_eq!(rt; (result.iterations, result.passed), (1, true));
+    assert_eq!(rt; result.block.bits.as_slice(), [Bit::Zero; 40].as_slice());
+    Ok(())
+}
+
+#[test]
+fn any_number_of_workers_decodes_alike(rt: HostRuntime) -> Result<(), Fail> {
+    let block = code_block(rt.alloc())?;
+    assert!(rt; qpp(block.bits.as_slice().len()).is_some());
+    let coded = encode(rt.alloc(), &block)?;
+    let streams = SoftStreams {
+        fill: 0,
+        d0: softs(rt.alloc(), coded.d0.as_slice())?,
+        d1: softs(rt.alloc(), coded.d1.as_slice())?,
+        d2: softs(rt.alloc(), coded.d2.as_slice())?,
+    };
+    let lengths = (
+        streams.d0.as_slice().len(),
+        streams.d1.as_slice().len(),
+        streams.d2.as_slice().len(),
+    );
+    assert!(rt; lengths.0 == 516 && lengths.1 == 516 && lengths.2 == 516);
+    for windows in [1usize, 8, 64] {
+        let shape = Shape::new(512, 0, CheckKind::A, windows, 8).ok_or("it is a shape")?;
+        let (one, _) = decode_block_shared(&rt, rt.alloc(), &streams, &shape, 1, &NoGate)?;
+        let (many, closed) = decode_block_shared(&rt, rt.alloc(), &streams, &shape, 16, &NoGate)?;
+        assert_eq!(rt; (many.passed, many.iterations), (true, one.iterations));
+        assert_eq!(rt; closed.half() as usize + 1, 2 * one.iterations);
+        assert_eq!(rt; one.block.bits.as_slice(), block.bits.as_slice());
+        assert_eq!(rt; many.block.bits.as_slice(), block.bits.as_slice());
+    }
+    Ok(())
+}
+
+#[test]
+fn two_windows_run_at_once(rt: HostRuntime) -> Result<(), Fail> {
+    let streams = zeros(rt.alloc())?;
+    let shape = Shape::new(40, 0, CheckKind::A, 5, 8).ok_or("it is a shape")?;
+    let gate = PairGate::new();
+    let (result, closed) = decode_block_shared(&rt, rt.alloc(), &streams, &shape, 2, &gate)?;
+    assert!(rt; gate.met());
+    assert_eq!(rt;
+        (result.iterations, result.passed, closed.half()),
+        (1, true, 1)
+    );
+    Ok(())
+}
+
+/// How many bytes an outcome delivers, all 0, and its transmissions and iterations.
+fn told(outcome: &TbOutcome) -> (usize, usize, usize) {
+    match outcome {
+        TbOutcome::Delivered {
+            bytes,
+            transmissions,
+            iterations,
+        } if bytes.as_slice().iter().all(|byte| *byte == 0) => {
+            (bytes.as_slice().len(), *transmissions, *iterations)
+        }
+        TbOutcome::Failed {
+            transmissions,
+            iterations,
+        } => (0, *transmissions, *iterations),
+        _ => (0, 0, 0),
+    }
+}
+
+/// 9,420 soft values of each of these numbers.
+fn stretches(alloc: Global, numbers: &[i8]) -> Result<Vec<Soft>, NoMemory> {
+    let mut values = Vec::new(alloc);
+    for number in numbers {
+        for _ in 0..9420 {
+            values.push(Soft::from_i8(*number))?;
+        }
+    }
+    Ok(values)
+}
+
+// Block 0 passes at once. Its later values would spoil it, were it decoded anew.
+#[test]
+fn workers_keep_a_block_that_passed(rt: HostRuntime) -> Result<(), Fail> {
+    let plan = plan(766).ok().ok_or("it has a plan")?;
+    let m = Match::new(2, 1, 18840, Buffer::Full)
+        .ok()
+        .ok_or("it is a matching")?;
+    assert!(rt; fits_plan(&m, &plan));
+    let once = Sends::one(m, 0).ok_or("a transmission")?;
+    let mut twice = Sends::one(m, 0).ok_or("a transmission")?;
+    assert!(rt; twice.add(m, 0));
+    for workers in [1usize, 4] {
+        let softs = stretches(rt.alloc(), &[100, -20])?;
+        assert!(rt; softs.len() == m.g());
+        let softs = softs.as_slice();
+        let outcome = receive_shared(&rt, rt.alloc(), &plan, &once, 8, 3, softs, workers, &NoGate)?;
+        assert_eq!(rt; told(&outcome), (0, 1, 4));
+        let softs = stretches(rt.alloc(), &[100, -20, -127, 100])?;
+        assert!(rt; softs.len() == 2 * m.g());
+        let softs = softs.as_slice();
+        let outcome = receive_shared(
+            &rt,
+            rt.alloc(),
+            &plan,
+            &twice,
+            8,
+            3,
+            softs,
+            workers,
+            &NoGate,
+        )?;
+        assert_eq!(rt; told(&outcome), (766, 2, 2));
+    }
+    Ok(())
+}
