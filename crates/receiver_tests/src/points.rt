@@ -19,7 +19,11 @@ fn has_values(alloc: Global, y: Point, qm: u8, amp: u8, values: &[i8]) -> Result
     requires near { IsNearby y }
 {
     let softs = demap(alloc, &[y], qm, amp)?;
-    let same = softs.as_slice().iter().zip(values).all(|(soft, value)| soft.value() == *value);
+    let same = softs
+        .as_slice()
+        .iter()
+        .zip(values)
+        .all(|(soft, value)| soft.value() == *value);
     Ok(same && softs.as_slice().len() == values.len())
 }
 
@@ -75,10 +79,42 @@ fn points_of_two_and_four_bits_have_their_values(rt: HostRuntime) -> Result<(), 
 #[test]
 fn points_of_six_bits_have_their_values(rt: HostRuntime) -> Result<(), Fail> {
     let alloc = rt.alloc();
-    assert!(rt; has_values(alloc, Point { i: 30, q: 30 }, 6, 10, &[40, 40, 10, 10, 10, 10])?);
-    assert!(rt; has_values(alloc, Point { i: 23, q: -47 }, 6, 10, &[26, -81, 17, -7, 3, 13])?);
-    assert!(rt; has_values(alloc, Point { i: -71, q: 5 }, 6, 10, &[-127, 5, -42, 50, -11, -15])?);
-    assert!(rt; has_values(alloc, Point { i: 3, q: -9 }, 6, 7, &[3, -9, 36, 24, -11, -5])?);
+    assert!(rt;
+        has_values(
+            alloc,
+            Point { i: 30, q: 30 },
+            6,
+            10,
+            &[40, 40, 10, 10, 10, 10]
+        )?
+    );
+    assert!(rt;
+        has_values(
+            alloc,
+            Point { i: 23, q: -47 },
+            6,
+            10,
+            &[26, -81, 17, -7, 3, 13]
+        )?
+    );
+    assert!(rt;
+        has_values(
+            alloc,
+            Point { i: -71, q: 5 },
+            6,
+            10,
+            &[-127, 5, -42, 50, -11, -15]
+        )?
+    );
+    assert!(rt;
+        has_values(
+            alloc,
+            Point { i: 3, q: -9 },
+            6,
+            7,
+            &[3, -9, 36, 24, -11, -5]
+        )?
+    );
     let far = Point { i: -1326, q: 700 };
     assert!(rt; has_values(alloc, far, 6, 127, &[-127, 127, -127, -127, -127, 62])?);
     Ok(())
