@@ -138,7 +138,7 @@ second_near n amp y j b m k own other =
           (own.bound (odd_bits x) (length-odd_bits n x ok.0, at_odd x j (2 * j + 1) refl ∙ ok.1));
     }
 
-near_least : (qm amp : ℕ) (y : Point) (i : ℕ) (b : Bit) → i < qm → IsNear qm amp y i b (near qm amp y i b)
+pub near_least : (qm amp : ℕ) (y : Point) (i : ℕ) (b : Bit) → i < qm → IsNear qm amp y i b (near qm amp y i b)
 unfolding near
 near_least qm amp y i b h = least_with_bit qm (λ x. distance amp y (point x)) i b h
 

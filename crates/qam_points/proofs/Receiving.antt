@@ -15,7 +15,7 @@ use Rattle.lte_bits.specs.declared.bit.Bit.{Bit}
 use Rattle.lte_bits.specs.declared.bit.Bit.TheVariants.{Zero, One}
 use Rattle.qam_points.specs.Constellation.{IsSmall, even_bits, level, mapped, odd_bits, point, sign, symbol}
 use Rattle.qam_points.specs.Demapping.{IsNearby, demapped, soft_value, soft_values}
-use Rattle.qam_points.specs.Reception.{received, received_point, received_points, sent_point, term_at}
+use Rattle.qam_points.specs.Reception.{received, received_point, received_points, sent_point, term_at, value_at}
 use Rattle.qam_points.specs.declared.point.Point.{Point}
 use Rattle.qam_points.proofs.Coordinates.{soft_value-first, soft_value-second}
 use Rattle.qam_points.proofs.Signs.{value_of_one}
@@ -38,10 +38,6 @@ soft_values_of_two amp y some =
 symbol_of_two : (bits : List Bit) (s : ℕ) → 2 * s + 1 < length bits → symbol 2 bits s ≡ get_or bits (2 * s) Zero ∷ get_or bits (2 * s + 1) Zero ∷ []
 symbol_of_two bits s h =
     ap (take 2) (drop_more bits (2 * s) Zero (omega arith) ∙ ap (λ x. get_or bits (2 * s) Zero ∷ x) (drop_more bits (2 * s + 1) Zero h))
-
--- the value of a bit that is sent by itself
-abbrev pub value_at : (amp : ℕ) → (terms : List ℤ) → List Bit → (i : ℕ) → ℤ
-value_at amp terms bits i = clamped 127 (pos amp *ℤ sign (get_or bits i Zero) +ℤ term_at terms i)
 
 symbol_received : (amp : ℕ) (terms : List ℤ) (bits : List Bit) (s : ℕ) → 0 < amp → s < length bits / 2
     → soft_values 2 amp (received_point amp terms (mapped 2 bits) s) ≡ value_at amp terms bits (2 * s) ∷ value_at amp terms bits (2 * s + 1) ∷ []

@@ -15,4 +15,5 @@ coordinate_near n amp t j b = least_over n (λ w. level_distance amp t (slice_se
 
 -- the value of bit j of a coordinate of n bits
 unfoldable pub coordinate_value : (n amp : ℕ) → (t : ℤ) → (j : ℕ) → ℤ
-coordinate_value n amp t j = int_div (coordinate_near n amp t j One -ℤ coordinate_near n amp t j Zero) (pos (4 * amp))
+coordinate_value n amp t j =
+    int_div (coordinate_near n amp t j One -ℤ coordinate_near n amp t j Zero) (pos (4 * amp))

@@ -27,21 +27,23 @@ pub record IsLeast {X : Type 0} (Allowed : X → Type 0) (value : X → ℤ) (m 
 -- m is the least squared distance from y to a point of qm bits whose bit i is b
 abbrev pub IsNear : (qm amp : ℕ) → Point → (i : ℕ) → Bit → ℤ → Type 0
 IsNear qm amp y i b m =
-    IsLeast (λ (x : List Bit). (length x ≡ qm) × (slice_index_or x i Zero ≡ b)) (λ x. distance amp y (point x)) m
+    IsLeast (λ (x : List Bit). (length x ≡ qm) × (slice_index_or x i Zero ≡ b))
+    (λ x. distance amp y (point x)) m
 
 -- the least value over all lists of n bits
 abbrev pub least_over : (n : ℕ) → (List Bit → ℤ) → ℤ
 least_over zero value = value []
 least_over (suc n) value = int_min (least_over n (λ x. value (Zero ∷ x))) (least_over n (λ x. value (One ∷ x)))
 
--- the least squared distance from y to one of the 2^qm points whose bit i is b: over all lists of qm bits, with b
--- put at place i; the law `near_is_the_least` ties it to `IsNear`
+-- the least squared distance from y to one of the 2^qm points whose bit i is b: over all lists of qm bits,
+-- with b put at place i; the law `near_is_the_least` ties it to `IsNear`
 unfoldable pub near : (qm amp : ℕ) → Point → (i : ℕ) → Bit → ℤ
 near qm amp y i b = least_over qm (λ x. distance amp y (point (slice_set x i b)))
 
 -- the soft value of bit i, rounded toward zero and clamped
 unfoldable pub soft_value : (qm amp : ℕ) → Point → (i : ℕ) → ℤ
-soft_value qm amp y i = clamped 127 (int_div (near qm amp y i One -ℤ near qm amp y i Zero) (pos (4 * amp)))
+soft_value qm amp y i =
+    clamped 127 (int_div (near qm amp y i One -ℤ near qm amp y i Zero) (pos (4 * amp)))
 
 -- those of all bits of a point
 unfoldable pub soft_values : (qm amp : ℕ) → Point → List ℤ

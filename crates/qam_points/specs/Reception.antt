@@ -1,8 +1,10 @@
 -- A transmission that was sent as points, and what is received of it: this project's own.
 use Rattle.std.specs.Prelude.{ℕ, ◌+◌, ◌*◌, ℤ, pos, ◌+ℤ◌, ◌*ℤ◌, List, length, map, slice_index_or}
 use Rattle.std.specs.List.{range_with_len}
+use Rattle.lte_bits.specs.Softs.{clamped}
 use Rattle.lte_bits.specs.declared.bit.Bit.{Bit}
-use Rattle.qam_points.specs.Constellation.{mapped}
+use Rattle.lte_bits.specs.declared.bit.Bit.TheVariants.{Zero}
+use Rattle.qam_points.specs.Constellation.{mapped, sign}
 use Rattle.qam_points.specs.Demapping.{demapped}
 use Rattle.qam_points.specs.declared.point.Point.{Point}
 
@@ -27,3 +29,8 @@ received_points amp terms points = map (received_point amp terms points) (range_
 -- the soft values of bits that were sent with an amplitude as points of qm bits, with these terms
 unfoldable pub received : (qm amp : ℕ) → (terms : List ℤ) → List Bit → List ℤ
 received qm amp terms bits = demapped qm amp (received_points amp terms (mapped qm bits))
+
+-- the soft value of the bit of place i, sent by itself: the law `two_bits_are_received_by_themselves` says that
+-- this is what it is where points have two bits
+abbrev pub value_at : (amp : ℕ) → (terms : List ℤ) → List Bit → (i : ℕ) → ℤ
+value_at amp terms bits i = clamped 127 (pos amp *ℤ sign (slice_index_or bits i Zero) +ℤ term_at terms i)

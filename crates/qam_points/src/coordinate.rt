@@ -1,5 +1,6 @@
-//! One coordinate of a received point by itself, for each of its bits. The nearest level with a 1 and the nearest
-//! with a 0 give a sum of pieces of the coordinate, so that no level is tried and nothing is divided.
+//! One coordinate of a received point by itself: the values of its bits, before they are clamped. The nearest
+//! levels with a 1 and with a 0 give a sum of pieces of the coordinate, so no level is tried, and nothing is
+//! divided.
 ghost use Rattle.std.specs.Prelude.{◌≡◌, ◌≤◌, ◌*◌, ◌-ℤ◌, pos, unsigned_abs};
 ghost use Rattle.lte_bits.specs.Softs.{IsWithin, clamped};
 ghost use Rattle.qam_points.specs.Coordinate.{coordinate_value};
@@ -16,7 +17,7 @@ fn within(bound: u16, t: i32) -> i32
     t.clamp(-bound, bound)
 }
 
-/// Of the first of a coordinate's two bits, its sign.
+/// The value of the first of a coordinate's two bits, which is its sign.
 #[inline]
 pub fn first_of_two(t: i32, amp: u8) -> i32
     requires t { IsWithin 5000 t }
@@ -27,7 +28,7 @@ pub fn first_of_two(t: i32, amp: u8) -> i32
     2 * t - within(2 * u16::from(amp), t)
 }
 
-/// Of the second of its two bits, its size.
+/// The value of the second of its two bits, which is its size.
 #[inline]
 pub fn second_of_two(t: i32, amp: u8) -> i32
     requires t { IsWithin 5000 t }
@@ -38,7 +39,7 @@ pub fn second_of_two(t: i32, amp: u8) -> i32
     2 * i32::from(amp) - t.abs()
 }
 
-/// Of the first of a coordinate's three bits, its sign.
+/// The value of the first of a coordinate's three bits, which is its sign.
 #[inline]
 pub fn first_of_three(t: i32, amp: u8) -> i32
     requires t { IsWithin 5000 t }
@@ -50,7 +51,8 @@ pub fn first_of_three(t: i32, amp: u8) -> i32
     4 * t - within(2 * amp, t) - within(4 * amp, t) - within(6 * amp, t)
 }
 
-/// By how much its size is below the middle of all sizes. Its second and third bit are the two of a coordinate there.
+/// By how much its size is below the middle of all sizes. Its second and third bit have the values of the two
+/// bits of a coordinate there.
 #[inline]
 pub fn rest_of_three(t: i32, amp: u8) -> i32
     requires t { IsWithin 4000 t }

@@ -6,6 +6,8 @@ mod block;
 #[cfg(test)]
 mod noise;
 #[cfg(test)]
+mod points;
+#[cfg(test)]
 mod transmissions;
 #[cfg(test)]
 mod transport_block;
