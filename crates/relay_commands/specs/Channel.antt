@@ -1,7 +1,5 @@
 -- What `channel` makes of a hard stream: one of soft values with noise, in the same version.
-use Rattle.std.specs.Prelude.{ℕ, List, take}
-use Rattle.lte_bits.specs.Packing.{unpacked}
-use Rattle.lte_bits.specs.declared.bit.Bit.{Bit}
+use Rattle.std.specs.Prelude.{ℕ, List}
 use Rattle.sender_model.specs.CircularBuffer.{Match}
 use Rattle.soft_channel.specs.Noise.{Strength, Transmission, noisy}
 use Rattle.coded_stream.specs.Header.{Header}
@@ -9,16 +7,13 @@ use Rattle.coded_stream.specs.declared.kind.Kind.TheVariants as kind
 use Rattle.coded_stream.specs.declared.kind.Want.TheVariants as want
 use Rattle.stream_loop.specs.Handling.{Handling}
 use Rattle.stream_values.specs.SoftBytes.{bytes_of}
+use Rattle.relay_commands.specs.HardBits.{bits_in}
 use Rattle.relay_commands.specs.Relaying.{Relaying, relaying}
 
 -- how strong the sent bits are, the noise on them, and the seed that it comes from
 pub record Noise : Type 0 where
   pub strength : Strength
   pub seed : ℕ
-
--- the bits of a transmission, without the unused ones of its last byte
-abbrev pub bits_in : Match → (bytes : List ℕ) → List Bit
-bits_in m bytes = take m.g (unpacked bytes)
 
 abbrev pub transmission_of : Noise → (block number : ℕ) → Transmission
 transmission_of n block number = record { seed = n.seed; block = block; number = number }

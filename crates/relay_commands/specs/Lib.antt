@@ -1,3 +1,5 @@
 pub mod Relaying
+pub mod HardBits
 pub mod Channel
+pub mod Scramble
 pub mod Upgrade

@@ -1,9 +1,10 @@
 //! What `channel` sends in place of a transmission.
 ghost use Rattle.std.specs.Prelude.{◌≤◌};
 
+use crate::bits::bits_in;
 use crate::relay::{Transmitter, Turn};
 use coded_stream::{Header, Kind, Want};
-use lte_bits::{NoMemory, unpack};
+use lte_bits::NoMemory;
 use rate_match::Match;
 use soft_channel::noisy;
 use std::alloc::Global;
@@ -51,11 +52,18 @@ impl Transmitter for Channel {
         m: &Match,
         bytes: &[u8],
     ) -> Result<(), NoMemory> {
-        let bits = unpack(alloc, bytes)?;
-        let sent = &bits.as_slice()[..m.g()];
+        let bits = bits_in(alloc, m, bytes)?;
         let block = turn.block as u32;
         let number = turn.number as u8;
-        let softs = noisy(alloc, sent, self.amp, self.noise, self.seed, block, number)?;
+        let softs = noisy(
+            alloc,
+            bits.as_slice(),
+            self.amp,
+            self.noise,
+            self.seed,
+            block,
+            number,
+        )?;
         push_bytes(text, softs.as_slice())
     }
 }

@@ -4,10 +4,12 @@ ghost use Rattle.run_loop.specs.Edges.{held, counts, Causes};
 ghost use Rattle.run_loop.specs.Reply.{EndsReply};
 ghost use Rattle.stream_loop.specs.Handling.{stream_reply};
 ghost use Rattle.relay_commands.specs.Channel.{channel};
+ghost use Rattle.relay_commands.specs.Scramble.{scrambling};
 ghost use Rattle.relay_commands.specs.Upgrade.{upgrade};
 
 use crate::channel::Channel;
 use crate::relay::Relay;
+use crate::scramble::Scramble;
 use crate::upgrade::Upgrade;
 use edge_io::{Sink, Source};
 use run_loop::Status;
@@ -38,6 +40,41 @@ pub fn run_channel<S: Source, D: Sink, R: Sink>(
     ensures later { R.faults report.old ≤ R.faults report.new }
 {
     let transmitter = Channel { amp, noise, seed };
+    run_stream(alloc, Relay { transmitter }, source, out, report)
+}
+
+/// Reads a stream of either kind and version, and writes the same stream with its bits scrambled or its soft
+/// values turned (36.211 5.3.1, 6.3.1): for a terminal's identity, the number of a codeword, 0 or 1, the slot of
+/// the first transmission, 0 to 19, and a cell, 0 to 503. Each transmission has the second slot behind that of
+/// the one before it.
+pub fn run_scramble<S: Source, D: Sink, R: Sink>(
+    alloc: Global,
+    rnti: u16,
+    q: u8,
+    slot: u8,
+    cell: u16,
+    source: &mut S,
+    out: &mut D,
+    report: &mut R,
+) -> Status
+    requires codeword { q ≤ 1 }
+    requires in_frame { slot ≤ 19 }
+    requires in_cells { cell ≤ 503 }
+    ensures ended { (input : List ℕ) → S.left source.old ≡ Some input →
+        EndsReply (stream_reply (scrambling (record { rnti = rnti; q = q; slot = slot; cell = cell })) input)
+        (held (S.left source.old) (D.held out.old) (R.held report.old))
+        (held (S.left source.new) (D.held out.new) (R.held report.new)) result }
+    ensures causes { Causes
+        (counts (S.faults source.old) (D.faults out.old) (R.faults report.old))
+        (counts (S.faults source.new) (D.faults out.new) (R.faults report.new)) result }
+    ensures later { R.faults report.old ≤ R.faults report.new }
+{
+    let transmitter = Scramble {
+        rnti,
+        q,
+        slot,
+        cell,
+    };
     run_stream(alloc, Relay { transmitter }, source, out, report)
 }
 
