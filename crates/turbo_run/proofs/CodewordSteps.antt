@@ -17,12 +17,12 @@ use Rattle.run_loop.specs.declared.work.Stop.{Stop}
 use Rattle.run_loop.specs.declared.work.Stop.TheVariants.{Go, End, Bad, Fault, NoMemory}
 use Rattle.run_loop.proofs.Alone.{step_alone}
 use Rattle.edge_io.proofs.Told.{told_rest, told_all}
-use Rattle.turbo_run.specs.Codeword.{codeword_answer, codeword_part, end_line}
+use Rattle.turbo_run.specs.Codeword.{codeword_answer, codeword_part, bits_line}
 use Rattle.turbo_run.specs.Coding.{IsCoded, IsRoundOf}
 
 -- a payload that isn't too long
 accepted : (m : Match) (rv : ℕ) (payload : List ℕ) → 0 < length payload → length payload ≤ 18722 →
-    codeword_answer m rv payload ≡ behind (codeword_part m rv payload ∷ []) (closed [] (end_line m) finished 0 0)
+    codeword_answer m rv payload ≡ behind (codeword_part m rv payload ∷ []) (closed [] (bits_line m) finished 0 0)
 accepted m rv payload some few = grind (arith, common_steps, some, few)
 
 -- a byte more is refused
@@ -33,7 +33,7 @@ too_long m rv bytes rest long = grind (arith, common_steps, long, length-append 
 data Kind (m : Match) (rv : ℕ) (input : List ℕ) : Type 0 where
   Empty : length input ≡ 0 → codeword_answer m rv input ≡ refusal 4 0 0 1 → Kind m rv input
   Long : codeword_answer m rv input ≡ refusal 4 18722 18723 18723 → Kind m rv input
-  Whole : codeword_answer m rv input ≡ behind (codeword_part m rv input ∷ []) (closed [] (end_line m) finished 0 0) → Kind m rv input
+  Whole : codeword_answer m rv input ≡ behind (codeword_part m rv input ∷ []) (closed [] (bits_line m) finished 0 0) → Kind m rv input
 
 kinds : (m : Match) (rv : ℕ) (input : List ℕ) → Kind m rv input
 kinds m rv input = elim (cases_lt 0 (length input)) [
@@ -107,7 +107,7 @@ step_of_starved m rv input payload after fits old new round none is some few too
 
 coded_stop : (m : Match) (rv : ℕ) (payload : List ℕ) (after : List ℕ → Answer) (fits : List ℕ → Type 0) (new : Option (List ℕ)) (blocks : List Block) (stop : Stop) →
     IsCoded m rv payload blocks stop → new ≡ Some [] →
-    (parts_of blocks ≡ codeword_part m rv payload ∷ []) × Stops 1 (closed [] (end_line m) finished 0 0) after fits new new stop
+    (parts_of blocks ≡ codeword_part m rv payload ∷ []) × Stops 1 (closed [] (bits_line m) finished 0 0) after fits new new stop
 coded_stop m rv payload after fits new blocks (End closing last failed) is at =
     (is.0, (at, refl, sym is.1, sym is.2, ap ending_of (sym is.3)))
 coded_stop m rv payload after fits new blocks Go is at = absurd is
@@ -122,7 +122,7 @@ step_of_coded m rv input payload after fits old new round is some few took ended
     let end = told_all old new payload input took ended told in
     let coded = coded_stop m rv payload after fits new round.blocks.items round.stop is end.new_is in
     let one : length payload ≡ size_of (codeword_part m rv payload ∷ []) = omega arith in
-    let b = closed [] (end_line m) finished 0 0 in (
+    let b = closed [] (bits_line m) finished 0 0 in (
       b,
       payload,
       new,

@@ -3,3 +3,4 @@ mod FullBuffer
 mod MoreText
 mod BlockKinds
 mod EncodeSteps
+mod Runnings

@@ -5,16 +5,47 @@ use Rattle.run_loop.specs.FaultLine.{AddsLine, Finished, fault_line}
 use Rattle.run_loop.specs.Reply.{Reply, begun, EndsReply, IsEndingOf, ending_of_reply}
 use Rattle.run_loop.specs.declared.status.Status.{Status}
 use Rattle.run_loop.specs.declared.status.Status.TheVariants.{BadWords}
+use Rattle.stream_loop.specs.Handling.{stream_reply}
+use Rattle.decode_command.specs.Decoding.{decoding}
+use Rattle.relay_commands.specs.Channel.{Noise, channel}
+use Rattle.relay_commands.specs.Scramble.{scrambling}
+use Rattle.relay_commands.specs.Upgrade.{upgrade}
+use Rattle.trial_command.specs.Trials.{trial_reply}
 use Rattle.turbo_run.specs.Codeword.{codeword_answer}
 use Rattle.turbo_run.specs.Encode.{encode_answer, hard_header}
 use Rattle.command_words.specs.Words.{command_of}
 use Rattle.command_words.specs.declared.words.Command.{Command}
-use Rattle.command_words.specs.declared.words.Command.TheVariants.{Codeword, Encode}
+use Rattle.command_words.specs.declared.words.Command.TheVariants.{Codeword, Encode, Decode, Channel, Upgrade, Trial, Scramble, Points}
+
+-- the noise of these numbers
+abbrev pub noise_of : (amp noise seed : ℕ) → Noise
+noise_of amp noise seed = record { strength = record { amp = amp; noise = noise }; seed = seed }
 
 -- what a command answers to an input
 abbrev pub answer_of : Command → (input : List ℕ) → Reply
 answer_of (Codeword m rv) input = begun 0 1 (codeword_answer m rv input)
 answer_of (Encode version tb sends) input = begun 0 1 (encode_answer (hard_header version tb sends) input)
+answer_of (Decode windows limit workers) input =
+    stream_reply (decoding (record { windows = windows; limit = limit })) input
+answer_of (Channel amp noise seed) input = stream_reply (channel (noise_of amp noise seed)) input
+answer_of Upgrade input = stream_reply upgrade input
+answer_of (Trial seed blocks tb sends amp noise windows limit) input = trial_reply (record {
+  seed = seed;
+  blocks = blocks;
+  tb = tb;
+  sends = sends;
+  strength = record { amp = amp; noise = noise };
+  effort = record { windows = windows; limit = limit };
+})
+answer_of (Scramble rnti q slot cell) input =
+    stream_reply (scrambling (record { rnti = rnti; q = q; slot = slot; cell = cell })) input
+answer_of (Points amp noise seed) input = stream_reply (channel (noise_of amp noise seed)) input
+
+-- a command that reads nothing leaves the source and `out` as they are, whether these tell what they hold or not
+abbrev pub LeavesAlone : {S D : Type 0} → Command → (source source' : S) → (out out' : D) → Type 0
+LeavesAlone (Trial seed blocks tb sends amp noise windows limit) source source' out out' =
+    (source' ≡ source) × (out' ≡ out)
+LeavesAlone _ source source' out out' = Unit {0}
 
 -- how a command ends before the fault line is written, where the source tells what it gives
 abbrev pub EndsAs : Command → Held → Held → Status → Type 0
@@ -38,3 +69,5 @@ pub record Runs {S D : Type 0} (words : List (List ℕ)) (source source' : S) (o
       IsQuiet before now → IsEndingOf (ending_of_reply (answer_of command input)) status)
   -- each fault was counted, and accepted words are never refused, whether the source tells or not
   pub causes : IfOk (command_of words) (λ _. Causes before now status)
+  -- a command that reads nothing leaves the source and `out` as they are
+  pub alone : IfOk (command_of words) (λ command. LeavesAlone command source source' out out')

@@ -4,9 +4,11 @@
 mod blocks;
 mod coding;
 mod encoding;
+mod performing;
 mod reading;
 mod running;
+mod sender;
 
 pub use command_words::{Command, WordRefusal, read_words};
 pub use run_loop::{SinkName, Status};
-pub use running::{run, run_alone};
+pub use running::{run, run_alone, run_gated};

@@ -17,7 +17,7 @@ receive_alone-requires-clause-fits c =
     let t = c.args.self.now in
     let P : ℕ → Type 0 = λ n. FitsIn (common t.sends).limit (plan_of n).c (plan_of n).k_plus in
     let B : Result Plan BadLength → Type 0 = λ r. IfOk r (λ plan. plan.bytes ≡ t.tb) in
-    let same : c.unwrap.result.bytes ≡ t.tb = subst B c.unwrap.ensures c.plan.ensures.bytes in
+    let same : c.unwrap-plan.result.bytes ≡ t.tb = subst B c.unwrap-plan.ensures c.plan.ensures.bytes in
     subst P (sym same) (fits_all-true (common t.sends).limit t.tb t.fits t.tb t.some (omega arith))
 
 pub returns : goal.returns
@@ -25,7 +25,7 @@ unfolding block_outcome
 returns c =
     let t = trial_of c.args.self.now in
     let B : Result Plan BadLength → Type 0 = λ r. IfOk r (λ plan. plan.bytes ≡ t.tb) in
-    let same : c.unwrap.result.bytes ≡ t.tb = subst B c.unwrap.ensures c.plan.ensures.bytes in
+    let same : c.unwrap-plan.result.bytes ≡ t.tb = subst B c.unwrap-plan.ensures c.plan.ensures.bytes in
     let P : ℕ → Type 0 = λ n. IfOk c.receive_alone.result (λ o. o ≡ outcome (plan_of n) t.effort (receptions t.sends c.as_slice.result.now)) in
     let Q : List ℤ → Type 0 = λ xs. IfOk c.receive_alone.result (λ o. o ≡ outcome (plan_of t.tb) t.effort (receptions t.sends xs)) in
     subst Q (c.as_slice.ensures.value ∙ c.in_ok-softs.ensures.values) (subst P same c.receive_alone.ensures)

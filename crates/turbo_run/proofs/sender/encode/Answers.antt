@@ -8,7 +8,7 @@ use Rattle.run_loop.specs.Edges.{held}
 use Rattle.run_loop.specs.Ended.{Ended}
 use Rattle.run_loop.proofs.Headers.{without_header}
 use Rattle.turbo_run.specs.Encode.{blocks_answer, encode_answer, hard_header}
-use Rattle.turbo_run.proofs.running.encode.Goals as goal
+use Rattle.turbo_run.proofs.sender.encode.Goals as goal
 
 pub returns-clause-ended : goal.returns-clause-ended
 returns-clause-ended g c input told =

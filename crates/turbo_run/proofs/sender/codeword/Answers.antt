@@ -6,7 +6,7 @@ use Rattle.run_loop.specs.Ended.{Ended}
 use Rattle.run_loop.proofs.Headers.{without_header}
 use Rattle.turbo_run.specs.Codeword.{codeword_answer}
 use Rattle.turbo_run.proofs.CodewordSteps.{unopened_codeword}
-use Rattle.turbo_run.proofs.running.codeword.Goals as goal
+use Rattle.turbo_run.proofs.sender.codeword.Goals as goal
 
 pub returns-clause-ended : goal.returns-clause-ended
 returns-clause-ended g c input told =
