@@ -9,4 +9,4 @@ mod Starting
 mod Stepping
 pub mod Twice
 mod Widening
-mod Words
+pub mod Words

@@ -1,2 +1,4 @@
 mod Turns
 mod HardBits
+mod Modulation
+mod Pairs

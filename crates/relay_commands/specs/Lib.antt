@@ -1,5 +1,6 @@
 pub mod Relaying
 pub mod HardBits
 pub mod Channel
+pub mod Points
 pub mod Scramble
 pub mod Upgrade

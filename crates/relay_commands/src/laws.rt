@@ -1,7 +1,12 @@
 //! Laws of relayed streams. Each function computes nothing: its contract is the law.
-ghost use Rattle.std.specs.Prelude.{◌≡◌, ℕ};
+ghost use Rattle.std.specs.Prelude.{◌≡◌, ℕ, ◌<◌, List};
+ghost use Rattle.sender_model.specs.CircularBuffer.{Match};
+ghost use Rattle.rate_match.specs.Matching.{IsMatch};
 ghost use Rattle.coded_stream.specs.Header.{Header};
-ghost use Rattle.coded_stream.specs.Blocks.{Block, IsBlock, block_text};
+ghost use Rattle.coded_stream.specs.Blocks.{Block, IsBlock, IsTransmission, block_text};
+ghost use Rattle.coded_stream.specs.declared.kind.Kind.TheVariants as kind;
+ghost use Rattle.relay_commands.specs.Channel.{Noise, noisy_text};
+ghost use Rattle.relay_commands.specs.Points.{received_text};
 ghost use Rattle.relay_commands.specs.Relaying.{relayed};
 ghost use Rattle.relay_commands.specs.Upgrade.{as_read};
 
@@ -9,4 +14,11 @@ ghost use Rattle.relay_commands.specs.Upgrade.{as_read};
 pub fn an_upgrade_keeps_the_blocks()
     ensures { (h : Header) (number : ℕ) (b : Block) → IsBlock h b →
         (relayed as_read h number b).text ≡ block_text b }
+{}
+
+/// With two bits a point, `points` sends just what `channel` does.
+pub fn two_bits_a_point_are_sent_as_by_themselves()
+    ensures { (n : Noise) (h : Header) (block number : ℕ) (m : Match) (bytes : List ℕ) →
+        0 < n.strength.amp → m.qm ≡ 2 → IsMatch m → IsTransmission kind.Hard m.g bytes →
+        received_text n h block number m bytes ≡ noisy_text n h block number m bytes }
 {}

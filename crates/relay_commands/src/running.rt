@@ -4,10 +4,12 @@ ghost use Rattle.run_loop.specs.Edges.{held, counts, Causes};
 ghost use Rattle.run_loop.specs.Reply.{EndsReply};
 ghost use Rattle.stream_loop.specs.Handling.{stream_reply};
 ghost use Rattle.relay_commands.specs.Channel.{channel};
+ghost use Rattle.relay_commands.specs.Points.{points};
 ghost use Rattle.relay_commands.specs.Scramble.{scrambling};
 ghost use Rattle.relay_commands.specs.Upgrade.{upgrade};
 
 use crate::channel::Channel;
+use crate::points::Points;
 use crate::relay::Relay;
 use crate::scramble::Scramble;
 use crate::upgrade::Upgrade;
@@ -40,6 +42,35 @@ pub fn run_channel<S: Source, D: Sink, R: Sink>(
     ensures later { R.faults report.old ≤ R.faults report.new }
 {
     let transmitter = Channel { amp, noise, seed };
+    run_stream(alloc, Relay { transmitter }, source, out, report)
+}
+
+/// Reads a hard stream and writes the stream of soft values that are received, in the same version of the
+/// container: bits sent as points (36.211 7.1) with an amplitude, 1 to 127, and noise on each of their
+/// coordinates, 0 to 127, from a seed.
+pub fn run_points<S: Source, D: Sink, R: Sink>(
+    alloc: Global,
+    amp: u8,
+    noise: u8,
+    seed: u64,
+    source: &mut S,
+    out: &mut D,
+    report: &mut R,
+) -> Status
+    requires some { 1 ≤ amp }
+    requires most { amp ≤ 127 }
+    requires few { noise ≤ 127 }
+    ensures ended { (input : List ℕ) → S.left source.old ≡ Some input →
+        EndsReply (stream_reply (points (record { strength = record { amp = amp; noise = noise }; seed = seed })) input)
+        (held (S.left source.old) (D.held out.old) (R.held report.old))
+        (held (S.left source.new) (D.held out.new) (R.held report.new)) result }
+    ensures causes { Causes
+        (counts (S.faults source.old) (D.faults out.old) (R.faults report.old))
+        (counts (S.faults source.new) (D.faults out.new) (R.faults report.new)) result }
+    ensures later { R.faults report.old ≤ R.faults report.new }
+{
+    let channel = Channel { amp, noise, seed };
+    let transmitter = Points { channel };
     run_stream(alloc, Relay { transmitter }, source, out, report)
 }
 

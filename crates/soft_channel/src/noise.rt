@@ -1,5 +1,6 @@
 //! Soft values of sent bits, and the noise on them by itself.
-ghost use Rattle.std.specs.Prelude.{◌≡◌, ◌≤◌, IfOk};
+ghost use Rattle.std.specs.Prelude.{◌≡◌, ◌≤◌, All, IfOk};
+ghost use Rattle.lte_bits.specs.Softs.{IsWithin};
 ghost use Rattle.soft_channel.specs.Noise.{noise_terms, noisy};
 
 use crate::terms::{received, term};
@@ -10,7 +11,7 @@ use std::alloc::Global;
 
 /// The first `count` terms, at most 1,000,000, of the noise on transmission `tx`, 0 to 7, of a block, both
 /// counted from 0. A term is `noise`, at most 127, times a number of mean 0 and deviation about 1, rounded
-/// toward zero.
+/// toward zero: a number from -437 to 437.
 pub fn noise_terms(
     alloc: Global,
     count: usize,
@@ -22,8 +23,9 @@ pub fn noise_terms(
     requires count { count ≤ 1000000 }
     requires noise { noise ≤ 127 }
     requires tx { tx ≤ 7 }
-    ensures { IfOk result (λ terms. terms ≡ noise_terms noise
+    ensures value { IfOk result (λ terms. terms ≡ noise_terms noise
         (record { seed = seed; block = block; number = tx }) count) }
+    ensures range { IfOk result (All (IsWithin 437)) }
 {
     let mut words = generator(Purpose::Noise, seed, block, tx);
     let mut terms = Vec::with_capacity(alloc, count)?;

@@ -1,5 +1,7 @@
 use Rattle.std.proofs.Common.{◌≡◌, map}
+use Rattle.std.specs.Prelude.{All}
 use Rattle.std.specs.List.{range_with_len}
+use Rattle.lte_bits.specs.Softs.{IsWithin}
 use Rattle.soft_channel.specs.Noise.{Transmission, noise_draw, noise_term}
 use Rattle.soft_channel.proofs.Drawing.{drawn}
 use Rattle.soft_channel.proofs.noise.noise_terms.Given as goal
@@ -9,3 +11,4 @@ invariant-loop l =
     let t : Transmission = record { seed = l.seed; block = l.block; number = l.tx } in
     (l.words ≡ drawn (noise_draw t) l.counter)
     × (l.terms.items ≡ map (noise_term l.noise t) (range_with_len 0 l.counter))
+    × All (IsWithin 437) l.terms.items
