@@ -1,5 +1,5 @@
-use Rattle.turbo_encode.proofs.WalkSteps.{place_more, step_more}
-use Rattle.turbo_encode.proofs.order.Walk.next.Goals as goal
+use Rattle.qpp_table.proofs.WalkSteps.{place_more, step_more}
+use Rattle.qpp_table.proofs.walk.Walk.next.Goals as goal
 
 pub returns-clause-at : goal.returns-clause-at
 returns-clause-at c = λ f1 f2 i h.
