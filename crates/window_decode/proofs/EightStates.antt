@@ -14,6 +14,19 @@ use Rattle.receiver_model.proofs.GreatestPaths.{states-all}
 use Rattle.window_decode.specs.Recursions.{IsBounded, AreNear, IsMetrics}
 use Rattle.window_decode.proofs.Within.{within-same, within-more}
 
+-- a list of eight by its elements
+pub by_eight : (P : List ℤ → Type 0) → ((a b c d e f g h : ℤ) → P (a ∷ b ∷ c ∷ d ∷ e ∷ f ∷ g ∷ h ∷ [])) → (xs : List ℤ) → length xs ≡ 8 → P xs
+by_eight P each [] l = absurd (omega (arith, l))
+by_eight P each (a ∷ []) l = absurd (omega (arith, l))
+by_eight P each (a ∷ b ∷ []) l = absurd (omega (arith, l))
+by_eight P each (a ∷ b ∷ c ∷ []) l = absurd (omega (arith, l))
+by_eight P each (a ∷ b ∷ c ∷ d ∷ []) l = absurd (omega (arith, l))
+by_eight P each (a ∷ b ∷ c ∷ d ∷ e ∷ []) l = absurd (omega (arith, l))
+by_eight P each (a ∷ b ∷ c ∷ d ∷ e ∷ f ∷ []) l = absurd (omega (arith, l))
+by_eight P each (a ∷ b ∷ c ∷ d ∷ e ∷ f ∷ g ∷ []) l = absurd (omega (arith, l))
+by_eight P each (a ∷ b ∷ c ∷ d ∷ e ∷ f ∷ g ∷ h ∷ []) l = each a b c d e f g h
+by_eight P each (a ∷ b ∷ c ∷ d ∷ e ∷ f ∷ g ∷ h ∷ i ∷ xs) l = absurd (omega (arith, l))
+
 -- the list of a function's numbers has them
 pub number-border_of : (f : State → ℤ) (s : State) → number_for (border_of f) s ≡ f s
 number-border_of f s = by_bits s.a1 s.a2 s.a3
@@ -31,6 +44,9 @@ number-border_of f s = by_bits s.a1 s.a2 s.a3
 map-same : {X Y : Type 0} (f g : X → Y) (xs : List X) → ((x : X) → f x ≡ g x) → map f xs ≡ map g xs
 map-same f g [] e = refl
 map-same f g (x ∷ xs) e = ap (λ y. y ∷ map f xs) (e x) ∙ ap (λ ys. g x ∷ ys) (map-same f g xs e)
+
+pub border-same : (f g : State → ℤ) → ((s : State) → f s ≡ g s) → border_of f ≡ border_of g
+border-same f g e = map-same f g states e
 
 pub relative-same : (f g : State → ℤ) → ((s : State) → f s ≡ g s) → relative f ≡ relative g
 relative-same f g e = map-same (λ s. f s -ℤ f zero_state) (λ s. g s -ℤ g zero_state) states (λ s. ap (λ z. z -ℤ f zero_state) (e s) ∙ ap (λ z. g s -ℤ z) (e zero_state))
