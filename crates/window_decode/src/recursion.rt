@@ -14,21 +14,23 @@ use crate::lanes::{
 use crate::step::Step;
 use std::simd::prelude::*;
 
-/// The metrics with which paths come to each state from the state before it whose oldest value is 0.
+/// The metrics with which paths come to each state from the one before it whose oldest value is 0.
 #[inline]
 fn way_in_by_zero(before: i16x8, step: Step) -> i16x8
     requires { IsRelative before }
-    ensures { result ≡ border_of (λ s. way_in (number_for before) (step_gain step.input step.parity) s Zero) }
+    ensures { result ≡ border_of
+        (λ s. way_in (number_for before) (step_gain step.input step.parity) s Zero) }
 {
     let gain = sum(input_by_zero(step.input), parity_of_zero(step.parity));
     sum(before_by_zero(before), gain)
 }
 
-/// The metrics with which paths come to each state from the state before it whose oldest value is 1.
+/// The metrics with which paths come to each state from the one before it whose oldest value is 1.
 #[inline]
 fn way_in_by_one(before: i16x8, step: Step) -> i16x8
     requires { IsRelative before }
-    ensures { result ≡ border_of (λ s. way_in (number_for before) (step_gain step.input step.parity) s One) }
+    ensures { result ≡ border_of
+        (λ s. way_in (number_for before) (step_gain step.input step.parity) s One) }
 {
     let gain = sum(input_by_one(step.input), parity_of_one(step.parity));
     sum(before_by_one(before), gain)
