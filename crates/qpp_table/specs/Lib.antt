@@ -1,2 +1,5 @@
+pub mod Groups
+pub mod LawfulLaws
 pub mod Qpp
 pub mod QppLaws
+pub mod Walk

@@ -4,7 +4,11 @@ ghost use Rattle.std.specs.List.{range_with_len};
 ghost use Rattle.sender_model.specs.Interleaver.{sizes, row_of, place};
 ghost use Rattle.qpp_table.specs.Qpp.{row_in, size_in, value_at};
 
-use crate::interleaver::{Interleaver, Qpp};
+use crate::groups::{
+    fill_40_to_224, fill_232_to_416, fill_424_to_704, fill_720_to_1152, fill_1184_to_1920,
+    fill_1952_to_3328, fill_3392_to_4864, fill_4928_to_6144,
+};
+use crate::interleaver::Qpp;
 use sender_model::{ROWS, Row};
 
 /// The rows of the table.
@@ -36,13 +40,20 @@ pub fn qpp(k: usize) -> Option<Qpp>
 
 /// Leaves in `out` the place from which each place of a block takes its bit. `k` is one of the 188
 /// sizes, and `out` has length `k`.
+#[tactic(auto, unfolding(crate::specs::Groups::addresses_of))]
 pub fn addresses(k: usize, out: &mut [u16])
     requires size { Contains sizes k }
     requires room { length out.old ≡ k }
     ensures { out.new ≡ map (place k) (range_with_len 0 k) }
 {
-    let q = qpp(k).unwrap();
-    for (i, address) in out.iter_mut().enumerate() {
-        *address = q.at(i) as u16;
+    match k {
+        0..=224 => fill_40_to_224(k, out),
+        225..=416 => fill_232_to_416(k, out),
+        417..=704 => fill_424_to_704(k, out),
+        705..=1152 => fill_720_to_1152(k, out),
+        1153..=1920 => fill_1184_to_1920(k, out),
+        1921..=3328 => fill_1952_to_3328(k, out),
+        3329..=4864 => fill_3392_to_4864(k, out),
+        _ => fill_4928_to_6144(k, out),
     }
 }

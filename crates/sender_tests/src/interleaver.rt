@@ -3,7 +3,7 @@ ghost use Rattle.std.specs.Prelude.{◌≡◌, ◌<◌};
 ghost use Rattle.qpp_table.specs.Qpp.{size_in};
 
 use qpp_table::interleaver::Qpp;
-use qpp_table::{Interleaver, addresses, bank_row, qpp, win, windows_stay_apart};
+use qpp_table::{FixedQpp, Interleaver, addresses, bank_row, qpp, win, windows_stay_apart};
 use std::alloc::{AllocError, Global};
 use std::test::Fail;
 
@@ -67,6 +67,38 @@ fn place_one_of_four_windows_of_forty(rt: HostRuntime) -> Result<(), Fail> {
     assert_eq!(rt; stands, [(1, 3), (0, 3), (3, 3), (2, 3)]);
     windows_stay_apart::<Qpp>();
     Ok(())
+}
+
+/// The value of place `i`, where the numbers are lawful and it is a place.
+fn value<const K: usize, const F1: usize, const F2: usize>(i: usize) -> Option<usize> {
+    let q = FixedQpp::<K, F1, F2>::new()?;
+    if i < q.size() { Some(q.at(i)) } else { None }
+}
+
+#[test]
+fn constants_of_any_size_are_taken_where_they_are_lawful(rt: HostRuntime) {
+    for (found, want) in [
+        (value::<40, 3, 10>(11), Some(3)),
+        (value::<40, 0, 10>(11), None),
+        (value::<40, 5, 10>(11), None),
+        (value::<40, 3, 4>(11), None),
+        (value::<0, 1, 0>(0), None),
+        (value::<1, 0, 0>(0), Some(0)),
+        (
+            value::<9223372036854775808, 18446744073709551615, 1024>(4611686018427400249),
+            Some(4611686174483977159),
+        ),
+        (
+            value::<18446744073709551557, 9223372036854775813, 0>(18446744073709551556),
+            Some(9223372036854775744),
+        ),
+        (
+            value::<18446744073709551557, 9223372036854775813, 1>(0),
+            None,
+        ),
+    ] {
+        assert_eq!(rt; found, want);
+    }
 }
 
 #[test]

@@ -1,4 +1,3 @@
 mod CellSteps
 mod TailBits
 mod StreamsMade
-mod WalkSteps

@@ -7,9 +7,10 @@ ghost use Rattle.sender_model.specs.Tail.{reached};
 ghost use Rattle.turbo_encode.specs.Order.{in_order};
 
 use crate::cells::cell_at;
-use crate::order::{Order, Walk};
+use crate::order::Order;
 use crate::tails::TAIL;
 use lte_bits::{Bit, Cell, NoMemory};
+use qpp_table::Walk;
 use rsc_trellis::{State, next, parity};
 use std::alloc::Global;
 
@@ -31,7 +32,7 @@ pub fn code(alloc: Global, bits: &[Bit], order: Order, fill: usize) -> Result<Co
 {
     let mut cells = Vec::with_capacity(alloc, bits.len() + TAIL)?;
     let mut state = State::ZERO;
-    let mut walk = Walk::new(bits.len(), order);
+    let mut walk = Walk::new(bits.len(), order.f1, order.f2);
     for i in 0..bits.len() {
         let u = bits[walk.place];
         cells.push(cell_at(fill, i, parity(state, u)))?;

@@ -1,16 +1,14 @@
 -- The backward recursion gives the greatest numbers over all bits from a state.
-use Rattle.std.proofs.Common.{◌≡◌, ℕ, suc, ◌+◌, List, [], ◌∷◌, length, ℤ, pos, ◌+ℤ◌, ◌≤ℤ◌, refl, sym, ap, ◌∙◌, subst, inl, inr, arith}
+use Rattle.std.proofs.Common.{◌≡◌, ℕ, suc, List, [], ◌∷◌, length, ℤ, pos, ◌+ℤ◌, ◌≤ℤ◌, refl, ap, inl, inr, arith}
 use Rattle.std.proofs.lemmas.Int.{ints}
-use Rattle.lte_bits.specs.Softs.{IsWithin}
 use Rattle.lte_bits.specs.declared.bit.Bit.{Bit}
 use Rattle.lte_bits.specs.declared.bit.Bit.TheVariants.{Zero, One}
 use Rattle.sender_model.specs.ConstituentCoder.{State, next}
 use Rattle.sender_model.specs.Tail.{reached}
 use Rattle.receiver_model.specs.Paths.{Gain, earned}
 use Rattle.receiver_model.proofs.Maxima.{max-left, max-right, max_is}
-use Rattle.window_decode.specs.Recursions.{IsBounded, way_out, backward}
+use Rattle.window_decode.specs.Recursions.{way_out, backward}
 use Rattle.window_decode.specs.Metrics.{IsBackward}
-use Rattle.window_decode.proofs.Within.{within-sum, within-same}
 
 backward-bound : (m : State → ℤ) (g : State → Bit → ℤ) (s : State) (u : Bit) → way_out m g s u ≤ℤ backward m g s
 backward-bound m g s Zero = max-left _ _
@@ -18,14 +16,6 @@ backward-bound m g s One = max-right _ _
 
 pub backward-attained : (m : State → ℤ) (g : State → Bit → ℤ) (s : State) → (u : Bit) × (backward m g s ≡ way_out m g s u)
 backward-attained m g s = elim (max_is (way_out m g s Zero) (way_out m g s One)) [ inl e ↦ (Zero, e) | inr e ↦ (One, e) ]
-
-pub backward-bounded : (n : ℕ) (m : State → ℤ) (g : State → Bit → ℤ) → IsBounded n m → ((s : State) (u : Bit) → IsWithin 765 (g s u)) → IsBounded (n + 765) (backward m g)
-backward-bounded n m g h k s =
-    let w = backward-attained m g s in
-    within-same (n + 765) _ _ (w.1 ∙ turned (g s w.0) (m (next s w.0))) (within-sum n 765 _ _ (h (next s w.0)) (k s w.0))
-  where
-    turned : (x y : ℤ) → x +ℤ y ≡ y +ℤ x
-    turned x y = omega (arith, ints)
 
 pub backward_none : (last : State → ℤ) (g : Gain) (j : ℕ) → IsBackward last g j 0 last
 backward_none last g j s = record {
@@ -55,8 +45,3 @@ backward_more last g j n m h s = record {
     some : (us : List Bit) → length us ≡ suc n → (earned g j s us +ℤ last (reached s us)) ≤ℤ backward m (g j) s
     some [] k = absurd (omega (arith, k))
     some (u ∷ us) k = sum_le _ _ _ _ _ ((h (next s u)).bound us (omega (arith, k))) (backward-bound m (g j) s u)
-
--- the same numbers are as good
-pub backward-same : (last : State → ℤ) (g : Gain) (j n : ℕ) (m k : State → ℤ) → ((s : State) → k s ≡ m s) → IsBackward last g j n m → IsBackward last g j n k
-backward-same last g j n m k e h s =
-    record { attained = ((h s).attained.0, (h s).attained.1, (h s).attained.2 ∙ sym (e s)); bound = λ us ok. subst (λ (z : ℤ). (earned g j s us +ℤ last (reached s us)) ≤ℤ z) (sym (e s)) ((h s).bound us ok) }

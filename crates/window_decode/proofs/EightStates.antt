@@ -1,6 +1,5 @@
 -- Numbers of the eight states as lists.
-use Rattle.std.proofs.Common.{◌≡◌, ℕ, zero, suc, ◌<◌, ◌≤◌, List, [], ◌∷◌, ◌++◌, length, map, fold, slice_index_or, ℤ, pos, ◌-ℤ◌, ◌≤ℤ◌, refl, ap, ◌∙◌, arith}
-use Rattle.std.specs.Int.{int_max}
+use Rattle.std.proofs.Common.{◌≡◌, ℕ, ◌≤◌, List, [], ◌∷◌, length, map, ℤ, pos, ◌-ℤ◌, ◌≤ℤ◌, refl, ap, ◌∙◌, arith}
 use Rattle.std.proofs.lemmas.Int.{ints}
 use Rattle.lte_bits.specs.Softs.{IsWithin}
 use Rattle.lte_bits.specs.declared.bit.Bit.{Bit}
@@ -13,6 +12,19 @@ use Rattle.receiver_model.proofs.Maxima.{greatest-bound, greatest-inside}
 use Rattle.receiver_model.proofs.GreatestPaths.{states-all}
 use Rattle.window_decode.specs.Recursions.{IsBounded, AreNear, IsMetrics}
 use Rattle.window_decode.proofs.Within.{within-same, within-more}
+
+-- a list of eight by its elements
+pub by_eight : (P : List ℤ → Type 0) → ((a b c d e f g h : ℤ) → P (a ∷ b ∷ c ∷ d ∷ e ∷ f ∷ g ∷ h ∷ [])) → (xs : List ℤ) → length xs ≡ 8 → P xs
+by_eight P each [] l = absurd (omega (arith, l))
+by_eight P each (a ∷ []) l = absurd (omega (arith, l))
+by_eight P each (a ∷ b ∷ []) l = absurd (omega (arith, l))
+by_eight P each (a ∷ b ∷ c ∷ []) l = absurd (omega (arith, l))
+by_eight P each (a ∷ b ∷ c ∷ d ∷ []) l = absurd (omega (arith, l))
+by_eight P each (a ∷ b ∷ c ∷ d ∷ e ∷ []) l = absurd (omega (arith, l))
+by_eight P each (a ∷ b ∷ c ∷ d ∷ e ∷ f ∷ []) l = absurd (omega (arith, l))
+by_eight P each (a ∷ b ∷ c ∷ d ∷ e ∷ f ∷ g ∷ []) l = absurd (omega (arith, l))
+by_eight P each (a ∷ b ∷ c ∷ d ∷ e ∷ f ∷ g ∷ h ∷ []) l = each a b c d e f g h
+by_eight P each (a ∷ b ∷ c ∷ d ∷ e ∷ f ∷ g ∷ h ∷ i ∷ xs) l = absurd (omega (arith, l))
 
 -- the list of a function's numbers has them
 pub number-border_of : (f : State → ℤ) (s : State) → number_for (border_of f) s ≡ f s
@@ -32,6 +44,9 @@ map-same : {X Y : Type 0} (f g : X → Y) (xs : List X) → ((x : X) → f x ≡
 map-same f g [] e = refl
 map-same f g (x ∷ xs) e = ap (λ y. y ∷ map f xs) (e x) ∙ ap (λ ys. g x ∷ ys) (map-same f g xs e)
 
+pub border-same : (f g : State → ℤ) → ((s : State) → f s ≡ g s) → border_of f ≡ border_of g
+border-same f g e = map-same f g states e
+
 pub relative-same : (f g : State → ℤ) → ((s : State) → f s ≡ g s) → relative f ≡ relative g
 relative-same f g e = map-same (λ s. f s -ℤ f zero_state) (λ s. g s -ℤ g zero_state) states (λ s. ap (λ z. z -ℤ f zero_state) (e s) ∙ ap (λ z. g s -ℤ z) (e zero_state))
 
@@ -49,13 +64,6 @@ border_from f near = record {
     differ : (a b x y z : ℤ) → a ≡ x -ℤ z → b ≡ y -ℤ z → (x -ℤ y) ≤ℤ pos 4096 → (a -ℤ b) ≤ℤ pos 4096
     differ a b x y z p q h = omega (arith, ints)
 
--- and a border's numbers are small
-pub border-bounded : (b : List ℤ) → IsBorder b → IsBounded 4096 (number_for b)
-border-bounded b h s = small (number_for b s) (number_for b zero_state) h.zero (h.spread s zero_state) (h.spread zero_state s)
-  where
-    small : (x z : ℤ) → z ≡ pos 0 → (x -ℤ z) ≤ℤ pos 4096 → (z -ℤ x) ≤ℤ pos 4096 → IsWithin 4096 x
-    small x z e p q = (omega (arith, ints), omega (arith, ints))
-
 -- ---- the greatest of eight
 
 pub states-bound : (f : State → ℤ) (s : State) → f s ≤ℤ greatest (border_of f)
@@ -65,27 +73,6 @@ pub states-attained : (f : State → ℤ) → (s : State) × (greatest (border_o
 states-attained f =
     let w = member-unmap f (greatest (map f states)) states (greatest-inside (map f states) (f zero_state) (member-map f zero_state states (states-all zero_state))) in
     (w.0, w.2)
-
--- what is true of each state's number is true at each index
-pub each-index : (xs : List ℤ) (P : ℤ → Type 0) → ((s : State) → P (number_for xs s)) → (i : ℕ) → i < 8 → P (slice_index_or xs i (pos 0))
-each-index xs P h zero lt = h (state Zero Zero Zero)
-each-index xs P h (suc zero) lt = h (state Zero Zero One)
-each-index xs P h (suc (suc zero)) lt = h (state Zero One Zero)
-each-index xs P h (suc (suc (suc zero))) lt = h (state Zero One One)
-each-index xs P h (suc (suc (suc (suc zero)))) lt = h (state One Zero Zero)
-each-index xs P h (suc (suc (suc (suc (suc zero))))) lt = h (state One Zero One)
-each-index xs P h (suc (suc (suc (suc (suc (suc zero)))))) lt = h (state One One Zero)
-each-index xs P h (suc (suc (suc (suc (suc (suc (suc zero))))))) lt = h (state One One One)
-each-index xs P h (suc (suc (suc (suc (suc (suc (suc (suc i)))))))) lt = absurd (omega (arith, lt))
-
--- one number more
-pub greatest-push : (xs : List ℤ) (y : ℤ) → 1 ≤ length xs → greatest (xs ++ y ∷ []) ≡ int_max (greatest xs) y
-greatest-push [] y h = absurd (omega (arith, h))
-greatest-push (x ∷ xs) y h = pushed x xs
-  where
-    pushed : (a : ℤ) (xs : List ℤ) → fold int_max a (xs ++ y ∷ []) ≡ int_max (fold int_max a xs) y
-    pushed a [] = refl
-    pushed a (x ∷ xs) = pushed (int_max a x) xs
 
 -- a list that has a function's numbers
 pub same_eight : (f : State → ℤ) (r0 r1 r2 r3 r4 r5 r6 r7 : ℤ)
@@ -109,10 +96,6 @@ near_from xs f e h s t = near _ _ (within-same 762 _ (f s) (is s) (h s)) (within
 
     near : (x y : ℤ) → IsWithin 762 x → IsWithin 762 y → (x -ℤ y) ≤ℤ pos 4096
     near x y p q = omega (arith, ints)
-
--- numbers that were made of a function are as small as its values
-pub bounded_from : (xs : List ℤ) (f : State → ℤ) (m n : ℕ) → xs ≡ border_of f → m ≤ n → IsBounded m f → IsBounded n (number_for xs)
-bounded_from xs f m n e le h s = within-more m n _ le (within-same m _ (f s) (ap (λ ys. number_for ys s) e ∙ number-border_of f s) (h s))
 
 pub greatest-within : (xs : List ℤ) (f : State → ℤ) (m : ℕ) → xs ≡ border_of f → IsBounded m f → IsWithin m (greatest xs)
 greatest-within xs f m e h =

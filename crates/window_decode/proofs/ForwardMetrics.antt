@@ -2,7 +2,6 @@
 use Rattle.std.proofs.Common.{◌≡◌, ℕ, suc, ◌+◌, List, [], ◌∷◌, ◌++◌, length, ℤ, pos, ◌+ℤ◌, ◌≤ℤ◌, refl, sym, ap, ◌∙◌, subst, inl, inr, arith, length-append}
 use Rattle.std.specs.Int.{int_max}
 use Rattle.std.proofs.lemmas.Int.{ints}
-use Rattle.lte_bits.specs.Softs.{IsWithin}
 use Rattle.lte_bits.specs.declared.bit.Bit.{Bit}
 use Rattle.lte_bits.specs.declared.bit.Bit.TheVariants.{Zero, One}
 use Rattle.sender_model.specs.ConstituentCoder.{State, next}
@@ -11,9 +10,8 @@ use Rattle.rsc_trellis.specs.Steps.{state_before, input_before}
 use Rattle.rsc_trellis.proofs.TrellisSteps.{next-before, input-next}
 use Rattle.receiver_model.specs.Paths.{Path, path, end_state, Gain, earned}
 use Rattle.receiver_model.proofs.Maxima.{max-left, max-right, max_is}
-use Rattle.window_decode.specs.Recursions.{IsBounded, way_in, forward}
+use Rattle.window_decode.specs.Recursions.{way_in, forward}
 use Rattle.window_decode.specs.Metrics.{IsForward}
-use Rattle.window_decode.proofs.Within.{within-sum, within-same}
 use Rattle.window_decode.proofs.PathSteps.{reached-append, earned-append, Cut, cut}
 
 -- a step into a state earns at most the greater way
@@ -28,11 +26,6 @@ forward-bound m g t u =
 -- and the greater way is a step
 pub forward-attained : (m : State → ℤ) (g : State → Bit → ℤ) (s : State) → (r : Bit) × (forward m g s ≡ way_in m g s r)
 forward-attained m g s = elim (max_is (way_in m g s Zero) (way_in m g s One)) [ inl e ↦ (Zero, e) | inr e ↦ (One, e) ]
-
-pub forward-bounded : (n : ℕ) (m : State → ℤ) (g : State → Bit → ℤ) → IsBounded n m → ((s : State) (u : Bit) → IsWithin 765 (g s u)) → IsBounded (n + 765) (forward m g)
-forward-bounded n m g h k s =
-    let w = forward-attained m g s in
-    within-same (n + 765) _ _ w.1 (within-sum n 765 _ _ (h (state_before s w.0)) (k (state_before s w.0) (input_before s w.0)))
 
 pub forward_none : (first : State → ℤ) (g : Gain) → IsForward first g 0 first
 forward_none first g s = record {
@@ -94,8 +87,3 @@ forward_more first g j m h s = record {
       subst (λ (z : State). (first p.start +ℤ earned g 0 p.start p.bits) ≤ℤ forward m (g j) z) e
       (subst (λ (z : ℤ). z ≤ℤ forward m (g j) (next (reached p.start w.front) v.0)) (sym f) b);
 }
-
--- the same numbers are as good
-pub forward-same : (first : State → ℤ) (g : Gain) (j : ℕ) (m k : State → ℤ) → ((s : State) → k s ≡ m s) → IsForward first g j m → IsForward first g j k
-forward-same first g j m k e h s =
-    record { attained = ((h s).attained.0, (h s).attained.1, (h s).attained.2 ∙ sym (e s)); bound = λ p ok. subst (λ (z : ℤ). (first p.start +ℤ earned g 0 p.start p.bits) ≤ℤ z) (sym (e s)) ((h s).bound p ok) }

@@ -1,5 +1,8 @@
 pub mod Within
 pub mod EightStates
+mod LaneSteps
+mod LaneNumbers
+mod LaneKernel
 pub mod PathSteps
 pub mod ForwardMetrics
 pub mod BackwardMetrics

@@ -1,21 +1,25 @@
 -- One step of the sweeps over a window's positions.
-use Rattle.std.proofs.Common.{◌≡◌, ℕ, zero, suc, ◌+◌, ◌*◌, ◌≤◌, List, [], ◌∷◌, length, ℤ, ◌+ℤ◌, ◌-ℤ◌, refl, sym, ap, ◌∙◌, subst, arith}
+use Rattle.std.proofs.Common.{◌≡◌, ℕ, zero, suc, ◌+◌, ◌<◌, List, [], ◌∷◌, length, ℤ, pos, ◌+ℤ◌, ◌-ℤ◌, ◌≤ℤ◌, refl, sym, ap, ◌∙◌, subst, arith}
+use Rattle.std.specs.Int.{int_max}
+use Rattle.std.proofs.lemmas.Int.{ints, clamps}
 use Rattle.lte_bits.specs.Softs.{IsWithin}
 use Rattle.lte_bits.specs.declared.bit.Bit.{Bit}
 use Rattle.lte_bits.specs.declared.bit.Bit.TheVariants.{Zero, One}
-use Rattle.sender_model.specs.ConstituentCoder.{State, parity}
+use Rattle.sender_model.specs.ConstituentCoder.{State, zero_state, next, parity}
 use Rattle.rsc_trellis.specs.Steps.{state_before, input_before}
-use Rattle.receiver_model.specs.Borders.{Border, number_for, border_of, at}
-use Rattle.receiver_model.specs.Paths.{Window, Gain, gain, best}
+use Rattle.receiver_model.specs.Borders.{Border, IsBorder, number_for, border_of, relative, at, if_zero}
+use Rattle.receiver_model.specs.Paths.{Window, Gain, gain, greatest, best}
 use Rattle.receiver_model.specs.Windows.{Extrinsic, values, cell_at, window_between, cell_from, new_cell}
-use Rattle.window_decode.specs.Recursions.{IsBounded, IsMetrics, step_gain, forward, backward, through, cell_through}
+use Rattle.window_decode.specs.Lanes.{IsRelative}
+use Rattle.window_decode.specs.Recursions.{AreNear, step_gain, forward, backward, joined, through, cell_through}
 use Rattle.window_decode.specs.Metrics.{IsForwardRow, IsBackwardRow, IsForward, IsBackward}
-use Rattle.window_decode.proofs.Within.{within-more, within-same, within-sum, within-if_zero}
-use Rattle.window_decode.proofs.EightStates.{number-border_of}
-use Rattle.window_decode.proofs.ForwardMetrics.{forward_none, forward_more, forward-same, forward-bounded}
-use Rattle.window_decode.proofs.BackwardMetrics.{backward_none, backward_more, backward-same, backward-bounded}
+use Rattle.window_decode.proofs.EightStates.{number-border_of, same_eight, border-same, by_eight, states-bound, states-attained}
+use Rattle.window_decode.proofs.LaneNumbers.{passed}
+use Rattle.window_decode.proofs.LaneKernel.{passed-relative}
+use Rattle.window_decode.proofs.ForwardMetrics.{forward_none, forward_more}
+use Rattle.window_decode.proofs.BackwardMetrics.{backward_none, backward_more}
 use Rattle.window_decode.proofs.JoinedPaths.{joined-best}
-use Rattle.window_decode.proofs.Spread.{IsNarrow, narrow-step}
+use Rattle.window_decode.proofs.Spread.{IsNarrow, narrow-step, forward-spread, backward-spread}
 
 pub at-values : (cells : List Extrinsic) (j : ℕ) → at (values cells) j ≡ (cell_at cells j).value
 at-values [] j = refl
@@ -38,84 +42,130 @@ earns start end sys par cells j x p e f h k = record {
   parity = k;
 }
 
-gain-within : (g : Gain) (j : ℕ) (x p : ℤ) → Earns g j x p → (s : State) (u : Bit) → IsWithin 765 (g j s u)
-gain-within g j x p h s u = within-same 765 _ _ (h.is s u) (within-sum 638 127 _ _ (within-if_zero u 638 x h.input) (within-if_zero (parity s u) 127 p h.parity))
-
 pub narrow : (g : Gain) (j : ℕ) (x p : ℤ) → Earns g j x p → IsNarrow g j
 narrow g j x p h = narrow-step g j x p h.is h.input h.parity
 
+-- ---- rows
+
+-- a border is relative already
+border-relative : (b : Border) → IsBorder b → b ≡ relative (number_for b)
+border-relative b h =
+    by_eight (λ b. number_for b zero_state ≡ pos 0 → b ≡ relative (number_for b))
+    (λ a b c d e f g i zero. same_eight (λ s. number_for (a ∷ b ∷ c ∷ d ∷ e ∷ f ∷ g ∷ i ∷ []) s -ℤ a) a b c d e f g i
+    (less a a zero) (less b a zero) (less c a zero) (less d a zero) (less e a zero) (less f a zero) (less g a zero) (less i a zero))
+    b h.eight h.zero
+  where
+    less : (x a : ℤ) → a ≡ pos 0 → x ≡ x -ℤ a
+    less x a e = omega (arith, ints)
+
+number-relative : (row : List ℤ) (m : State → ℤ) → row ≡ relative m → (s : State) → number_for row s ≡ m s -ℤ m zero_state
+number-relative row m e s = ap (λ xs. number_for xs s) e ∙ number-border_of (λ t. m t -ℤ m zero_state) s
+
+-- numbers that are less by the same are relative to the same
+relative-less : (f m : State → ℤ) (c : ℤ) → ((s : State) → f s ≡ m s -ℤ c) → relative f ≡ relative m
+relative-less f m c e = border-same (λ s. f s -ℤ f zero_state) (λ s. m s -ℤ m zero_state) (λ s. less (f s) (f zero_state) (m s) (m zero_state) (e s) (e zero_state))
+  where
+    less : (a b x y : ℤ) → a ≡ x -ℤ c → b ≡ y -ℤ c → a -ℤ b ≡ x -ℤ y
+    less a b x y p q = omega (arith, ints)
+
+-- rows stay near, so that they fit 16 bits
+row-relative : (row : List ℤ) (m : State → ℤ) → row ≡ relative m → AreNear 6391 m → IsRelative row
+row-relative row m e near = record {
+  eight = ap length e;
+  zero = number-relative row m e zero_state ∙ nothing (m zero_state);
+  near = λ s t. between _ _ (m s) (m t) (m zero_state) (number-relative row m e s) (number-relative row m e t) (near s t);
+}
+  where
+    nothing : (x : ℤ) → x -ℤ x ≡ pos 0
+    nothing x = omega (arith, ints)
+
+    between : (a b x y z : ℤ) → a ≡ x -ℤ z → b ≡ y -ℤ z → (x -ℤ y) ≤ℤ pos 6391 → (a -ℤ b) ≤ℤ pos 6391
+    between a b x y z p q h = omega (arith, ints)
+
 -- ---- forward
 
-pub forward_first : (start : Border) (g : Gain) (m : List ℤ) → m ≡ border_of (number_for start) → IsBounded 4096 (number_for start) → IsForwardRow start g 0 m
-forward_first start g m e h = record {
-  eight = ap length e;
-  greatest = forward-same (number_for start) g 0 (number_for start) (number_for m) is (forward_none (number_for start) g);
-  bounded = λ s. within-same (4096 + 765 * 0) _ _ (is s) (within-more 4096 (4096 + 765 * 0) _ (omega arith) (h s));
-}
+pub forward_first : (start : Border) (g : Gain) (m : List ℤ) → m ≡ start → IsBorder start → IsForwardRow start g 0 m
+forward_first start g m e h = record { metrics = number_for start; greatest = forward_none (number_for start) g; is = e ∙ border-relative start h }
+
+step-less : (f m : State → ℤ) (g h : State → Bit → ℤ) (c : ℤ) (s : State) → ((t : State) → f t ≡ m t -ℤ c) → ((t : State) (u : Bit) → h t u ≡ g t u) → forward f g s ≡ forward m h s -ℤ c
+step-less f m g h c s e k =
+    less _ _ _ _ _ _ _ _ (e (state_before s Zero)) (e (state_before s One)) (k (state_before s Zero) (input_before s Zero)) (k (state_before s One) (input_before s One))
   where
-    is : (s : State) → number_for m s ≡ number_for start s
-    is s = ap (λ xs. number_for xs s) e ∙ number-border_of (number_for start) s
+    less : (a b x y p q u v : ℤ) → a ≡ x -ℤ c → b ≡ y -ℤ c → u ≡ p → v ≡ q → int_max (a +ℤ p) (b +ℤ q) ≡ int_max (x +ℤ u) (y +ℤ v) -ℤ c
+    less a b x y p q u v e f h k = omega (arith, ints, clamps)
 
-step-same : (m : State → ℤ) (g h : State → Bit → ℤ) (s : State) → ((t : State) (u : Bit) → g t u ≡ h t u) → forward m g s ≡ forward m h s
-step-same m g h s e = rw (e (state_before s Zero) (input_before s Zero), e (state_before s One) (input_before s One)) refl
+back-less : (f m : State → ℤ) (g h : State → Bit → ℤ) (c : ℤ) (s : State) → ((t : State) → f t ≡ m t -ℤ c) → ((t : State) (u : Bit) → h t u ≡ g t u) → backward f g s ≡ backward m h s -ℤ c
+back-less f m g h c s e k =
+    less _ _ _ _ _ _ _ _ (e (next s Zero)) (e (next s One)) (k s Zero) (k s One)
+  where
+    less : (a b x y p q u v : ℤ) → a ≡ x -ℤ c → b ≡ y -ℤ c → u ≡ p → v ≡ q → int_max (p +ℤ a) (q +ℤ b) ≡ int_max (u +ℤ x) (v +ℤ y) -ℤ c
+    less a b x y p q u v e f h k = omega (arith, ints, clamps)
 
-back-same : (m : State → ℤ) (g h : State → Bit → ℤ) (s : State) → ((t : State) (u : Bit) → g t u ≡ h t u) → backward m g s ≡ backward m h s
-back-same m g h s e = rw (e s Zero, e s One) refl
-
-pub forward-row : (start : Border) (g : Gain) (j : ℕ) (m k : List ℤ) (x p : ℤ) → IsForwardRow start g j m → Earns g j x p → k ≡ border_of (forward (number_for m) (step_gain x p)) → IsForwardRow start g (j + 1) k
+pub forward-row : (start : Border) (g : Gain) (j : ℕ) (m k : List ℤ) (x p : ℤ) → IsForwardRow start g j m → Earns g j x p → k ≡ relative (forward (number_for m) (step_gain x p)) → IsForwardRow start g (j + 1) k
 forward-row start g j m k x p h a e = record {
-  eight = ap length e;
-  greatest =
-      subst (λ n. IsForward (number_for start) g n (number_for k)) (let n : suc j ≡ j + 1 = omega arith in n)
-      (forward-same (number_for start) g (suc j) (forward (number_for m) (g j)) (number_for k) is (forward_more (number_for start) g j (number_for m) h.greatest));
-  bounded = λ s.
-      within-more (4096 + 765 * j + 765) (4096 + 765 * (j + 1)) _ (omega arith)
-      (within-same (4096 + 765 * j + 765) _ _ (is s) (forward-bounded (4096 + 765 * j) (number_for m) (g j) h.bounded (gain-within g j x p a) s));
+  metrics = forward h.metrics (g j);
+  greatest = subst (λ n. IsForward (number_for start) g n (forward h.metrics (g j))) (let n : suc j ≡ j + 1 = omega arith in n) (forward_more (number_for start) g j h.metrics h.greatest);
+  is =
+      e ∙ relative-less (forward (number_for m) (step_gain x p)) (forward h.metrics (g j)) (h.metrics zero_state)
+      (λ s. step-less (number_for m) h.metrics (step_gain x p) (g j) (h.metrics zero_state) s (number-relative m h.metrics h.is) a.is);
 }
-  where
-    is : (s : State) → number_for k s ≡ forward (number_for m) (g j) s
-    is s = ap (λ xs. number_for xs s) e ∙ (number-border_of (forward (number_for m) (step_gain x p)) s ∙ sym (step-same (number_for m) (g j) (step_gain x p) s a.is))
 
-pub forward-metrics : (start : Border) (g : Gain) (j : ℕ) (m : List ℤ) → j ≤ 6144 → IsForwardRow start g j m → IsMetrics m
-forward-metrics start g j m le h = record { eight = h.eight; bounded = λ s. within-more (4096 + 765 * j) 10000000 _ (omega (arith, le)) (h.bounded s) }
+pub forward-relative : (start : Border) (g : Gain) (j : ℕ) (m : List ℤ) → IsBorder start → ((i : ℕ) → i < j → IsNarrow g i) → IsForwardRow start g j m → IsRelative m
+forward-relative start g j m b narrow h = row-relative m h.metrics h.is (forward-spread (number_for start) g j h.metrics b.spread narrow h.greatest)
+
+pub forward_passed : (start : Border) (g : Gain) (j : ℕ) (m : List ℤ) → IsBorder start → ((i : ℕ) → i < j → IsNarrow g i) → IsForwardRow start g j m → IsForwardRow start g j (passed m)
+forward_passed start g j m b narrow h = subst (λ (row : List ℤ). IsForwardRow start g j row) (sym (passed-relative m (forward-relative start g j m b narrow h))) h
 
 -- ---- backward
 
-pub backward_first : (end : Border) (g : Gain) (n : ℕ) (m : List ℤ) → m ≡ border_of (number_for end) → IsBounded 4096 (number_for end) → IsBackwardRow end g n 0 m
-backward_first end g n m e h = record {
-  eight = ap length e;
-  greatest = backward-same (number_for end) g n 0 (number_for end) (number_for m) is (backward_none (number_for end) g n);
-  bounded = λ s. within-same (4096 + 765 * 0) _ _ (is s) (within-more 4096 (4096 + 765 * 0) _ (omega arith) (h s));
-}
-  where
-    is : (s : State) → number_for m s ≡ number_for end s
-    is s = ap (λ xs. number_for xs s) e ∙ number-border_of (number_for end) s
+pub backward_first : (end : Border) (g : Gain) (n : ℕ) (m : List ℤ) → m ≡ end → IsBorder end → IsBackwardRow end g n 0 m
+backward_first end g n m e h = record { metrics = number_for end; greatest = backward_none (number_for end) g n; is = e ∙ border-relative end h }
 
-pub backward-row : (end : Border) (g : Gain) (j n : ℕ) (m k : List ℤ) (x p : ℤ) → IsBackwardRow end g (suc j) n m → Earns g j x p → k ≡ border_of (backward (number_for m) (step_gain x p)) → IsBackwardRow end g j (n + 1) k
+pub backward-row : (end : Border) (g : Gain) (j n : ℕ) (m k : List ℤ) (x p : ℤ) → IsBackwardRow end g (suc j) n m → Earns g j x p → k ≡ relative (backward (number_for m) (step_gain x p)) → IsBackwardRow end g j (n + 1) k
 backward-row end g j n m k x p h a e = record {
-  eight = ap length e;
-  greatest =
-      subst (λ i. IsBackward (number_for end) g j i (number_for k)) (let i : suc n ≡ n + 1 = omega arith in i)
-      (backward-same (number_for end) g j (suc n) (backward (number_for m) (g j)) (number_for k) is (backward_more (number_for end) g j n (number_for m) h.greatest));
-  bounded = λ s.
-      within-more (4096 + 765 * n + 765) (4096 + 765 * (n + 1)) _ (omega arith)
-      (within-same (4096 + 765 * n + 765) _ _ (is s) (backward-bounded (4096 + 765 * n) (number_for m) (g j) h.bounded (gain-within g j x p a) s));
+  metrics = backward h.metrics (g j);
+  greatest = subst (λ i. IsBackward (number_for end) g j i (backward h.metrics (g j))) (let i : suc n ≡ n + 1 = omega arith in i) (backward_more (number_for end) g j n h.metrics h.greatest);
+  is =
+      e ∙ relative-less (backward (number_for m) (step_gain x p)) (backward h.metrics (g j)) (h.metrics zero_state)
+      (λ s. back-less (number_for m) h.metrics (step_gain x p) (g j) (h.metrics zero_state) s (number-relative m h.metrics h.is) a.is);
 }
-  where
-    is : (s : State) → number_for k s ≡ backward (number_for m) (g j) s
-    is s = ap (λ xs. number_for xs s) e ∙ (number-border_of (backward (number_for m) (step_gain x p)) s ∙ sym (back-same (number_for m) (g j) (step_gain x p) s a.is))
 
-pub backward-metrics : (end : Border) (g : Gain) (j n : ℕ) (m : List ℤ) → n ≤ 6144 → IsBackwardRow end g j n m → IsMetrics m
-backward-metrics end g j n m le h = record { eight = h.eight; bounded = λ s. within-more (4096 + 765 * n) 10000000 _ (omega (arith, le)) (h.bounded s) }
+pub backward-relative : (end : Border) (g : Gain) (j n : ℕ) (m : List ℤ) → IsBorder end → ((i : ℕ) → i < j + n → IsNarrow g i) → IsBackwardRow end g j n m → IsRelative m
+backward-relative end g j n m b narrow h = row-relative m h.metrics h.is (backward-spread (number_for end) g j n h.metrics b.spread narrow h.greatest)
+
+pub backward_passed : (end : Border) (g : Gain) (j n : ℕ) (m : List ℤ) → IsBorder end → ((i : ℕ) → i < j + n → IsNarrow g i) → IsBackwardRow end g j n m → IsBackwardRow end g j n (passed m)
+backward_passed end g j n m b narrow h = subst (λ (row : List ℤ). IsBackwardRow end g j n row) (sym (passed-relative m (backward-relative end g j n m b narrow h))) h
 
 -- ---- the new cell
+
+-- the greatest of numbers that are less by the same
+greatest-less : (f h : State → ℤ) (c : ℤ) → ((s : State) → f s ≡ h s -ℤ c) → greatest (border_of f) ≡ greatest (border_of h) -ℤ c
+greatest-less f h c e =
+    let x = states-attained f in let y = states-attained h in
+    less _ _ (f x.0) (h x.0) (f y.0) (h y.0) x.1 y.1 (e x.0) (e y.0) (states-bound h x.0) (states-bound f y.0)
+  where
+    less : (p q a b d k : ℤ) → p ≡ a → q ≡ k → a ≡ b -ℤ c → d ≡ k -ℤ c → b ≤ℤ q → d ≤ℤ p → p ≡ q -ℤ c
+    less p q a b d k e1 e2 e3 e4 l1 l2 = omega (arith, ints)
+
+through-less : (m k : State → ℤ) (before after : List ℤ) (p : ℤ) (b : Bit) → before ≡ relative m → after ≡ relative k
+    → through before after p b ≡ greatest (border_of (joined m k p b)) -ℤ (m zero_state +ℤ k zero_state)
+through-less m k before after p b e f =
+    greatest-less (joined (number_for before) (number_for after) p b) (joined m k p b) (m zero_state +ℤ k zero_state)
+    (λ s. less _ _ (m s) (k (next s b)) (m zero_state) (k zero_state) (if_zero (parity s b) p) (number-relative before m e s) (number-relative after k f (next s b)))
+  where
+    less : (x y a d u v q : ℤ) → x ≡ a -ℤ u → y ≡ d -ℤ v → x +ℤ q +ℤ y ≡ (a +ℤ q +ℤ d) -ℤ (u +ℤ v)
+    less x y a d u v q e f = omega (arith, ints)
 
 pub cell-joined : (start end : Border) (sys par : List ℤ) (cells : List Extrinsic) (j n : ℕ) (before after : List ℤ)
     → length (values cells) ≡ j + suc n → IsForwardRow start (gain (window_between start end sys par cells)) j before → IsBackwardRow end (gain (window_between start end sys par cells)) (suc j) n after
     → cell_through before after (at sys j) (at par j) (cell_at cells j).value ≡ new_cell (window_between start end sys par cells) j
 cell-joined start end sys par cells j n before after long h k =
     let w : Window = window_between start end sys par cells in
-    let e : (b : Bit) → through before after (at par j) b ≡ best w b j = λ b. joined-best w j n b (number_for before) (number_for after) long h.greatest k.greatest in
-    ap (λ z. cell_from (z -ℤ through before after (at par j) One) (at sys j) (cell_at cells j).value) (e Zero)
-    ∙ (ap (λ z. cell_from (best w Zero j -ℤ z) (at sys j) (cell_at cells j).value) (e One)
-    ∙ ap (λ z. cell_from (best w Zero j -ℤ best w One j) (at sys j) z) (sym (at-values cells j)))
+    let c : ℤ = h.metrics zero_state +ℤ k.metrics zero_state in
+    let e : (b : Bit) → through before after (at par j) b ≡ best w b j -ℤ c =
+    λ b. through-less h.metrics k.metrics before after (at par j) b h.is k.is ∙ ap (λ z. z -ℤ c) (joined-best w j n b h.metrics k.metrics long h.greatest k.greatest) in
+    ap (λ z. cell_from z (at sys j) (cell_at cells j).value) (cancel _ _ (best w Zero j) (best w One j) c (e Zero) (e One))
+    ∙ ap (λ z. cell_from (best w Zero j -ℤ best w One j) (at sys j) z) (sym (at-values cells j))
+  where
+    cancel : (a b x y c : ℤ) → a ≡ x -ℤ c → b ≡ y -ℤ c → a -ℤ b ≡ x -ℤ y
+    cancel a b x y c e f = omega (arith, ints)

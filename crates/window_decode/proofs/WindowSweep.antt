@@ -6,11 +6,13 @@ use Rattle.std.proofs.lemmas.List.{get_or-set_same, get_or-set_other, get_or_rea
 use Rattle.std.proofs.lemmas.List.FromFn.{fill_by_all}
 use Rattle.std.specs.List.{range_with_len}
 use Rattle.lte_bits.specs.Softs.{IsWithin}
-use Rattle.receiver_model.specs.Borders.{Border, number_for, relative, at}
+use Rattle.sender_model.specs.ConstituentCoder.{State}
+use Rattle.receiver_model.specs.Borders.{Border, IsBorder, number_for, relative, at}
 use Rattle.receiver_model.specs.Paths.{Window, Gain, gain, width}
 use Rattle.receiver_model.specs.Windows.{Extrinsic, cell_at, zero_cell, window_between, new_cell, new_cells, forward_left, backward_left}
 use Rattle.window_decode.specs.Recursions.{AreNear, cell_through}
 use Rattle.window_decode.specs.Metrics.{IsForwardRow, IsBackwardRow, IsForward, IsBackward, row_at}
+use Rattle.window_decode.proofs.EightStates.{border_from}
 use Rattle.window_decode.proofs.WindowSteps.{Earns, earns, cell-joined}
 use Rattle.window_decode.proofs.JoinedPaths.{forward-left, backward-left}
 use Rattle.window_decode.proofs.Spread.{IsNarrow, forward-near, backward-near}
@@ -100,35 +102,35 @@ backward_at end g i j n k row e f h = subst (λ m. IsBackwardRow end g j m row) 
 
 -- ---- the ends
 
-pub forward_row-near : (start : Border) (g : Gain) (n : ℕ) (row : List ℤ) → 8 ≤ n → ((i : ℕ) → i < n → IsNarrow g i) → IsForwardRow start g n row → AreNear 2295 (number_for row)
-forward_row-near start g n row le narrow h =
-    let e : n ≡ (n - 3) + 3 = omega (arith, le) in
-    forward-near (number_for start) g (n - 3) (number_for row) (λ i lt. narrow i (omega (arith, lt, le))) (subst (λ m. IsForward (number_for start) g m (number_for row)) e h.greatest)
-
-pub backward_row-near : (end : Border) (g : Gain) (n : ℕ) (row : List ℤ) → 8 ≤ n → ((i : ℕ) → i < n → IsNarrow g i) → IsBackwardRow end g 0 n row → AreNear 2295 (number_for row)
-backward_row-near end g n row le narrow h =
-    let e : n ≡ 3 + (n - 3) = omega (arith, le) in
-    backward-near (number_for end) g 0 (n - 3) (number_for row) (λ i lt. narrow i (omega (arith, lt, le))) (subst (λ m. IsBackward (number_for end) g 0 m (number_for row)) e h.greatest)
-
-pub near-more : (m n : ℕ) (f : Border) → m ≤ n → AreNear m (number_for f) → AreNear n (number_for f)
-near-more m n f le h s t = more _ (h s t)
+border_from_near : (row : List ℤ) (m : State → ℤ) → row ≡ relative m → AreNear 2295 m → IsBorder row
+border_from_near row m e near = subst (λ (b : Border). IsBorder b) (sym e) (border_from m (λ s t. more _ (near s t)))
   where
-    more : (x : ℤ) → x ≤ℤ pos m → x ≤ℤ pos n
+    more : (x : ℤ) → x ≤ℤ pos 2295 → x ≤ℤ pos 4096
     more x p = omega (arith, ints)
 
+pub forward_row-border : (start : Border) (g : Gain) (n : ℕ) (row : List ℤ) → 8 ≤ n → ((i : ℕ) → i < n → IsNarrow g i) → IsForwardRow start g n row → IsBorder row
+forward_row-border start g n row le narrow h =
+    let e : n ≡ (n - 3) + 3 = omega (arith, le) in
+    border_from_near row h.metrics h.is (forward-near (number_for start) g (n - 3) h.metrics (λ i lt. narrow i (omega (arith, lt, le))) (subst (λ m. IsForward (number_for start) g m h.metrics) e h.greatest))
+
+pub backward_row-border : (end : Border) (g : Gain) (n : ℕ) (row : List ℤ) → 8 ≤ n → ((i : ℕ) → i < n → IsNarrow g i) → IsBackwardRow end g 0 n row → IsBorder row
+backward_row-border end g n row le narrow h =
+    let e : n ≡ 3 + (n - 3) = omega (arith, le) in
+    border_from_near row h.metrics h.is (backward-near (number_for end) g 0 (n - 3) h.metrics (λ i lt. narrow i (omega (arith, lt, le))) (subst (λ m. IsBackward (number_for end) g 0 m h.metrics) e h.greatest))
+
 pub forward_row-left : (start end : Border) (sys par : List ℤ) (cells : List Extrinsic) (row : List ℤ) → IsForwardRow start (gain (window_between start end sys par cells)) (length cells) row
-    → relative (number_for row) ≡ forward_left (window_between start end sys par cells)
+    → row ≡ forward_left (window_between start end sys par cells)
 forward_row-left start end sys par cells row h =
     let w : Window = window_between start end sys par cells in
     let e : length cells ≡ width w = sym (length-map cells (λ (c : Extrinsic). c.value)) in
-    forward-left w (number_for row) (subst (λ n. IsForward (number_for start) (gain w) n (number_for row)) e h.greatest)
+    h.is ∙ forward-left w h.metrics (subst (λ n. IsForward (number_for start) (gain w) n h.metrics) e h.greatest)
 
 pub backward_row-left : (start end : Border) (sys par : List ℤ) (cells : List Extrinsic) (row : List ℤ) → IsBackwardRow end (gain (window_between start end sys par cells)) 0 (length cells) row
-    → relative (number_for row) ≡ backward_left (window_between start end sys par cells)
+    → row ≡ backward_left (window_between start end sys par cells)
 backward_row-left start end sys par cells row h =
     let w : Window = window_between start end sys par cells in
     let e : length cells ≡ width w = sym (length-map cells (λ (c : Extrinsic). c.value)) in
-    backward-left w (number_for row) (subst (λ n. IsBackward (number_for end) (gain w) 0 n (number_for row)) e h.greatest)
+    h.is ∙ backward-left w h.metrics (subst (λ n. IsBackward (number_for end) (gain w) 0 n h.metrics) e h.greatest)
 
 pub width-between : (start end : Border) (sys par : List ℤ) (cells : List Extrinsic) → width (window_between start end sys par cells) ≡ length cells
 width-between start end sys par cells = length-map cells (λ (c : Extrinsic). c.value)

@@ -1,3 +1,4 @@
+pub mod Lanes
 pub mod Recursions
 pub mod Metrics
 pub mod Ranges

@@ -1,11 +1,10 @@
 -- What the metrics of a recursion are: greatest numbers over paths.
-use Rattle.std.specs.Prelude.{◌≡◌, ℕ, ◌+◌, ◌*◌, ℤ, ◌+ℤ◌, List, [], length, slice_index_or}
+use Rattle.std.specs.Prelude.{◌≡◌, ℕ, ℤ, ◌+ℤ◌, List, [], length, slice_index_or}
 use Rattle.lte_bits.specs.declared.bit.Bit.{Bit}
 use Rattle.sender_model.specs.ConstituentCoder.{State}
 use Rattle.sender_model.specs.Tail.{reached}
-use Rattle.receiver_model.specs.Borders.{Border, number_for}
+use Rattle.receiver_model.specs.Borders.{Border, number_for, relative}
 use Rattle.receiver_model.specs.Paths.{Path, end_state, Gain, earned, IsGreatest}
-use Rattle.window_decode.specs.Recursions.{IsBounded}
 
 -- m has for each state the greatest number of a path of j bits that ends in it
 abbrev pub IsForward : (State → ℤ) → Gain → ℕ → (State → ℤ) → Type 0
@@ -19,17 +18,17 @@ IsBackward last g j n m =
     (s : State) → IsGreatest (λ (us : List Bit). length us ≡ n)
     (λ us. earned g j s us +ℤ last (reached s us)) (m s)
 
--- the forward metrics before position j, from a start border
+-- the forward metrics before position j, from a start border, relative to that of state 0
 pub record IsForwardRow (start : Border) (g : Gain) (j : ℕ) (row : List ℤ) : Type 0 where
-  pub eight : length row ≡ 8
-  pub greatest : IsForward (number_for start) g j (number_for row)
-  pub bounded : IsBounded (4096 + 765 * j) (number_for row)
+  pub metrics : State → ℤ
+  pub greatest : IsForward (number_for start) g j metrics
+  pub is : row ≡ relative metrics
 
--- the backward metrics before position j, with n positions to an end border
+-- the backward metrics before position j, with n positions to an end border, relative to that of state 0
 pub record IsBackwardRow (end : Border) (g : Gain) (j n : ℕ) (row : List ℤ) : Type 0 where
-  pub eight : length row ≡ 8
-  pub greatest : IsBackward (number_for end) g j n (number_for row)
-  pub bounded : IsBounded (4096 + 765 * n) (number_for row)
+  pub metrics : State → ℤ
+  pub greatest : IsBackward (number_for end) g j n metrics
+  pub is : row ≡ relative metrics
 
 -- the metrics of position j in a list of them
 abbrev pub row_at : List (List ℤ) → ℕ → List ℤ

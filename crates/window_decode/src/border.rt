@@ -7,10 +7,10 @@ ghost use Rattle.lte_bits.specs.Softs.{IsWithin};
 ghost use Rattle.window_decode.specs.Recursions.{IsMetrics, AreNear};
 
 use crate::per_state::{PerState, number_of, numbers};
-use crate::step::if_zero;
 use lte_bits::{Bit, Soft};
 use rsc_trellis::{State, tail_path};
 use std::marker::Model;
+use std::simd::prelude::*;
 
 /// A number for each state, by how much it is better than state 0. The number of state 0 is 0, and the
 /// greatest and the least differ by at most 4096.
@@ -65,8 +65,26 @@ impl Border {
         self.numbers[usize::from(s.number())]
     }
 
+    /// The border's numbers, in order of the states' numbers.
+    pub(crate) fn lanes(&self) -> i16x8
+        ensures value { result ≡ self.now }
+        ensures border { IsBorder self.now }
+    {
+        i16x8::from_array(self.numbers)
+    }
+
+    /// The border with these numbers.
+    pub(crate) fn from_lanes(numbers: i16x8) -> Border
+        requires { IsBorder numbers }
+        ensures { result ≡ numbers }
+    {
+        Border {
+            numbers: numbers.to_array(),
+        }
+    }
+
     /// Metrics that differ by at most 4096, relative to that of state 0.
-    pub(crate) fn relative(metrics: &[i64; 8]) -> Border
+    fn relative(metrics: &[i64; 8]) -> Border
         requires metrics { IsMetrics metrics.now }
         requires near { AreNear 4096 (number_for metrics.now) }
         ensures { result ≡ relative (number_for metrics.now) }
@@ -84,16 +102,6 @@ impl Border {
                 above_zero(metrics, State::from_bits(o, o, o)),
             ],
         }
-    }
-}
-
-impl PerState for Border {
-    ghost number = { number_for };
-
-    ghost bound = { 4096 };
-
-    fn at(&self, s: State) -> i64 {
-        i64::from(self.value(s))
     }
 }
 
@@ -121,6 +129,16 @@ impl Tail {
         ensures range { IsWithin 254 result }
     {
         earned(bits.0, self.x[k]) + earned(bits.1, self.z[k])
+    }
+}
+
+/// A value where the bit is 0, and else 0.
+fn if_zero(bit: Bit, value: i64) -> i64
+    ensures { result ≡ if_zero bit value }
+{
+    match bit {
+        Bit::Zero => value,
+        Bit::One => 0,
     }
 }
 

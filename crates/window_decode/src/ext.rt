@@ -1,5 +1,5 @@
 //! Extrinsic cells.
-ghost use Rattle.std.specs.Prelude.{◌≡◌};
+ghost use Rattle.std.specs.Prelude.{◌≡◌, ℤ, ◌+ℤ◌};
 ghost use Rattle.lte_bits.specs.Softs.{IsWithin};
 ghost use Rattle.receiver_model.specs.Windows.{cell_from};
 
@@ -34,16 +34,19 @@ impl Ext {
         one: false,
     };
 
-    /// The new cell of a position with an extrinsic value, a systematic value and an old cell.
-    pub(crate) fn from_extrinsic(x: i64, sys: i64, cell: i64) -> Ext
-        requires x { IsWithin 100000000 x }
-        requires sys { IsWithin 127 sys }
-        requires cell { IsWithin 511 cell }
-        ensures { result ≡ cell_from x sys cell }
+    /// The new cell of a position with an extrinsic value, whose systematic value and old cell have
+    /// the sum `own`.
+    #[inline]
+    pub(crate) fn from_extrinsic(x: i32, own: i16) -> Ext
+        requires x { IsWithin 25818 x }
+        requires own { IsWithin 638 own }
+        ensures { (s c : ℤ) → own ≡ s +ℤ c → result ≡ cell_from x s c }
     {
+        // 682 * 3 / 4 is 511.
+        let scaled = x.clamp(-682, 682) * 3 / 4;
         Ext {
-            value: (3 * x / 4).clamp(-511, 511) as i16,
-            one: x + sys + cell < 0,
+            value: scaled as i16,
+            one: x + i32::from(own) < 0,
         }
     }
 }

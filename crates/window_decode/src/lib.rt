@@ -3,6 +3,7 @@
 
 pub mod border;
 pub mod ext;
+mod lanes;
 pub mod metrics;
 mod per_state;
 mod recursion;

@@ -3,7 +3,6 @@ ghost use Rattle.std.specs.Prelude.{◌≡◌, ℕ, ℤ, length};
 ghost use Rattle.lte_bits.specs.Softs.{IsWithin};
 ghost use Rattle.sender_model.specs.ConstituentCoder.{State as Register};
 ghost use Rattle.receiver_model.specs.Borders.{border_of, number_for};
-ghost use Rattle.receiver_model.specs.Paths.{greatest};
 ghost use Rattle.window_decode.specs.Recursions.{IsBounded};
 
 use lte_bits::Bit;
@@ -46,17 +45,4 @@ pub fn number_of(numbers: &[i64; 8], s: State) -> i64
     ensures { result ≡ number_for numbers.now s }
 {
     numbers[usize::from(s.number())]
-}
-
-/// The greatest of eight numbers.
-pub fn greatest(numbers: &[i64; 8]) -> i64
-    requires eight { length numbers.now ≡ 8 }
-    requires range { IsBounded 30000000 (number_for numbers.now) }
-    ensures { result ≡ greatest numbers.now }
-{
-    let mut best = numbers[0];
-    for i in 1..8 {
-        best = best.max(numbers[i]);
-    }
-    best
 }

@@ -1,94 +1,96 @@
 //! The recursions over a window's positions, and how they join at one.
-ghost use Rattle.std.specs.Prelude.{◌≡◌, length};
+ghost use Rattle.std.specs.Prelude.{◌≡◌, ◌+ℤ◌, ◌-ℤ◌};
 ghost use Rattle.lte_bits.specs.Softs.{IsWithin};
+ghost use Rattle.lte_bits.specs.declared.bit.Bit.TheVariants.{Zero, One};
 ghost use Rattle.sender_model.specs.ConstituentCoder.{next, parity};
-ghost use Rattle.receiver_model.specs.Borders.{number_for};
-ghost use Rattle.rsc_trellis.specs.Steps.{state_before, input_before};
-ghost use Rattle.window_decode.specs.Recursions.{IsMetrics, step_gain, joined};
-ghost use Rattle.window_decode.specs.Recursions.{forward, way_in, backward, way_out};
+ghost use Rattle.receiver_model.specs.Borders.{border_of, number_for, if_zero, relative};
+ghost use Rattle.window_decode.specs.Recursions.{step_gain, way_in, forward, backward, through};
+ghost use Rattle.window_decode.specs.Lanes.{IsRelative};
 
-use crate::per_state::{PerState, number_of};
+use crate::lanes::{
+    above_zero, after_one, after_zero, all, before_by_one, before_by_zero, greatest, input_by_one,
+    input_by_zero, larger, parity_of_one, parity_of_zero, sum,
+};
 use crate::step::Step;
-use lte_bits::Bit;
-use rsc_trellis::{State, next, previous};
+use std::simd::prelude::*;
 
-/// The forward metrics after a step, from those before it.
-#[derive(Clone, Copy)]
-pub struct Forward {
-    pub before: [i64; 8],
-    pub step: Step,
-    pub ghost metrics: { IsMetrics before },
+/// The metrics with which paths come to each state from the one before it whose oldest value is 0.
+#[inline]
+fn way_in_by_zero(before: i16x8, step: Step) -> i16x8
+    requires { IsRelative before }
+    ensures { result ≡ border_of
+        (λ s. way_in (number_for before) (step_gain step.input step.parity) s Zero) }
+{
+    let gain = sum(input_by_zero(step.input), parity_of_zero(step.parity));
+    sum(before_by_zero(before), gain)
 }
 
-impl Forward {
-    /// The greatest number with which a path comes to `s` from the state whose oldest value is `oldest`.
-    fn way_in(&self, s: State, oldest: Bit) -> i64
-        ensures value { result ≡ way_in (number_for self.now.before)
-            (step_gain self.now.step.input self.now.step.parity) s oldest }
-        ensures range { IsWithin 10000765 result }
-    {
-        let (from, u) = previous(s, oldest);
-        number_of(&self.before, from) + self.step.gain(from, u)
-    }
+/// The metrics with which paths come to each state from the one before it whose oldest value is 1.
+#[inline]
+fn way_in_by_one(before: i16x8, step: Step) -> i16x8
+    requires { IsRelative before }
+    ensures { result ≡ border_of
+        (λ s. way_in (number_for before) (step_gain step.input step.parity) s One) }
+{
+    let gain = sum(input_by_one(step.input), parity_of_one(step.parity));
+    sum(before_by_one(before), gain)
 }
 
-impl PerState for Forward {
-    ghost number = { λ f s. forward (number_for f.before) (step_gain f.step.input f.step.parity) s };
-
-    ghost bound = { 10000765 };
-
-    fn at(&self, s: State) -> i64 {
-        self.way_in(s, Bit::Zero).max(self.way_in(s, Bit::One))
-    }
+/// The forward metrics after a step, relative to that of state 0, from those before it.
+#[inline]
+pub fn forward(before: i16x8, step: Step) -> i16x8
+    requires { IsRelative before }
+    ensures { result ≡ relative (forward (number_for before) (step_gain step.input step.parity)) }
+{
+    let zero = way_in_by_zero(before, step);
+    let one = way_in_by_one(before, step);
+    let next = larger(zero, one);
+    above_zero(next)
 }
 
-/// The backward metrics before a step, from those after it.
-#[derive(Clone, Copy)]
-pub struct Backward {
-    pub after: [i64; 8],
-    pub step: Step,
-    pub ghost metrics: { IsMetrics after },
+/// The metrics after the steps by the input 0, with what their parity bits earn.
+#[inline]
+fn onward_by_zero(after: i16x8, value: i16) -> i16x8
+    requires after { IsRelative after }
+    requires value { IsWithin 127 value }
+    ensures { result
+        ≡ border_of (λ s. if_zero (parity s Zero) value +ℤ number_for after (next s Zero)) }
+{
+    sum(parity_of_zero(value), after_zero(after))
 }
 
-impl Backward {
-    /// The greatest number with which a path goes on from `s` by `u`.
-    fn way_out(&self, s: State, u: Bit) -> i64
-        ensures value { result ≡ way_out (number_for self.now.after)
-            (step_gain self.now.step.input self.now.step.parity) s u }
-        ensures range { IsWithin 10000765 result }
-    {
-        self.step.gain(s, u) + number_of(&self.after, next(s, u))
-    }
+/// The metrics after the steps by the input 1, with what their parity bits earn.
+#[inline]
+fn onward_by_one(after: i16x8, value: i16) -> i16x8
+    requires after { IsRelative after }
+    requires value { IsWithin 127 value }
+    ensures { result
+        ≡ border_of (λ s. if_zero (parity s One) value +ℤ number_for after (next s One)) }
+{
+    sum(parity_of_one(value), after_one(after))
 }
 
-impl PerState for Backward {
-    ghost number = { λ b s. backward (number_for b.after) (step_gain b.step.input b.step.parity) s };
-
-    ghost bound = { 10000765 };
-
-    fn at(&self, s: State) -> i64 {
-        self.way_out(s, Bit::Zero).max(self.way_out(s, Bit::One))
-    }
+/// The backward metrics before a step, relative to that of state 0, from those after it.
+#[inline]
+pub fn backward(after: i16x8, step: Step) -> i16x8
+    requires { IsRelative after }
+    ensures { result ≡ relative (backward (number_for after) (step_gain step.input step.parity)) }
+{
+    let zero = sum(all(step.input), onward_by_zero(after, step.parity));
+    let one = onward_by_one(after, step.parity);
+    above_zero(larger(zero, one))
 }
 
-/// The paths through each state that go on by one bit, without what the bit itself earns.
-#[derive(Clone, Copy)]
-pub struct Joined {
-    pub before: [i64; 8],
-    pub after: [i64; 8],
-    pub step: Step,
-    pub bit: Bit,
-    pub ghost metrics_before: { IsMetrics before },
-    pub ghost metrics_after: { IsMetrics after },
-}
-
-impl PerState for Joined {
-    ghost number = { λ q s. joined (number_for q.before) (number_for q.after) q.step.parity q.bit s };
-
-    ghost bound = { 20000127 };
-
-    fn at(&self, s: State) -> i64 {
-        let through = number_of(&self.before, s) + self.step.parity_gain(s, self.bit);
-        through + number_of(&self.after, next(s, self.bit))
-    }
+/// How much better 0 is than 1 at a position, by all but what the bit itself earns.
+#[inline]
+pub fn extrinsic(before: i16x8, after: i16x8, value: i16) -> i32
+    requires before { IsRelative before }
+    requires after { IsRelative after }
+    requires value { IsWithin 127 value }
+    ensures value { result ≡ through before after value Zero -ℤ through before after value One }
+    ensures range { IsWithin 25818 result }
+{
+    let zero = greatest(sum(before, onward_by_zero(after, value)));
+    let one = greatest(sum(before, onward_by_one(after, value)));
+    i32::from(zero) - i32::from(one)
 }

@@ -1,21 +1,18 @@
 //! One window of the max-log decoder.
-ghost use Rattle.std.specs.Prelude.{◌≡◌, ◌<◌, ◌≤◌, ◌+ℤ◌, ◌-ℤ◌, length};
-ghost use Rattle.lte_bits.specs.Softs.{IsWithin};
-ghost use Rattle.receiver_model.specs.Borders.{at, number_for};
-ghost use Rattle.receiver_model.specs.Paths.{gain};
+ghost use Rattle.std.specs.Prelude.{◌≡◌, ◌<◌, ◌≤◌, ℤ, ◌+ℤ◌, length};
+ghost use Rattle.receiver_model.specs.Borders.{IsBorder, at};
 ghost use Rattle.receiver_model.specs.Windows.{cell_at, window_between};
 ghost use Rattle.receiver_model.specs.Windows.{new_cells, forward_left, backward_left};
-ghost use Rattle.window_decode.specs.Recursions.{IsMetrics, AreNear, through, cell_through};
-ghost use Rattle.window_decode.specs.Metrics.{IsForwardRow, IsBackwardRow};
+ghost use Rattle.window_decode.specs.Lanes.{IsRelative};
+ghost use Rattle.window_decode.specs.Recursions.{cell_through};
 
 use crate::border::Border;
 use crate::ext::Ext;
-use crate::per_state::{greatest, numbers};
-use crate::recursion::{Backward, Forward, Joined};
+use crate::recursion::{backward, extrinsic, forward};
 use crate::step::Step;
 use crate::strip::Strip;
 use crate::work::Work;
-use lte_bits::Bit;
+use std::simd::prelude::*;
 
 /// What the steps of position `j` earn.
 fn step_at<S: Strip>(strip: &S, j: usize) -> Step
@@ -26,80 +23,57 @@ fn step_at<S: Strip>(strip: &S, j: usize) -> Step
 {
     let cell = strip.cell(j);
     Step {
-        input: i64::from(strip.sys(j)) + i64::from(cell.value),
-        parity: i64::from(strip.par(j)),
+        input: strip.sys(j) + cell.value,
+        parity: strip.par(j),
     }
 }
 
-/// The greatest score through a position with some bit, without what the bit itself earns.
-fn best(before: [i64; 8], after: [i64; 8], step: Step, bit: Bit) -> i64
-    requires before { IsMetrics before }
-    requires after { IsMetrics after }
-    ensures value { result ≡ through before after step.parity bit }
-    ensures range { IsWithin 20000127 result }
+/// The new cell of a position, between the metrics before and after it.
+fn new_cell(before: i16x8, after: i16x8, step: Step) -> Ext
+    requires before { IsRelative before }
+    requires after { IsRelative after }
+    ensures { (s c : ℤ) → step.input ≡ s +ℤ c
+        → result ≡ cell_through before after s step.parity c }
 {
-    let joined = Joined {
-        before,
-        after,
-        step,
-        bit,
-    };
-    greatest(&numbers(&joined))
-}
-
-/// The new cell of position `j`, between the metrics before and after it.
-fn new_cell<S: Strip>(strip: &S, j: usize, before: [i64; 8], after: [i64; 8]) -> Ext
-    requires inside { j < length (S.cells strip.now) }
-    requires before { IsMetrics before }
-    requires after { IsMetrics after }
-    ensures { result ≡ cell_through before after (at (S.systematic strip.now) j)
-        (at (S.parity strip.now) j) (cell_at (S.cells strip.now) j).value }
-{
-    let step = step_at(strip, j);
-    let extrinsic = best(before, after, step, Bit::Zero) - best(before, after, step, Bit::One);
-    let cell = strip.cell(j);
-    Ext::from_extrinsic(extrinsic, i64::from(strip.sys(j)), i64::from(cell.value))
+    Ext::from_extrinsic(extrinsic(before, after, step.parity), step.input)
 }
 
 /// Leaves a window's new cells in the strip. Gives the forward metrics after the last position and the
-/// backward metrics before the first.
+/// backward metrics before the first, relative to those of state 0.
 fn sweep<S: Strip>(
-    rows: &mut Vec<[i64; 8]>,
+    rows: &mut Vec<i16x8>,
     from: &Border,
     to: &Border,
     strip: &mut S,
-) -> ([i64; 8], [i64; 8])
+) -> (i16x8, i16x8)
     requires least { 8 ≤ length (S.cells strip.old) }
     requires room { length (S.cells strip.old) ≤ length rows.old.items }
-    requires most { length rows.old.items ≤ 6144 }
     ensures cells { S.cells strip.new ≡ new_cells (window_between from.now to.now
         (S.systematic strip.old) (S.parity strip.old) (S.cells strip.old)) }
-    ensures forward { IsForwardRow from.now (gain (window_between from.now to.now
-        (S.systematic strip.old) (S.parity strip.old) (S.cells strip.old)))
-        (length (S.cells strip.old)) result.0 }
-    ensures backward { IsBackwardRow to.now (gain (window_between from.now to.now
-        (S.systematic strip.old) (S.parity strip.old) (S.cells strip.old)))
-        0 (length (S.cells strip.old)) result.1 }
-    ensures near { AreNear 2295 (number_for result.0) × AreNear 2295 (number_for result.1) }
+    ensures forward { result.0 ≡ forward_left (window_between from.now to.now
+        (S.systematic strip.old) (S.parity strip.old) (S.cells strip.old)) }
+    ensures backward { result.1 ≡ backward_left (window_between from.now to.now
+        (S.systematic strip.old) (S.parity strip.old) (S.cells strip.old)) }
+    ensures borders { IsBorder result.0 × IsBorder result.1 }
     ensures systematic { S.systematic strip.new ≡ S.systematic strip.old }
     ensures parity { S.parity strip.new ≡ S.parity strip.old }
     ensures rest { S.rest strip.new ≡ S.rest strip.old }
     ensures room { length rows.new.items ≡ length rows.old.items }
 {
     let width = strip.width();
-    let mut before = numbers(from);
+    let mut before = from.lanes();
     for j in 0..width {
         rows[j] = before;
         let step = step_at(strip, j);
-        before = numbers(&Forward { before, step });
+        before = forward(before, step);
     }
-    let mut after = numbers(to);
+    let mut after = to.lanes();
     for i in 0..width {
         let j = width - 1 - i;
         let step = step_at(strip, j);
-        let cell = new_cell(strip, j, rows[j], after);
+        let cell = new_cell(rows[j], after, step);
         strip.set_cell(j, cell);
-        after = numbers(&Backward { after, step });
+        after = backward(after, step);
     }
     (before, after)
 }
@@ -126,5 +100,5 @@ pub fn run_window<S: Strip>(
     ensures room { work.new ≡ work.old }
 {
     let (end, start) = sweep(&mut work.rows, from, to, strip);
-    (Border::relative(&end), Border::relative(&start))
+    (Border::from_lanes(end), Border::from_lanes(start))
 }

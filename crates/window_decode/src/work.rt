@@ -4,11 +4,12 @@ ghost use Rattle.std.specs.Prelude.{◌≡◌, ◌≤◌, IfOk};
 use lte_bits::NoMemory;
 use std::alloc::Global;
 use std::marker::Model;
+use std::simd::prelude::*;
 
 /// Room for the metrics of a window of up to some width.
 #[derive(Drop)]
 pub struct Work {
-    pub(crate) rows: Vec<[i64; 8]>,
+    pub(crate) rows: Vec<i16x8>,
 }
 
 impl Model for Work {
@@ -29,7 +30,7 @@ impl Work {
         ensures { IfOk result (λ work. work ≡ width) }
     {
         Ok(Work {
-            rows: vec![in alloc; [0; 8]; width]?,
+            rows: vec![in alloc; i16x8::splat(0); width]?,
         })
     }
 

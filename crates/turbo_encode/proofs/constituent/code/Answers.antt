@@ -22,7 +22,7 @@ pub new-walk-requires-clause-some : goal.new-walk-requires-clause-some
 new-walk-requires-clause-some c = let range = range-of_size (length c.args.bits.now) c.requires in omega (arith, range.0)
 
 pub new-walk-requires-clause-small : goal.new-walk-requires-clause-small
-new-walk-requires-clause-small c = (range-of_size (length c.args.bits.now) c.requires).1
+new-walk-requires-clause-small c = omega (arith, (range-of_size (length c.args.bits.now) c.requires).1)
 
 pub loop-i-preserved : goal.loop-i-preserved
 loop-i-preserved c =

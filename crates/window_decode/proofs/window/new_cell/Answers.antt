@@ -1,31 +1,36 @@
-use Rattle.std.proofs.Common.{◌≡◌, ℤ, ◌-ℤ◌, ap, ◌∙◌, to_z, of_z, w16, w64, arith}
+use Rattle.std.proofs.Common.{◌≡◌, ℤ, ◌-ℤ◌, List, ap, ◌∙◌, to_z, of_z, w16, w32, arith}
 use Rattle.std.proofs.lemmas.Int.{ints}
 use Rattle.lte_bits.specs.Softs.{IsWithin}
 use Rattle.lte_bits.specs.declared.bit.Bit.TheVariants.{Zero, One}
-use Rattle.receiver_model.specs.Windows.{Extrinsic, cell_from}
+use Rattle.receiver_model.specs.Windows.{cell_from}
 use Rattle.window_decode.specs.Recursions.{through}
+use Rattle.window_decode.proofs.Within.{within-more}
+use Rattle.window_decode.proofs.LaneSteps.{stored}
+use Rattle.window_decode.proofs.LaneNumbers.{passed}
+use Rattle.window_decode.proofs.LaneKernel.{relative-still, passed-relative}
 use Rattle.window_decode.proofs.window.new_cell.Goals as goal
 
-difference : (p q u v : ℤ) → p ≡ u → q ≡ v → IsWithin 20000127 p → IsWithin 20000127 q → to_z w64 (of_z w64 (to_z w64 (of_z w64 p) -ℤ to_z w64 (of_z w64 q))) ≡ u -ℤ v
-difference p q u v e f h k = omega (arith, ints)
+pub extrinsic-requires-clause-before : goal.extrinsic-requires-clause-before
+extrinsic-requires-clause-before c = relative-still c.args.before c.requires.before
 
-read : (r s u : ℤ) → r ≡ to_z w16 (of_z w16 s) → s ≡ u → IsWithin 511 s → to_z w64 (of_z w64 r) ≡ u
-read r s u e f h = omega (arith, ints)
+pub extrinsic-requires-clause-after : goal.extrinsic-requires-clause-after
+extrinsic-requires-clause-after c = relative-still c.args.after c.requires.after
 
-wider : (s : ℤ) → IsWithin 127 s → IsWithin 511 s
-wider s h = (omega (arith, ints), omega (arith, ints))
+abbrev better : List ℤ → List ℤ → ℤ → ℤ
+better before after p = through before after p Zero -ℤ through before after p One
 
-same : (a b c x y z : ℤ) → a ≡ x → b ≡ y → c ≡ z → cell_from a b c ≡ cell_from x y z
-same a b c x y z e f h = ap (λ v. cell_from v b c) e ∙ (ap (λ v. cell_from x v c) f ∙ ap (λ v. cell_from x y v) h)
+same : (b a b' a' : List ℤ) (p p' r : ℤ) → b' ≡ b → a' ≡ a → p' ≡ p → r ≡ better b' a' p' → r ≡ better b a p
+same b a b' a' p p' r e f g h = h ∙ (ap (λ z. better z a' p') e ∙ (ap (λ z. better b z p') f ∙ ap (λ z. better b a z) g))
+
+wide : (r : ℤ) → IsWithin 25818 r → to_z w32 (of_z w32 r) ≡ r
+wide r h = omega (arith, ints)
 
 pub returns : goal.returns
-returns g c =
-    let parity = c.step_at-step.ensures.parity in
-    c.from_extrinsic.ensures
-    ∙ same _ _ _ _ _ _
-    (difference c.best.result c.best-2.result _ _
-    (c.best.ensures.value ∙ ap (λ p. through c.args.before c.args.after p Zero) parity)
-    (c.best-2.ensures.value ∙ ap (λ p. through c.args.before c.args.after p One) parity)
-    c.best.ensures.range c.best-2.ensures.range)
-    (read c.from.result c.sys.result _ c.from.ensures c.sys.ensures.value (wider c.sys.result c.sys.ensures.range))
-    (read c.from-2.result c.cell.inside.value _ c.from-2.ensures (ap (λ (e : Extrinsic). e.value) (c.cell.view_is ∙ c.cell-cell.ensures)) c.cell.invariant)
+returns c = λ s k e.
+    let step = c.args.step in let before = c.args.before in let after = c.args.after in
+    c.from_extrinsic.ensures s k (stored step.input (within-more 638 32767 step.input (omega arith) step.input_bound) ∙ e)
+    ∙ ap (λ z. cell_from z s k)
+    (wide c.extrinsic.result c.extrinsic.ensures.range
+    ∙ same before after (passed before) (passed after) step.parity (to_z w16 (of_z w16 step.parity)) c.extrinsic.result
+    (passed-relative before c.requires.before) (passed-relative after c.requires.after)
+    (stored step.parity (within-more 127 32767 step.parity (omega arith) step.parity_bound)) c.extrinsic.ensures.value)

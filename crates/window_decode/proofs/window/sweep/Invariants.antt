@@ -1,4 +1,5 @@
-use Rattle.std.proofs.Common.{◌≡◌, ℕ, ◌-◌, ◌<◌, length}
+use Rattle.std.proofs.Common.{◌≡◌, ℕ, ◌-◌, ◌<◌, length, map, to_z, w16}
+use Rattle.receiver_model.specs.Borders.{IsBorder}
 use Rattle.receiver_model.specs.Paths.{gain}
 use Rattle.receiver_model.specs.Windows.{window_between}
 use Rattle.window_decode.specs.Metrics.{IsForwardRow, IsBackwardRow, row_at}
@@ -11,7 +12,8 @@ invariant-loop-j g l =
     let cells = g.S.Strip.cells l.strip in
     let w = window_between l.from l.to (g.S.Strip.systematic l.strip) (g.S.Strip.parity l.strip) cells in
     record {
-      row : IsForwardRow l.from (gain w) l.j l.before;
+      row : IsForwardRow l.from (gain w) l.j (map (to_z w16) l.before);
+      border : IsBorder l.from;
       rows : (i : ℕ) → i < l.j → IsForwardRow l.from (gain w) i (row_at l.rows.items i);
       narrow : (i : ℕ) → i < l.j → IsNarrow (gain w) i;
       room : length l.rows.items ≡ length l.initial.rows.items;
@@ -23,7 +25,8 @@ invariant-loop-i g l =
     let n = length cells in
     let w = window_between l.from l.to (g.S.Strip.systematic l.initial.strip) (g.S.Strip.parity l.initial.strip) cells in
     record {
-      row : IsBackwardRow l.to (gain w) (n - l.i) l.i l.after;
+      row : IsBackwardRow l.to (gain w) (n - l.i) l.i (map (to_z w16) l.after);
+      border : IsBorder l.to;
       cells : Renewed w cells (g.S.Strip.cells l.strip) l.i;
       systematic : g.S.Strip.systematic l.strip ≡ g.S.Strip.systematic l.initial.strip;
       parity : g.S.Strip.parity l.strip ≡ g.S.Strip.parity l.initial.strip;

@@ -1,38 +1,86 @@
-use Rattle.std.proofs.Common.{◌≡◌, ℤ, pos, negsuc, ◌+ℤ◌, ◌*ℤ◌, ap, ◌∙◌, Bool, FitsSigned, to_z, of_z, w16, w64, arith}
+use Rattle.std.proofs.Common.{◌≡◌, ℕ, zero, suc, ◌*◌, ◌/◌, ◌<◌, ◌≤◌, ℤ, pos, negsuc, neg_ℤ, ◌+ℤ◌, ◌*ℤ◌, refl, ap, sym, ◌∙◌, Bool, FitsSigned, to_z, of_z, w16, w32, inl, inr, arith}
 use Rattle.std.specs.Prelude.{int_div, int_lt}
 use Rattle.std.specs.Int.{int_max, int_min}
-use Rattle.std.proofs.lemmas.Int.{ints, clamps, quot_fits, to_z-of_z}
+use Rattle.std.proofs.lemmas.Bool.{cases_lt}
+use Rattle.std.proofs.lemmas.Int.{ints, clamps}
 use Rattle.lte_bits.specs.Softs.{IsWithin, clamped}
 use Rattle.receiver_model.specs.Windows.{Extrinsic, scaled}
+use Rattle.window_decode.proofs.Within.{within-same}
 use Rattle.window_decode.proofs.ext.Ext.from_extrinsic.Goals as goal
 
 same_cell : (a b : ℤ) (p q : Bool) → a ≡ b → p ≡ q → (let c : Extrinsic = record { value = a; one = p } in c) ≡ (let d : Extrinsic = record { value = b; one = q } in d)
 same_cell a b p q e f = ap (λ (z : ℤ). let c : Extrinsic = record { value = z; one = p } in c) e ∙ ap (λ (t : Bool). let c : Extrinsic = record { value = b; one = t } in c) f
 
-three : (x : ℤ) → IsWithin 100000000 x → to_z w64 (of_z w64 (pos 3 *ℤ to_z w64 (of_z w64 x))) ≡ pos 3 *ℤ x
-three x h = omega (arith, ints)
+-- a quotient is rounded toward zero
+negative : (m : ℕ) → int_div (neg_ℤ (pos m)) (pos 4) ≡ neg_ℤ (pos (m / 4))
+negative zero = refl
+negative (suc m) = refl
 
-three-fits : (x : ℤ) → IsWithin 100000000 x → FitsSigned w64 (pos 3 *ℤ x)
-three-fits x h = search (arith, ints)
+-- three quarters of 682 are 511
+quarters : (x z : ℤ) → z ≡ int_max (negsuc 681) (int_min x (pos 682)) → int_div (z *ℤ pos 3) (pos 4) ≡ scaled x
+quarters (pos n) z e =
+    elim (cases_lt 682 n) [
+      | inl over ↦ ap (λ v. int_div (v *ℤ pos 3) (pos 4)) (let is : z ≡ pos 682 = omega (arith, ints, clamps, e, over) in is) ∙ above n over
+      | inr under ↦ ap (λ v. int_div (v *ℤ pos 3) (pos 4)) (let is : z ≡ pos n = omega (arith, ints, clamps, e, under) in is) ∙ within n under
+    ]
+  where
+    above : (n : ℕ) → 682 < n → pos 511 ≡ clamped 511 (pos (3 * n / 4))
+    above n h = omega (arith, ints, clamps)
 
-cut : (r q : ℤ) → r ≡ int_max (negsuc 510) (int_min q (pos 511)) → to_z w16 (of_z w16 (to_z w64 (of_z w64 r))) ≡ clamped 511 q
-cut r q e = omega (arith, ints, clamps)
+    within : (n : ℕ) → n ≤ 682 → pos (n * 3 / 4) ≡ clamped 511 (pos (3 * n / 4))
+    within n h = omega (arith, ints, clamps)
+quarters (negsuc n) z e =
+    elim (cases_lt 681 n) [
+      | inl under ↦ ap (λ v. int_div (v *ℤ pos 3) (pos 4)) (let is : z ≡ negsuc 681 = omega (arith, ints, clamps, e, under) in is)
+          ∙ (below n under ∙ ap (clamped 511) (sym (negative (3 * suc n))))
+      | inr over ↦ ap (λ v. int_div (v *ℤ pos 3) (pos 4)) (let is : z ≡ negsuc n = omega (arith, ints, clamps, e, over) in is)
+          ∙ (negative (suc n * 3) ∙ (within n over ∙ ap (clamped 511) (sym (negative (3 * suc n)))))
+    ]
+  where
+    below : (n : ℕ) → 681 < n → negsuc 510 ≡ clamped 511 (neg_ℤ (pos (3 * suc n / 4)))
+    below n h = omega (arith, ints, clamps)
 
-quotient : (y : ℤ) → FitsSigned w64 y → to_z w64 (of_z w64 (int_div y (pos 4))) ≡ int_div y (pos 4)
-quotient y h = to_z-of_z w64 (int_div y (pos 4)) (quot_fits w64 y (pos 4) h (omega (arith, ints)))
+    within : (n : ℕ) → n ≤ 681 → neg_ℤ (pos (suc n * 3 / 4)) ≡ clamped 511 (neg_ℤ (pos (3 * suc n / 4)))
+    within n h = omega (arith, ints, clamps)
 
-quarter : (x r : ℤ) → IsWithin 100000000 x → r ≡ int_max (negsuc 510) (int_min (to_z w64 (of_z w64 (int_div (to_z w64 (of_z w64 (pos 3 *ℤ to_z w64 (of_z w64 x)))) (pos 4)))) (pos 511))
-    → to_z w16 (of_z w16 (to_z w64 (of_z w64 r))) ≡ scaled x
-quarter x r h e =
-    let f : to_z w64 (of_z w64 (int_div (to_z w64 (of_z w64 (pos 3 *ℤ to_z w64 (of_z w64 x)))) (pos 4))) ≡ int_div (pos 3 *ℤ x) (pos 4) =
-    ap (λ z. to_z w64 (of_z w64 (int_div z (pos 4)))) (three x h) ∙ quotient (pos 3 *ℤ x) (three-fits x h) in
-    cut r (int_div (pos 3 *ℤ x) (pos 4)) (e ∙ ap (λ z. int_max (negsuc 510) (int_min z (pos 511))) f)
+three : (z : ℤ) → IsWithin 682 z → to_z w32 (of_z w32 (to_z w32 (of_z w32 z) *ℤ pos 3)) ≡ z *ℤ pos 3
+three z h = omega (arith, ints)
 
-sum : (x s c : ℤ) → IsWithin 100000000 x → IsWithin 127 s → IsWithin 511 c
-    → to_z w64 (of_z w64 (to_z w64 (of_z w64 (to_z w64 (of_z w64 x) +ℤ to_z w64 (of_z w64 s))) +ℤ to_z w64 (of_z w64 c))) ≡ x +ℤ s +ℤ c
-sum x s c h k l = omega (arith, ints)
+three-fits : (z : ℤ) → IsWithin 682 z → FitsSigned w32 (z *ℤ pos 3)
+three-fits z h = search (arith, ints)
+
+stored : (x q : ℤ) → q ≡ scaled x → to_z w16 (of_z w16 (to_z w32 (of_z w32 q))) ≡ q
+stored x q e = small (int_div (pos 3 *ℤ x) (pos 4)) q e
+  where
+    small : (y q : ℤ) → q ≡ clamped 511 y → to_z w16 (of_z w16 (to_z w32 (of_z w32 q))) ≡ q
+    small y q e = omega (arith, ints, clamps)
+
+-- the clamp's result, of a number that is passed on
+clamped-within : (x z : ℤ) → z ≡ int_max (negsuc 681) (int_min (to_z w32 (of_z w32 x)) (pos 682)) → IsWithin 682 z
+clamped-within x z e = (omega (arith, ints, clamps), omega (arith, ints, clamps))
+
+clamped-same : (x z : ℤ) → IsWithin 25818 x → z ≡ int_max (negsuc 681) (int_min (to_z w32 (of_z w32 x)) (pos 682)) → z ≡ int_max (negsuc 681) (int_min x (pos 682))
+clamped-same x z h e = omega (arith, ints, clamps)
+
+quarter : (x z : ℤ) → IsWithin 25818 x → z ≡ int_max (negsuc 681) (int_min (to_z w32 (of_z w32 x)) (pos 682))
+    → to_z w16 (of_z w16 (to_z w32 (of_z w32 (int_div (to_z w32 (of_z w32 (to_z w32 (of_z w32 z) *ℤ pos 3))) (pos 4))))) ≡ scaled x
+quarter x z h e =
+    let within = clamped-within x z e in
+    let is : int_div (z *ℤ pos 3) (pos 4) ≡ scaled x = quarters x z (clamped-same x z h e) in
+    ap (λ v. to_z w16 (of_z w16 (to_z w32 (of_z w32 (int_div v (pos 4)))))) (three z within)
+    ∙ (stored x (int_div (z *ℤ pos 3) (pos 4)) is ∙ is)
+
+sum : (x a o s k : ℤ) → IsWithin 25818 x → IsWithin 638 o → a ≡ to_z w16 (of_z w16 o) → o ≡ s +ℤ k
+    → to_z w32 (of_z w32 (to_z w32 (of_z w32 x) +ℤ to_z w32 (of_z w32 a))) ≡ x +ℤ s +ℤ k
+sum x a o s k h l e f = omega (arith, ints)
 
 pub returns : goal.returns
-returns c =
+returns c = λ s k e.
     same_cell _ _ _ _ (quarter c.args.x c.clamp.result c.requires.x c.clamp.ensures.value)
-    (ap (λ z. int_lt z (pos 0)) (sum c.args.x c.args.sys c.args.cell c.requires.x c.requires.sys c.requires.cell))
+    (ap (λ z. int_lt z (pos 0)) (sum c.args.x c.from.result c.args.own s k c.requires.x c.requires.own c.from.ensures e))
+
+pub invariant_of-result : goal.invariant_of-result
+invariant_of-result c = within-same 511 _ _ (quarter c.args.x c.clamp.result c.requires.x c.clamp.ensures.value) (small (int_div (pos 3 *ℤ c.args.x) (pos 4)))
+  where
+    small : (y : ℤ) → IsWithin 511 (clamped 511 y)
+    small y = (omega (arith, ints, clamps), omega (arith, ints, clamps))

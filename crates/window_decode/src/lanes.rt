@@ -1,0 +1,170 @@
+//! A number of 16 bits for each of the eight states, as lanes of one vector in order of the states'
+//! numbers.
+ghost use Rattle.std.specs.Prelude.{◌≡◌, ◌+ℤ◌, ◌-ℤ◌};
+ghost use Rattle.std.specs.Int.{int_max};
+ghost use Rattle.lte_bits.specs.Softs.{IsWithin};
+ghost use Rattle.lte_bits.specs.declared.bit.Bit.TheVariants.{Zero, One};
+ghost use Rattle.sender_model.specs.ConstituentCoder.{zero_state, next, parity};
+ghost use Rattle.rsc_trellis.specs.Steps.{state_before, input_before};
+ghost use Rattle.sender_model.specs.Bits.{plus};
+ghost use Rattle.receiver_model.specs.Borders.{state, border_of, number_for, relative, if_zero};
+ghost use Rattle.receiver_model.specs.Paths.{greatest};
+ghost use Rattle.window_decode.specs.Recursions.{IsBounded};
+ghost use Rattle.window_decode.specs.Lanes.{IsLanes};
+
+use std::simd::prelude::*;
+
+/// The same number for each state.
+#[inline]
+pub fn all(value: i16) -> i16x8
+    ensures { result ≡ border_of (λ _. value) }
+{
+    i16x8::splat(value)
+}
+
+/// The sums of the states' numbers.
+#[inline]
+pub fn sum(a: i16x8, b: i16x8) -> i16x8
+    requires first { IsLanes a }
+    requires second { IsLanes b }
+    requires fits { IsBounded 32767 (λ s. number_for a s +ℤ number_for b s) }
+    ensures { result ≡ border_of (λ s. number_for a s +ℤ number_for b s) }
+{
+    a.strict_add(b)
+}
+
+/// The greater of the states' numbers.
+#[inline]
+pub fn larger(a: i16x8, b: i16x8) -> i16x8
+    requires first { IsLanes a }
+    requires second { IsLanes b }
+    ensures { result ≡ border_of (λ s. int_max (number_for a s) (number_for b s)) }
+{
+    a.simd_max(b)
+}
+
+/// The number of state 0 for each state.
+#[inline]
+fn of_state_zero(a: i16x8) -> i16x8
+    requires { IsLanes a }
+    ensures { result ≡ border_of (λ _. number_for a zero_state) }
+{
+    a.swizzle([0, 0, 0, 0, 0, 0, 0, 0])
+}
+
+/// By how much the states' numbers are above that of state 0.
+#[inline]
+pub fn above_zero(a: i16x8) -> i16x8
+    requires lanes { IsLanes a }
+    requires fits { IsBounded 32767 (λ s. number_for a s -ℤ number_for a zero_state) }
+    ensures { result ≡ relative (number_for a) }
+{
+    a.strict_sub(of_state_zero(a))
+}
+
+/// For each state the number of the state before it whose oldest value is 0.
+#[inline]
+pub fn before_by_zero(a: i16x8) -> i16x8
+    requires { IsLanes a }
+    ensures { result ≡ border_of (λ s. number_for a (state_before s Zero)) }
+{
+    a.swizzle([0, 2, 4, 6, 0, 2, 4, 6])
+}
+
+/// For each state the number of the state before it whose oldest value is 1.
+#[inline]
+pub fn before_by_one(a: i16x8) -> i16x8
+    requires { IsLanes a }
+    ensures { result ≡ border_of (λ s. number_for a (state_before s One)) }
+{
+    a.swizzle([1, 3, 5, 7, 1, 3, 5, 7])
+}
+
+/// For each state the number of the state after the input 0.
+#[inline]
+pub fn after_zero(a: i16x8) -> i16x8
+    requires { IsLanes a }
+    ensures { result ≡ border_of (λ s. number_for a (next s Zero)) }
+{
+    a.swizzle([0, 4, 5, 1, 2, 6, 7, 3])
+}
+
+/// For each state the number of the state after the input 1.
+#[inline]
+pub fn after_one(a: i16x8) -> i16x8
+    requires { IsLanes a }
+    ensures { result ≡ border_of (λ s. number_for a (next s One)) }
+{
+    a.swizzle([4, 0, 1, 5, 6, 2, 3, 7])
+}
+
+/// What the input earns that leads to each state from the state before it whose oldest value is 0.
+#[inline]
+pub fn input_by_zero(value: i16) -> i16x8
+    ensures { result ≡ border_of (λ s. if_zero (input_before s Zero) value) }
+{
+    i16x8::splat(value).shuffle(i16x8::splat(0), [0, 8, 0, 8, 8, 0, 8, 0])
+}
+
+/// What the input earns that leads to each state from the state before it whose oldest value is 1.
+#[inline]
+pub fn input_by_one(value: i16) -> i16x8
+    ensures { result ≡ border_of (λ s. if_zero (input_before s One) value) }
+{
+    i16x8::splat(value).shuffle(i16x8::splat(0), [8, 0, 8, 0, 0, 8, 0, 8])
+}
+
+/// What the parity bit of the input 0 earns from each state.
+#[inline]
+pub fn parity_of_zero(value: i16) -> i16x8
+    ensures { result ≡ border_of (λ s. if_zero (parity s Zero) value) }
+{
+    i16x8::splat(value).shuffle(i16x8::splat(0), [0, 0, 8, 8, 8, 8, 0, 0])
+}
+
+/// What the parity bit of the input 1 earns from each state.
+#[inline]
+pub fn parity_of_one(value: i16) -> i16x8
+    ensures { result ≡ border_of (λ s. if_zero (parity s One) value) }
+{
+    i16x8::splat(value).shuffle(i16x8::splat(0), [8, 8, 0, 0, 0, 0, 8, 8])
+}
+
+/// The numbers of the states whose newest value is the other.
+#[inline]
+fn newest_turned(a: i16x8) -> i16x8
+    requires { IsLanes a }
+    ensures { result ≡ border_of (λ s. number_for a (state (plus One s.a1) s.a2 s.a3)) }
+{
+    a.swizzle([4, 5, 6, 7, 0, 1, 2, 3])
+}
+
+/// The numbers of the states whose middle value is the other.
+#[inline]
+fn middle_turned(a: i16x8) -> i16x8
+    requires { IsLanes a }
+    ensures { result ≡ border_of (λ s. number_for a (state s.a1 (plus One s.a2) s.a3)) }
+{
+    a.swizzle([2, 3, 0, 1, 6, 7, 4, 5])
+}
+
+/// The numbers of the states whose oldest value is the other.
+#[inline]
+fn oldest_turned(a: i16x8) -> i16x8
+    requires { IsLanes a }
+    ensures { result ≡ border_of (λ s. number_for a (state s.a1 s.a2 (plus One s.a3))) }
+{
+    a.swizzle([1, 0, 3, 2, 5, 4, 7, 6])
+}
+
+/// The greatest of the states' numbers.
+#[inline]
+pub fn greatest(a: i16x8) -> i16
+    requires { IsLanes a }
+    ensures { result ≡ greatest a }
+{
+    let of_two = larger(a, newest_turned(a));
+    let of_four = larger(of_two, middle_turned(of_two));
+    let of_eight = larger(of_four, oldest_turned(of_four));
+    of_eight.to_array()[0]
+}
