@@ -8,8 +8,8 @@ use Rattle.lte_bits.specs.declared.bit.Bit.{Bit}
 use Rattle.lte_bits.specs.declared.bit.Bit.TheVariants.{Zero, One}
 use Rattle.soft_channel.specs.Noise.{Strength, Transmission, noise_term, noise_terms, noisy, noisy_value, sent}
 use Rattle.qam_points.specs.Constellation.{sign}
-use Rattle.qam_points.specs.Reception.{received, term_at}
-use Rattle.qam_points.proofs.Receiving.{received-two, value_at}
+use Rattle.qam_points.specs.Reception.{received, term_at, value_at}
+use Rattle.qam_points.proofs.Receiving.{received-two}
 
 amplified : (amp : ℕ) (b : Bit) → pos amp *ℤ sign b ≡ sent amp b
 amplified amp Zero = omega (arith, ints)

@@ -8,6 +8,7 @@ use Rattle.run_loop.specs.declared.status.Status.TheVariants.{BadWords}
 use Rattle.stream_loop.specs.Handling.{stream_reply}
 use Rattle.decode_command.specs.Decoding.{decoding}
 use Rattle.relay_commands.specs.Channel.{Noise, channel}
+use Rattle.relay_commands.specs.Points.{points}
 use Rattle.relay_commands.specs.Scramble.{scrambling}
 use Rattle.relay_commands.specs.Upgrade.{upgrade}
 use Rattle.trial_command.specs.Trials.{trial_reply}
@@ -39,7 +40,7 @@ answer_of (Trial seed blocks tb sends amp noise windows limit) input = trial_rep
 })
 answer_of (Scramble rnti q slot cell) input =
     stream_reply (scrambling (record { rnti = rnti; q = q; slot = slot; cell = cell })) input
-answer_of (Points amp noise seed) input = stream_reply (channel (noise_of amp noise seed)) input
+answer_of (Points amp noise seed) input = stream_reply (points (noise_of amp noise seed)) input
 
 -- a command that reads nothing leaves the source and `out` as they are, whether these tell what they hold or not
 abbrev pub LeavesAlone : {S D : Type 0} → Command → (source source' : S) → (out out' : D) → Type 0

@@ -9,7 +9,7 @@ use coded_stream::{Header, Kind};
 use command_words::Command;
 use decode_command::run_decode;
 use edge_io::{Sink, Source};
-use relay_commands::{run_channel, run_scramble, run_upgrade};
+use relay_commands::{run_channel, run_points, run_scramble, run_upgrade};
 use run_loop::Status;
 use std::alloc::Global;
 use trial_command::{Trial, run_trial};
@@ -80,7 +80,7 @@ pub fn perform<S: Source, D: Sink, R: Sink>(
             cell,
         } => run_scramble(alloc, rnti, q, slot, cell, source, out, report),
         Command::Points { amp, noise, seed } => {
-            run_channel(alloc, amp, noise, seed, source, out, report)
+            run_points(alloc, amp, noise, seed, source, out, report)
         }
     }
 }
