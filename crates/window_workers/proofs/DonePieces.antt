@@ -19,7 +19,7 @@ use Rattle.window_workers.proofs.Somes.{some-same}
 use Rattle.window_workers.proofs.HalfCells.{cells-long}
 use Rattle.window_workers.proofs.OrdersOfHalves.{same-order}
 use Rattle.window_workers.proofs.SharesOfHalves.{dealt, dealt-cells}
-use Rattle.window_workers.proofs.ReadyWindows.{whole-of_shape}
+use Rattle.serial_decode.proofs.Wholes.{are-whole}
 
 -- what holds of each element of a list, by its index from a on
 abbrev pub EachFrom : {X : Type 0} → (ℕ → X → Type 0) → ℕ → List X → Type 0
@@ -131,7 +131,7 @@ module _ (job : DecodingJob) (h : ℕ) (order : Order) (lawful : IsJob job) (is 
       → deal order job.shape.windows b.cells ≡ map (cells_in job.shape h b) (range_with_len 0 job.shape.windows)
   dealt-is b long =
       by_range (dealt order job.shape b.cells) (cells_in job.shape h b) 0 job.shape.windows
-      (λ t lt. dealt-cells job.shape h t order b (whole-of_shape job.shape lawful.shape) (omega (arith, lt)) long is)
+      (λ t lt. dealt-cells job.shape h t order b (are-whole job.shape lawful.shape) (omega (arith, lt)) long is)
     where
       by_range : {X : Type 0} (f g : ℕ → X) (a n : ℕ) → ((t : ℕ) → t < a + n → f t ≡ g t) → map f (range_with_len a n) ≡ map g (range_with_len a n)
       by_range f g a zero same = refl

@@ -1,15 +1,13 @@
 -- A ready piece is the window of its half.
-use Rattle.std.proofs.Common.{◌≡◌, ℕ, ◌*◌, ◌%◌, ◌/◌, ◌==◌, ◌<◌, ◌≤◌, Bool, true, false, cond, List, length, map, sym, ap, ◌∙◌, arith, inl, inr}
+use Rattle.std.proofs.Common.{◌≡◌, ℕ, ◌*◌, ◌%◌, ◌==◌, ◌<◌, Bool, true, false, cond, List, length, map, sym, ap, ◌∙◌}
 use Rattle.std.specs.Prelude.{ℤ}
-use Rattle.std.proofs.Math.Nat.{mul-le-mul_left}
-use Rattle.std.proofs.lemmas.Bool.{cases_lt}
 use Rattle.std.proofs.lemmas.List.FromFn.{length-map-range_with_len}
 use Rattle.sender_model.specs.Interleaver.{place}
-use Rattle.sender_model.specs.InterleaverLaws.{windows-whole}
 use Rattle.receiver_model.specs.Borders.{Border, at}
 use Rattle.receiver_model.specs.Windows.{Extrinsic, window_between}
-use Rattle.receiver_model.specs.HalfIteration.{Shape, IsShape, window_width, positions, systematic_at, parity_at, window}
+use Rattle.receiver_model.specs.HalfIteration.{window_width, positions, systematic_at, parity_at, window}
 use Rattle.serial_decode.specs.Views.{AreWhole}
+use Rattle.serial_decode.proofs.Wholes.{are-whole}
 use Rattle.cell_shares.specs.Deal.{share_places}
 use Rattle.cell_shares.specs.Shares.{share_values, share_number, share_order}
 use Rattle.window_workers.specs.declared.job.DecodingJob.{DecodingJob}
@@ -19,18 +17,6 @@ use Rattle.window_workers.specs.Jobs.{before_half}
 use Rattle.window_workers.specs.Pieces.{IsViewOf, IsReady}
 use Rattle.window_workers.proofs.HalfCells.{cells_in-long}
 use Rattle.window_workers.proofs.OrdersOfHalves.{place-of_order}
-
-eight-wide : (k m w : ℕ) → m * w ≡ k → 1 ≤ m → 8 * m ≤ k → 8 ≤ w
-eight-wide k m w e some wide =
-    elim (cases_lt w 8) [
-      | inl lt ↦ absurd (let le : m * w ≤ m * 7 = mul-le-mul_left m (let h : w ≤ 7 = omega (arith, lt) in h) in omega (arith, le, e, some, wide))
-      | inr le ↦ le
-    ]
-
-pub whole-of_shape : (shape : Shape) → IsShape shape → AreWhole shape
-whole-of_shape shape is =
-    let whole : shape.windows * (shape.k / shape.windows) ≡ shape.k = windows-whole shape.k shape.windows is.divided in
-    record { size = is.size; whole = whole; wide = eight-wide shape.k shape.windows (shape.k / shape.windows) whole is.some_windows is.wide }
 
 -- the view of half h is that of the half of 0 and 1 that has its order
 pub view-of_half : (job : DecodingJob) (h t : ℕ) (natural interleaved : WindowView) → IsViewOf job 0 t natural → IsViewOf job 1 t interleaved
@@ -71,7 +57,7 @@ module _ (job : DecodingJob) (h t : ℕ) (p : WindowPiece) (ready : IsReady job 
 
   module _ (lt : t < job.shape.windows) where
     pub whole : AreWhole job.shape
-    whole = whole-of_shape job.shape ready.held.lawful.shape
+    whole = are-whole job.shape ready.held.lawful.shape
 
     pub share-long : length (share_values p.share) ≡ window_width job.shape
     share-long = ap length ready.cells ∙ cells_in-long job.streams job.shape h t whole lt (before_half job h) h

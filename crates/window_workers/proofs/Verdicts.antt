@@ -5,10 +5,10 @@ use Rattle.std.proofs.lemmas.Bool.{cases_eq}
 use Rattle.lte_bits.specs.declared.bit.Bit.{Bit}
 use Rattle.sender_model.specs.CheckBits.{IsMultiple}
 use Rattle.receiver_model.specs.declared.result.CheckKind.{CheckKind}
-use Rattle.receiver_model.specs.declared.result.CodeResult.{CodeResult}
 use Rattle.receiver_model.specs.Windows.{Extrinsic}
 use Rattle.receiver_model.specs.Decoding.{before, decided_bits, decided_in, generator}
 use Rattle.receiver_model.proofs.DecodedOnce.{decoded-is, decoded_once}
+use Rattle.serial_decode.proofs.Stopping.{result_with}
 use Rattle.window_workers.specs.declared.job.DecodingJob.{DecodingJob}
 use Rattle.window_workers.specs.declared.common.Progress.{Progress}
 use Rattle.window_workers.specs.Jobs.{IsJob, before_half}
@@ -63,9 +63,6 @@ none_checked-more job h n eh one none fails m some lt holds =
       | inl e ↦ fails (subst (λ (k : ℕ). IsMultiple (generator job.shape.kind) (decided_in job.streams job.shape k)) e holds)
       | inr ne ↦ none m some (omega (arith, eh, one, some, lt, ne)) holds
     ]
-
-abbrev pub result_with : ℕ → List Bit → ℕ → Bool → CodeResult
-result_with fill bits n passed = record { block = record { fill = fill; bits = bits }; iterations = n; passed = passed }
 
 -- the result of the iteration of an odd half
 pub result-of_half : (job : DecodingJob) (h n : ℕ) (bits : List Bit) (passed : Bool) → IsJob job → h ≡ 2 * n - 1 → 1 ≤ n → h < 2 * job.shape.limit

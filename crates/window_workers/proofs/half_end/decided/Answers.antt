@@ -6,10 +6,11 @@ use Rattle.receiver_model.specs.declared.result.CheckKind.{CheckKind}
 use Rattle.cell_shares.specs.Shares.{cell_values}
 use Rattle.receiver_model.specs.Decoding.{generator}
 use Rattle.serial_decode.proofs.Parts.{written}
+use Rattle.serial_decode.proofs.Stopping.{result_with}
 use Rattle.window_workers.specs.Commons.{IsResultAt}
 use Rattle.window_workers.specs.Pieces.{job_of_piece}
 use Rattle.window_workers.proofs.HalfCells.{cells-long}
-use Rattle.window_workers.proofs.Verdicts.{odd-half, some-iteration, checked-bits, fails-of, none_checked-more, result-of_half, result_with}
+use Rattle.window_workers.proofs.Verdicts.{odd-half, some-iteration, checked-bits, fails-of, none_checked-more, result-of_half}
 use Rattle.window_workers.proofs.half_end.decided.Goals as goal
 use Rattle.window_workers.proofs.half_end.decided.Goals.{else-not-passed-via-then-not-passed+else-iteration-limit, else-not-passed-via-else-not-passed}
 
