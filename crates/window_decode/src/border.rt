@@ -1,12 +1,11 @@
 //! Borders between windows.
-ghost use Rattle.std.specs.Prelude.{◌≡◌, ◌<◌, ◌+ℤ◌, ◌-ℤ◌};
+ghost use Rattle.std.specs.Prelude.{◌≡◌, ◌<◌, ◌+ℤ◌, ◌-ℤ◌, length};
 ghost use Rattle.sender_model.specs.ConstituentCoder.{zero_state};
-ghost use Rattle.receiver_model.specs.Borders.{IsBorder, number_for, at, if_zero};
+ghost use Rattle.receiver_model.specs.Borders.{IsBorder, number_for, border_of, at, if_zero};
 ghost use Rattle.receiver_model.specs.Borders.{relative, unknown, known, tail, tail_sum};
 ghost use Rattle.lte_bits.specs.Softs.{IsWithin};
-ghost use Rattle.window_decode.specs.Recursions.{IsMetrics, AreNear};
+ghost use Rattle.window_decode.specs.Recursions.{IsBounded, IsMetrics, AreNear};
 
-use crate::per_state::{PerState, number_of, numbers};
 use lte_bits::{Bit, Soft};
 use rsc_trellis::{State, tail_path};
 use std::marker::Model;
@@ -54,7 +53,7 @@ impl Border {
     pub fn tail(x: [Soft; 3], z: [Soft; 3]) -> Border
         ensures { result ≡ tail x z }
     {
-        Border::relative(&numbers(&Tail { x, z }))
+        Border::relative(&Tail { x, z }.numbers())
     }
 
     /// The border's number for a state.
@@ -105,6 +104,14 @@ impl Border {
     }
 }
 
+/// The number that a list of eight has for a state.
+fn number_of(numbers: &[i64; 8], s: State) -> i64
+    requires { length numbers.now ≡ 8 }
+    ensures { result ≡ number_for numbers.now s }
+{
+    numbers[usize::from(s.number())]
+}
+
 /// By how much a metric is above that of state 0.
 fn above_zero(metrics: &[i64; 8], s: State) -> i16
     requires metrics { IsMetrics metrics.now }
@@ -130,6 +137,33 @@ impl Tail {
     {
         earned(bits.0, self.x[k]) + earned(bits.1, self.z[k])
     }
+
+    /// What the bits of the tail from a state earn.
+    fn from_state(&self, s: State) -> i64
+        ensures value { result ≡ tail_sum self.now.x self.now.z s }
+        ensures range { IsWithin 762 result }
+    {
+        let [first, second, third] = tail_path(s);
+        self.step(0, first) + self.step(1, second) + self.step(2, third)
+    }
+
+    /// The same from each state, in order of the states' numbers.
+    fn numbers(&self) -> [i64; 8]
+        ensures value { result ≡ border_of (tail_sum self.now.x self.now.z) }
+        ensures range { IsBounded 762 (tail_sum self.now.x self.now.z) }
+    {
+        let (z, o) = (Bit::Zero, Bit::One);
+        [
+            self.from_state(State::from_bits(z, z, z)),
+            self.from_state(State::from_bits(z, z, o)),
+            self.from_state(State::from_bits(z, o, z)),
+            self.from_state(State::from_bits(z, o, o)),
+            self.from_state(State::from_bits(o, z, z)),
+            self.from_state(State::from_bits(o, z, o)),
+            self.from_state(State::from_bits(o, o, z)),
+            self.from_state(State::from_bits(o, o, o)),
+        ]
+    }
 }
 
 /// A value where the bit is 0, and else 0.
@@ -148,15 +182,4 @@ fn earned(bit: Bit, value: Soft) -> i64
     ensures range { IsWithin 127 result }
 {
     if_zero(bit, i64::from(value.value()))
-}
-
-impl PerState for Tail {
-    ghost number = { λ t s. tail_sum t.x t.z s };
-
-    ghost bound = { 762 };
-
-    fn at(&self, s: State) -> i64 {
-        let [first, second, third] = tail_path(s);
-        self.step(0, first) + self.step(1, second) + self.step(2, third)
-    }
 }

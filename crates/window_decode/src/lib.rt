@@ -5,7 +5,6 @@ pub mod border;
 pub mod ext;
 mod lanes;
 pub mod metrics;
-mod per_state;
 mod recursion;
 pub mod shape;
 mod step;

@@ -3,10 +3,10 @@ use Rattle.lte_bits.specs.Softs.{IsWithin}
 use Rattle.lte_bits.specs.declared.bit.Bit.{Bit}
 use Rattle.lte_bits.specs.declared.bit.Bit.TheVariants.{Zero, One}
 use Rattle.sender_model.specs.ConstituentCoder.{State}
-use Rattle.receiver_model.specs.Borders.{state}
+use Rattle.receiver_model.specs.Borders.{state, tail_sum}
 use Rattle.window_decode.specs.Recursions.{IsBounded}
 use Rattle.window_decode.proofs.Within.{within-same}
-use Rattle.window_decode.proofs.per_state.numbers.Goals as goal
+use Rattle.window_decode.proofs.border.Tail.numbers.Goals as goal
 
 -- what is true at each of the eight states is true at all
 at_all : (n : ℕ) (f : State → ℤ) → IsWithin n (f (state Zero Zero Zero)) → IsWithin n (f (state Zero Zero One)) → IsWithin n (f (state Zero One Zero)) → IsWithin n (f (state Zero One One))
@@ -27,14 +27,14 @@ moved : (n : ℕ) (f : State → ℤ) (r : ℤ) (s t : State) → r ≡ f s → 
 moved n f r s t e k h = within-same n (f t) r (sym (e ∙ ap f k)) h
 
 pub returns-clause-range : goal.returns-clause-range
-returns-clause-range g c =
-    let n = g.P.PerState.bound in let f = g.P.PerState.number c.args.p.now in
+returns-clause-range c =
+    let n : ℕ = 762 in let f : State → ℤ = tail_sum c.args.self.now.x c.args.self.now.z in
     at_all n f
-    (moved n f _ _ _ c.at.ensures.value c.from_bits.ensures c.at.ensures.range)
-    (moved n f _ _ _ c.at-2.ensures.value c.from_bits-2.ensures c.at-2.ensures.range)
-    (moved n f _ _ _ c.at-3.ensures.value c.from_bits-3.ensures c.at-3.ensures.range)
-    (moved n f _ _ _ c.at-4.ensures.value c.from_bits-4.ensures c.at-4.ensures.range)
-    (moved n f _ _ _ c.at-5.ensures.value c.from_bits-5.ensures c.at-5.ensures.range)
-    (moved n f _ _ _ c.at-6.ensures.value c.from_bits-6.ensures c.at-6.ensures.range)
-    (moved n f _ _ _ c.at-7.ensures.value c.from_bits-7.ensures c.at-7.ensures.range)
-    (moved n f _ _ _ c.at-8.ensures.value c.from_bits-8.ensures c.at-8.ensures.range)
+    (moved n f _ _ _ c.from_state.ensures.value c.from_bits.ensures c.from_state.ensures.range)
+    (moved n f _ _ _ c.from_state-2.ensures.value c.from_bits-2.ensures c.from_state-2.ensures.range)
+    (moved n f _ _ _ c.from_state-3.ensures.value c.from_bits-3.ensures c.from_state-3.ensures.range)
+    (moved n f _ _ _ c.from_state-4.ensures.value c.from_bits-4.ensures c.from_state-4.ensures.range)
+    (moved n f _ _ _ c.from_state-5.ensures.value c.from_bits-5.ensures c.from_state-5.ensures.range)
+    (moved n f _ _ _ c.from_state-6.ensures.value c.from_bits-6.ensures c.from_state-6.ensures.range)
+    (moved n f _ _ _ c.from_state-7.ensures.value c.from_bits-7.ensures c.from_state-7.ensures.range)
+    (moved n f _ _ _ c.from_state-8.ensures.value c.from_bits-8.ensures c.from_state-8.ensures.range)

@@ -4,7 +4,7 @@ use Rattle.lte_bits.specs.Softs.{IsWithin}
 use Rattle.lte_bits.specs.declared.bit.Bit.{Bit}
 use Rattle.lte_bits.specs.declared.bit.Bit.TheVariants.{Zero}
 use Rattle.receiver_model.specs.Borders.{if_zero, tail_step}
-use Rattle.window_decode.proofs.border.TailPerState.at.Goals as goal
+use Rattle.window_decode.proofs.border.Tail.from_state.Goals as goal
 
 -- three elements that are read one by one
 record Three (f : Bit × Bit → Bit) (xs : List (Bit × Bit)) (d : Bit × Bit) (a b c : Bit) : Type 0 where
