@@ -1,8 +1,8 @@
 //! What is received of points.
-ghost use Rattle.std.specs.Prelude.{◌≡◌, ◌≤◌, ◌*◌, ◌+ℤ◌, ◌*ℤ◌, All, length, pos};
+ghost use Rattle.std.specs.Prelude.{◌≡◌, ◌≤◌, ◌<◌, ◌+◌, ◌*◌, ◌+ℤ◌, ◌*ℤ◌, All, length, pos};
 ghost use Rattle.lte_bits.specs.Softs.{IsWithin};
 ghost use Rattle.qam_points.specs.Constellation.{IsSmall};
-ghost use Rattle.qam_points.specs.Reception.{received_points};
+ghost use Rattle.qam_points.specs.Reception.{received_points, term_at};
 
 use qam_points::Point;
 
@@ -17,6 +17,24 @@ fn coordinate(amp: u8, level: i32, term: i16) -> i32
     i32::from(amp) * level + i32::from(term)
 }
 
+/// What is received of the point that is sent in symbol `s`.
+#[inline]
+fn received(sent: Point, amp: u8, terms: &[i16], s: usize) -> Point
+    requires amp { amp ≤ 127 }
+    requires small { IsSmall sent }
+    requires near { All (IsWithin 437) terms.now }
+    requires two { 2 * s + 1 < length terms.now }
+    ensures { result ≡ record {
+      i = pos amp *ℤ sent.i +ℤ term_at terms.now (2 * s);
+      q = pos amp *ℤ sent.q +ℤ term_at terms.now (2 * s + 1);
+    } }
+{
+    Point {
+        i: coordinate(amp, sent.i, terms[2 * s]),
+        q: coordinate(amp, sent.q, terms[2 * s + 1]),
+    }
+}
+
 /// Turns points that are sent into those that are received: with an amplitude, and a term on each coordinate.
 pub fn receive(points: &mut [Point], amp: u8, terms: &[i16])
     requires amp { amp ≤ 127 }
@@ -26,10 +44,6 @@ pub fn receive(points: &mut [Point], amp: u8, terms: &[i16])
     ensures { points.new ≡ received_points amp terms.now points.old }
 {
     for s in 0..points.len() {
-        let sent = points[s];
-        points[s] = Point {
-            i: coordinate(amp, sent.i, terms[2 * s]),
-            q: coordinate(amp, sent.q, terms[2 * s + 1]),
-        };
+        points[s] = received(points[s], amp, terms, s);
     }
 }

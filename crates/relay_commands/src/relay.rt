@@ -1,13 +1,13 @@
 //! A stream out of a stream, transmission by transmission.
-ghost use Rattle.std.specs.Prelude.{◌≡◌, ◌<◌, ◌++◌, true, IfOk};
-ghost use Rattle.coded_stream.specs.Blocks.{IsBlock, IsTransmission};
+ghost use Rattle.std.specs.Prelude.{◌≡◌, ◌<◌, ◌≤◌, ◌++◌, true, IfOk, length, take, drop};
+ghost use Rattle.coded_stream.specs.Blocks.{IsBlock, IsTransmission, transmission_size};
 ghost use Rattle.coded_stream.specs.Header.{kind_code};
 ghost use Rattle.coded_stream.specs.Opening.{is_wanted};
 ghost use Rattle.coded_stream.specs.Shown.{header_of};
 ghost use Rattle.stream_loop.specs.Rounds.{block_of};
 ghost use Rattle.relay_commands.specs.Relaying.{Relaying, relayed};
 
-use coded_stream::{Header, Want, length_word, transmission_size, write_header};
+use coded_stream::{Header, Kind, Want, length_word, transmission_size, write_header};
 use edge_io::{Sink, SinkFault};
 use lte_bits::NoMemory;
 use rate_match::Match;
@@ -52,6 +52,16 @@ pub trait Transmitter: Drop {
             (header_of header.now) turn.block turn.number m.now bytes.now) };
 }
 
+/// The bytes of a transmission, and those behind it.
+fn divided<'a>(kind: Kind, m: &Match, bytes: &'a [u8]) -> (&'a [u8], &'a [u8])
+    requires { transmission_size kind m.now.g ≤ length bytes.now }
+    ensures own { result.0.now ≡ take (transmission_size kind m.now.g) bytes.now }
+    ensures behind { result.1.now ≡ drop (transmission_size kind m.now.g) bytes.now }
+{
+    let size = transmission_size(kind, m.g());
+    (&bytes[..size], &bytes[size..])
+}
+
 /// A command by what it sends in place of each transmission.
 #[derive(Drop)]
 pub struct Relay<T: Transmitter> {
@@ -78,7 +88,7 @@ impl<T: Transmitter> Relay<T> {
         let mut rest = bytes;
         for number in 0..header.sends.len() {
             let (m, _) = header.sends.at(number);
-            let (own, after) = rest.split_at(transmission_size(header.kind, m.g()));
+            let (own, after) = divided(header.kind, &m, rest);
             rest = after;
             let turn = Turn { block, number };
             self.transmitter

@@ -1,5 +1,5 @@
-use Rattle.std.proofs.Common.{◌≡◌, ℕ, ◌+◌, ◌++◌, List, map, take, drop, ap, sym, subst, ◌∙◌, arith}
-use Rattle.coded_stream.specs.Blocks.{AreTransmissions, IsTransmission, transmission_size}
+use Rattle.std.proofs.Common.{◌≡◌, ℕ, ◌+◌, ◌++◌, List, map, drop, ap, sym, subst, ◌∙◌}
+use Rattle.coded_stream.specs.Blocks.{AreTransmissions, IsTransmission}
 use Rattle.coded_stream.specs.Header.{word_text}
 use Rattle.coded_stream.specs.Shown.{header_of}
 use Rattle.rate_match.specs.declared.sends.Sending.{Sending}
@@ -8,15 +8,15 @@ use Rattle.relay_commands.specs.Relaying.{sent_from}
 use Rattle.relay_commands.proofs.Turns.{split_turn, sent_on}
 use Rattle.relay_commands.proofs.relay.Relay.text.Goals as goal
 
-pub split_at-requires : goal.split_at-requires
-split_at-requires g c =
+pub divided-requires : goal.divided-requires
+divided-requires g c =
     let h = header_of c.args.header.now in
     let i = c.loop-number.number in
     let s : Sending = record { m = c.at-m.result.0; rv = c.at-m.result.1 } in
     let after = drop (i + 1) h.sends in
     let L : List Sending → Type 0 = λ ss. AreTransmissions h.kind (map (λ x. x.m.g) ss) c.loop-number.rest.now in
     let split = split_turn h.kind s after c.loop-number.rest.now (subst L (turn_at h.sends i s c.at-m.ensures.value) c.loop-number.invariant.left) in
-    omega (arith, split.room, c.transmission_size.ensures, ap (transmission_size h.kind) c.g.ensures.value)
+    split.room
 
 pub push-requires-clause-accepted : goal.push-requires-clause-accepted
 push-requires-clause-accepted g c =
@@ -27,9 +27,8 @@ push-requires-clause-accepted g c =
     let after = drop (i + 1) h.sends in
     let L : List Sending → Type 0 = λ ss. AreTransmissions h.kind (map (λ x. x.m.g) ss) rest in
     let split = split_turn h.kind s after rest (subst L (turn_at h.sends i s c.at-m.ensures.value) c.loop-number.invariant.left) in
-    let size : c.transmission_size.result ≡ transmission_size h.kind s.m.g = c.transmission_size.ensures ∙ ap (transmission_size h.kind) c.g.ensures.value in
     let P : List ℕ → Type 0 = λ xs. IsTransmission h.kind s.m.g xs in
-    subst P (sym (c.split_at.ensures.front ∙ ap (λ n. take n rest) size)) split.own
+    subst P (sym c.divided.ensures.own) split.own
 
 pub loop-number-preserved : goal.loop-number-preserved
 loop-number-preserved g c =
@@ -45,15 +44,14 @@ loop-number-preserved g c =
     let L : List Sending → Type 0 = λ ss. AreTransmissions h.kind (map (λ x. x.m.g) ss) rest in
     let T : List Sending → Type 0 = λ ss. text ++ sent_from w h c.args.block i ss rest ≡ all in
     let split = split_turn h.kind s after rest (subst L here c.loop-number.invariant.left) in
-    let size : c.transmission_size.result ≡ transmission_size h.kind s.m.g = c.transmission_size.ensures ∙ ap (transmission_size h.kind) c.g.ensures.value in
-    let own = c.split_at.ensures.front ∙ ap (λ n. take n rest) size in
-    let others = c.split_at.ensures.back ∙ ap (λ n. drop n rest) size in
+    let own = c.divided.ensures.own in
+    let others = c.divided.ensures.behind in
     let Q : List ℕ → Type 0 = λ xs. AreTransmissions h.kind (map (λ x. x.m.g) after) xs in
-    let sent = w.sent h c.args.block i s.m c.split_at.result.0.now in
+    let sent = w.sent h c.args.block i s.m c.divided.result.0.now in
     let went = sent_on w h c.args.block i s after text all rest sent (subst T here c.loop-number.invariant.text) (ap (w.sent h c.args.block i s.m) own) in
     record {
       left = subst Q (sym others) split.others;
-      text = ap (λ (xs : List ℕ). xs ++ sent_from w h c.args.block (i + 1) after c.split_at.result.1.now) c.in_ok-push.ensures
+      text = ap (λ (xs : List ℕ). xs ++ sent_from w h c.args.block (i + 1) after c.divided.result.1.now) c.in_ok-push.ensures
           ∙ ap (λ (xs : List ℕ). (text ++ sent) ++ sent_from w h c.args.block (i + 1) after xs) others
           ∙ went;
     }
