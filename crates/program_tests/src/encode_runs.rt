@@ -1,7 +1,6 @@
 //! Runs of `encode` over memory, against worked streams.
 use crate::codeword_runs::{BYTE_01, BYTES_00_01};
-use crate::running::{assert_run, run_of, sound};
-use std::alloc::{AllocError, Global};
+use crate::running::{assert_run, joined, run_of, sound};
 use std::test::Fail;
 use turbo_run::Status;
 
@@ -11,14 +10,6 @@ fn header(g: u8) -> [u8; 19] {
     [
         0x4C, 0x54, 0x43, 0x31, 0, 2, 1, 1, 0, 2, 0, 0, 0, g, 0, 0, 0, 0, 0,
     ]
-}
-
-fn joined(alloc: Global, pieces: &[&[u8]]) -> Result<Vec<u8>, AllocError> {
-    let mut bytes = Vec::new(alloc);
-    for piece in pieces {
-        bytes.extend_from_slice(piece)?;
-    }
-    Ok(bytes)
 }
 
 #[test]

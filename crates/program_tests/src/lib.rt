@@ -6,6 +6,8 @@ mod codeword_runs;
 #[cfg(test)]
 mod container;
 #[cfg(test)]
+mod decode_runs;
+#[cfg(test)]
 mod edges;
 #[cfg(test)]
 mod encode_runs;
@@ -18,8 +20,12 @@ mod memory;
 #[cfg(test)]
 mod pairs;
 #[cfg(test)]
+mod relay_runs;
+#[cfg(test)]
 mod running;
 #[cfg(test)]
 mod streams;
+#[cfg(test)]
+mod trial_runs;
 #[cfg(test)]
 mod words;

@@ -48,7 +48,7 @@ fn sink_of(alloc: Global, piece: usize, failing: &[u64]) -> Result<MemSink, Allo
     requires { 1 ≤ piece }
 {
     let mut sink = MemSink::new(alloc, piece, list_of(alloc, failing)?);
-    match sink.reserve(21_000) {
+    match sink.reserve(100_000) {
         Ok(()) => Ok(sink),
         Err(_) => Err(AllocError),
     }
@@ -88,4 +88,26 @@ pub fn assert_run(
         assert_eq!(rt; ran.report.bytes(), want.2.as_bytes(), "of {line}");
     }
     Ok(())
+}
+
+/// Does so where the bytes that one line writes are the input of the next, up to the last line.
+pub fn chain_of(alloc: Global, lines: &[&str], input: &[u8]) -> Result<Option<Ran>, AllocError> {
+    let mut ran: Option<Ran> = None;
+    for line in lines {
+        let next = match &ran {
+            Some(before) => run_of(alloc, line, before.out.bytes(), sound(4096))?,
+            None => run_of(alloc, line, input, sound(4096))?,
+        };
+        ran = Some(next);
+    }
+    Ok(ran)
+}
+
+/// The pieces, one after the other.
+pub fn joined(alloc: Global, pieces: &[&[u8]]) -> Result<Vec<u8>, AllocError> {
+    let mut bytes = Vec::new(alloc);
+    for piece in pieces {
+        bytes.extend_from_slice(piece)?;
+    }
+    Ok(bytes)
 }

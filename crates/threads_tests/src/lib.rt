@@ -6,6 +6,8 @@ mod board;
 #[cfg(test)]
 mod pair_gate;
 #[cfg(test)]
+mod program;
+#[cfg(test)]
 mod shares;
 #[cfg(test)]
 mod workers;
