@@ -12,7 +12,7 @@ use Rattle.qam_points.specs.Reception.{term_at}
 use Rattle.qam_points.proofs.Receiving.{length-mapped}
 use Rattle.qam_points.specs.declared.point.Point.{Point}
 
-pub order : (qm : ℕ) → is_qm qm ≡ true → IsOrder qm
+order : (qm : ℕ) → is_qm qm ≡ true → IsOrder qm
 order qm is =
     elim (or_cases (qm == 2 || qm == 4) (qm == 6) is) [
       | inl h ↦ elim (or_cases (qm == 2) (qm == 4) h) [

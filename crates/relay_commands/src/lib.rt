@@ -1,4 +1,5 @@
-//! The commands that write a stream of the blocks that they read: `channel`, `points`, `scramble` and `upgrade`.
+//! The commands that write a stream of the blocks that they read: `channel`, `points`, `scramble` and
+//! `upgrade`.
 #![tactic(auto)]
 
 mod bits;

@@ -33,7 +33,10 @@ pub fn run_channel<S: Source, D: Sink, R: Sink>(
     requires most { amp ≤ 127 }
     requires few { noise ≤ 127 }
     ensures ended { (input : List ℕ) → S.left source.old ≡ Some input →
-        EndsReply (stream_reply (channel (record { strength = record { amp = amp; noise = noise }; seed = seed })) input)
+        EndsReply (stream_reply (channel (record {
+          strength = record { amp = amp; noise = noise };
+          seed = seed;
+        })) input)
         (held (S.left source.old) (D.held out.old) (R.held report.old))
         (held (S.left source.new) (D.held out.new) (R.held report.new)) result }
     ensures causes { Causes
@@ -61,7 +64,10 @@ pub fn run_points<S: Source, D: Sink, R: Sink>(
     requires most { amp ≤ 127 }
     requires few { noise ≤ 127 }
     ensures ended { (input : List ℕ) → S.left source.old ≡ Some input →
-        EndsReply (stream_reply (points (record { strength = record { amp = amp; noise = noise }; seed = seed })) input)
+        EndsReply (stream_reply (points (record {
+          strength = record { amp = amp; noise = noise };
+          seed = seed;
+        })) input)
         (held (S.left source.old) (D.held out.old) (R.held report.old))
         (held (S.left source.new) (D.held out.new) (R.held report.new)) result }
     ensures causes { Causes
@@ -75,9 +81,9 @@ pub fn run_points<S: Source, D: Sink, R: Sink>(
 }
 
 /// Reads a stream of either kind and version, and writes the same stream with its bits scrambled or its soft
-/// values turned (36.211 5.3.1, 6.3.1): for a terminal's identity, the number of a codeword, 0 or 1, the slot of
-/// the first transmission, 0 to 19, and a cell, 0 to 503. Each transmission has the second slot behind that of
-/// the one before it.
+/// values turned (36.211 5.3.1, 6.3.1): for a terminal's identity, the number of a codeword, 0 or 1, the slot
+/// of the first transmission, 0 to 19, and a cell, 0 to 503. Each transmission is sent two slots behind the
+/// one before it.
 pub fn run_scramble<S: Source, D: Sink, R: Sink>(
     alloc: Global,
     rnti: u16,

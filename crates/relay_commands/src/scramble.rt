@@ -11,8 +11,8 @@ use rate_match::Match;
 use std::alloc::Global;
 use stream_values::{push_bytes, softs_of};
 
-/// Scrambling: a terminal's identity, the number of a codeword, 0 or 1, the slot of the first transmission, 0 to
-/// 19, and a cell, 0 to 503.
+/// Scrambling: a terminal's identity, the number of a codeword, 0 or 1, the slot of the first transmission,
+/// 0 to 19, and a cell, 0 to 503.
 #[derive(Clone, Copy, Debug, Drop)]
 pub struct Scramble {
     pub rnti: u16,
@@ -44,7 +44,12 @@ impl Scramble {
 impl Transmitter for Scramble {
     ghost use Rattle.relay_commands.specs.Scramble.{sending_scrambled};
 
-    ghost relaying = { λ s. sending_scrambled (record { rnti = s.rnti; q = s.q; slot = s.slot; cell = s.cell }) };
+    ghost relaying = { λ s. sending_scrambled (record {
+      rnti = s.rnti;
+      q = s.q;
+      slot = s.slot;
+      cell = s.cell;
+    }) };
 
     fn want(&self) -> Want {
         Want::Any
