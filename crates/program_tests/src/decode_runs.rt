@@ -91,8 +91,12 @@ fn streams_that_are_cut_or_too_long_are_refused(rt: HostRuntime) -> Result<(), F
     let report = format!(in rt.alloc(); "{DELIVERED}bad stream 7 at 159\n")?;
     let ended = (refused(7, 159), [0u8, 0].as_slice(), report.as_str());
     assert_run(&rt, "decode", &input, ended)?;
+    // A stream of the other kind.
     let ended = (refused(2, 4), nothing, "bad stream 2 at 4\n");
-    assert_run(&rt, "channel amp=1 noise=0 seed=0", &input, ended)
+    assert_run(&rt, "channel amp=1 noise=0 seed=0", &input, ended)?;
+    let mut hard = ONE;
+    hard[4] = 0;
+    assert_run(&rt, "decode", &hard, ended)
 }
 
 #[test]

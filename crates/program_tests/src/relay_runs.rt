@@ -123,17 +123,29 @@ fn bits_are_scrambled_and_scrambled_back(rt: HostRuntime) -> Result<(), Fail> {
 
 #[test]
 fn scrambled_streams_are_decoded_in_any_number_of_windows(rt: HostRuntime) -> Result<(), Fail> {
-    let payload = counted(rt.alloc(), 766)?;
     let scramble = "scramble rnti=65535 q=1 slot=19 cell=503";
     let channel = "channel amp=40 noise=0 seed=1";
-    let encode = "encode tb=766 g=18840 qm=2 rv=0";
-    let report =
-        "block 0 delivered bytes 766 transmissions 1 iterations 2\nend blocks 1 delivered 1 failed 0\n";
-    for decode in ["decode windows=1", "decode windows=8", "decode windows=64"] {
-        let plain = [encode, channel, decode];
-        assert_chain(&rt, &plain, &payload, (&payload, report))?;
-        let scrambled = [encode, scramble, channel, scramble, decode];
-        assert_chain(&rt, &scrambled, &payload, (&payload, report))?;
+    let small = counted(rt.alloc(), 2)?;
+    let large = counted(rt.alloc(), 766)?;
+    let rows: [(&str, &[u8], &str); 2] = [
+        (
+            "encode tb=2 g=132 qm=2 rv=0",
+            &small,
+            "block 0 delivered bytes 2 transmissions 1 iterations 1\nend blocks 1 delivered 1 failed 0\n",
+        ),
+        (
+            "encode tb=766 g=18840 qm=2 rv=0",
+            &large,
+            "block 0 delivered bytes 766 transmissions 1 iterations 2\nend blocks 1 delivered 1 failed 0\n",
+        ),
+    ];
+    for (encode, payload, report) in rows {
+        for decode in ["decode windows=1", "decode windows=8", "decode windows=64"] {
+            let plain = [encode, channel, decode];
+            assert_chain(&rt, &plain, payload, (payload, report))?;
+            let scrambled = [encode, scramble, channel, scramble, decode];
+            assert_chain(&rt, &scrambled, payload, (payload, report))?;
+        }
     }
     Ok(())
 }
