@@ -12,4 +12,9 @@ mod running;
 mod scramble;
 mod upgrade;
 
-pub use running::{run_channel, run_points, run_scramble, run_upgrade};
+pub use channel::Channel;
+pub use points::Points;
+pub use relay::{Transmitter, Turn};
+pub use running::run_relay;
+pub use scramble::Scramble;
+pub use upgrade::Upgrade;

@@ -9,7 +9,7 @@ use coded_stream::{Header, Kind};
 use command_words::Command;
 use decode_command::run_decode;
 use edge_io::{Sink, Source};
-use relay_commands::{run_channel, run_points, run_scramble, run_upgrade};
+use relay_commands::{Channel, Points, Scramble, Upgrade, run_relay};
 use run_loop::Status;
 use std::alloc::Global;
 use trial_command::{Trial, run_trial};
@@ -48,9 +48,9 @@ pub fn perform<S: Source, D: Sink, R: Sink>(
             run_decode(alloc, windows, limit, source, out, report)
         }
         Command::Channel { amp, noise, seed } => {
-            run_channel(alloc, amp, noise, seed, source, out, report)
+            run_relay(alloc, Channel { amp, noise, seed }, source, out, report)
         }
-        Command::Upgrade => run_upgrade(alloc, source, out, report),
+        Command::Upgrade => run_relay(alloc, Upgrade, source, out, report),
         Command::Trial {
             seed,
             blocks,
@@ -78,9 +78,18 @@ pub fn perform<S: Source, D: Sink, R: Sink>(
             q,
             slot,
             cell,
-        } => run_scramble(alloc, rnti, q, slot, cell, source, out, report),
+        } => {
+            let scramble = Scramble {
+                rnti,
+                q,
+                slot,
+                cell,
+            };
+            run_relay(alloc, scramble, source, out, report)
+        }
         Command::Points { amp, noise, seed } => {
-            run_points(alloc, amp, noise, seed, source, out, report)
+            let channel = Channel { amp, noise, seed };
+            run_relay(alloc, Points { channel }, source, out, report)
         }
     }
 }

@@ -78,7 +78,7 @@ fn perform_shared<H: Threads + Wait + Sync, G: Gate + Sync, S: Source, D: Sink, 
             windows,
             limit,
             workers,
-        } => run_decode_shared(
+        } if workers > 1 => run_decode_shared(
             rt, alloc, windows, limit, workers, gate, source, out, report,
         ),
         _ => perform(alloc, command, source, out, report),
