@@ -12,6 +12,7 @@ use crate::piece::WindowPiece;
 use crate::running::run_piece;
 use phase_board::{Board, Claim, Finish, Idle, Working};
 use std::sync::Wait;
+use std::thread;
 
 /// Runs the window of a seat, and ends the half if it was the last one.
 fn work<G: Gate>(
@@ -55,7 +56,11 @@ pub fn serve<R: Wait, G: Gate>(
     for _ in rt.forever() {
         match board.claim(seat) {
             Claim::Taken(working) => seat = work(board, working, gate),
-            Claim::NotYet(idle, _) => seat = idle,
+            Claim::NotYet(idle, _) => {
+                // The one that is waited for may be without a processor.
+                thread::yield_now();
+                seat = idle;
+            }
             Claim::Lost(idle, _, _) => seat = idle,
             Claim::Over(idle) => return idle,
         }
