@@ -106,8 +106,8 @@ fn default_of(rule: &Rule) -> Option<Operand>
     Some(Operand { place: 0, numbers })
 }
 
-#[tactic(auto, using(crate::proofs::Ranged::numbers_given))]
 /// The numbers of a value that stands at a place, where they are accepted.
+#[tactic(auto, using(crate::proofs::Ranged::numbers_given))]
 fn accepted(rule: &Rule, place: usize, value: &str) -> Option<Operand>
     ensures value { result ≡ accepted place (numbers_of rule.now value.now) }
     ensures given { IfSome result (λ operand. IsGiven rule.now operand.numbers) }
@@ -132,8 +132,8 @@ pub fn given(rule: &Rule, operands: &[&str]) -> Option<Operand>
     default_of(rule)
 }
 
-#[tactic(auto, using(crate::proofs::Ranged::first_ranged))]
 /// The one number that the operands give for a rule, or its default.
+#[tactic(auto, using(crate::proofs::Ranged::first_ranged))]
 pub fn number_given(rule: &Rule, operands: &[&str]) -> Option<u64>
     requires { HasDefault rule.now }
     ensures value { result ≡ number_given rule.now (texts_of operands.now) }

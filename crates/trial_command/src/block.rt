@@ -16,19 +16,9 @@ use segmentation::plan;
 use soft_channel::noisy;
 use std::alloc::Global;
 
-/// Appends soft values.
-fn append(values: &mut Vec<Soft>, more: &[Soft]) -> Result<(), NoMemory>
-    ensures { IfOk result (λ _. values.new.items ≡ values.old.items ++ more.now) }
-{
-    for value in more {
-        values.push(*value)?;
-    }
-    Ok(())
-}
-
 impl Trial {
-    #[tactic(auto, using(soft_channel::proofs::Lengths::length_noisy))]
     /// Appends what is received of a transmission of a block, both counted from 0.
+    #[tactic(auto, using(soft_channel::proofs::Lengths::length_noisy))]
     fn push_received(
         &self,
         alloc: Global,
@@ -61,7 +51,7 @@ impl Trial {
             block,
             number,
         )?;
-        append(values, softs.as_slice())?;
+        values.extend_from_slice(softs.as_slice())?;
         Ok(())
     }
 

@@ -12,7 +12,7 @@ returns-clause-count c =
     let softs = c.as_slice-2.ensures ∙ c.in_ok-softs.ensures in
     omega (
       arith,
-      ap length c.in_ok-append.ensures,
+      ap length c.in_ok-extend_from_slice.ensures.items,
       length-append c.args.values.now.items c.as_slice-2.result.now,
       ap length softs,
       length_noisy t.strength (transmission t c.args.block c.args.number) bits,
