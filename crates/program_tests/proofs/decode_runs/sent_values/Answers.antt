@@ -1,0 +1,26 @@
+use Rattle.std.proofs.Common.{◌≡◌, ◌<◌, ℕ, length, subst, sym, ap, ◌∙◌, arith}
+use Rattle.lte_bits.specs.declared.block.Block.{Block}
+use Rattle.lte_bits.specs.declared.block.Streams.{Streams}
+use Rattle.sender_model.specs.CircularBuffer.{AreStreams}
+use Rattle.sender_model.specs.CodedStreams.{streams}
+use Rattle.sender_model.specs.Segmentation.{Plan, plan_of, size, fill}
+use Rattle.sender_model.proofs.StreamNulls.{streams-nulls}
+use Rattle.rate_match.proofs.BlockNumbers.{block-numbers}
+use Rattle.program_tests.proofs.decode_runs.sent_values.Goals as goal
+
+placed : (b : Block) (k f : ℕ) → length b.bits ≡ k → b.fill ≡ f → f < k → AreStreams k f (streams b)
+placed b k f size fill below =
+    subst (λ (n : ℕ). AreStreams k n (streams b)) fill
+    (subst (λ (n : ℕ). AreStreams n b.fill (streams b)) size (streams-nulls b (omega (arith, size, fill, below))))
+
+pub select-requires-clause-streams : goal.select-requires-clause-streams
+select-requires-clause-streams g c =
+    let plan = c.in_ok-plan.plan in
+    let p : Plan = plan_of plan.bytes in
+    let r : ℕ = c.args.r in
+    let below : r < plan.c = omega arith in
+    let block = block-numbers plan.bytes r plan.some plan.few (omega (arith, below, plan.block_count)) in
+    let b : Block = record { fill = c.fill.result; bits = c.from_vec.result } in
+    let long : length c.from_vec.result ≡ c.size.result = omega (arith, ap length c.as_slice.ensures) in
+    subst (λ (s : Streams). AreStreams (size p r) (fill p r) s) (sym c.in_ok-streams.ensures)
+    (placed b (size p r) (fill p r) (long ∙ c.size.ensures) c.fill.ensures block.fills)
