@@ -6,6 +6,8 @@ mod codeword_runs;
 #[cfg(test)]
 mod container;
 #[cfg(test)]
+mod decode_faults;
+#[cfg(test)]
 mod decode_runs;
 #[cfg(test)]
 mod edges;
@@ -16,6 +18,8 @@ mod faults;
 #[cfg(test)]
 mod headers;
 #[cfg(test)]
+mod kept_blocks;
+#[cfg(test)]
 mod memory;
 #[cfg(test)]
 mod pairs;
@@ -23,6 +27,8 @@ mod pairs;
 mod relay_runs;
 #[cfg(test)]
 mod running;
+#[cfg(test)]
+mod soft_blocks;
 #[cfg(test)]
 mod streams;
 #[cfg(test)]

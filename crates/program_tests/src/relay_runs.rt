@@ -1,7 +1,7 @@
 //! Runs of `channel`, `upgrade`, `scramble` and `points` over memory, and of several commands in a row.
 use crate::codeword_runs::BYTES_00_01;
-use crate::decode_runs::{END, LENGTH_2, ONE};
 use crate::running::{assert_run, chain_of, joined, run_of, sound};
+use crate::soft_blocks::{END, LENGTH_2, ONE};
 use std::alloc::{AllocError, Global};
 use std::process::Abort;
 use std::test::Fail;

@@ -6,7 +6,7 @@ use Rattle.sender_model.specs.CodedStreams.{streams}
 use Rattle.sender_model.specs.Segmentation.{Plan, plan_of, size, fill}
 use Rattle.sender_model.proofs.StreamNulls.{streams-nulls}
 use Rattle.rate_match.proofs.BlockNumbers.{block-numbers}
-use Rattle.program_tests.proofs.decode_runs.sent_values.Goals as goal
+use Rattle.program_tests.proofs.soft_blocks.sent_values.Goals as goal
 
 placed : (b : Block) (k f : ℕ) → length b.bits ≡ k → b.fill ≡ f → f < k → AreStreams k f (streams b)
 placed b k f size fill below =

@@ -1,0 +1,97 @@
+//! Runs of `decode` in which a read or a write fails.
+use crate::running::{Edges, joined, run_of, sound};
+use crate::soft_blocks::{END, LENGTH_2, ONE, failing_values};
+use std::process::Abort;
+use std::test::Fail;
+use turbo_run::{SinkName, Status};
+
+const LINES: &str =
+    "block 0 delivered bytes 2 transmissions 1 iterations 1\nblock 1 failed transmissions 1 iterations 3\n";
+
+/// A stream of a block that is delivered and one that fails.
+fn two_blocks(rt: &(impl Abort + AllocGlobal)) -> Result<Vec<u8>, Fail> {
+    let values = failing_values(rt)?;
+    Ok(joined(
+        rt.alloc(),
+        &[&ONE, &LENGTH_2, &[0; 132], &LENGTH_2, &values, &END],
+    )?)
+}
+
+#[test]
+fn each_read_fails_in_turn(rt: HostRuntime) -> Result<(), Fail> {
+    let input = two_blocks(&rt)?;
+    // The first line ends behind 55 bytes.
+    let line = &LINES[..55];
+    for n in 0..=input.len() {
+        let calls = [n as u64];
+        let edges = Edges {
+            piece: 1,
+            reads: &calls,
+            outs: &[],
+            reports: &[],
+        };
+        let ran = run_of(rt.alloc(), "decode limit=3", &input, edges)?;
+        assert_eq!(rt; ran.status, Status::ReadFault);
+        let (out, told): (&[u8], &str) = if n < 155 {
+            (&[], "")
+        } else if n < 291 {
+            (&[0, 0], line)
+        } else {
+            (&[0, 0], LINES)
+        };
+        assert_eq!(rt; ran.out.bytes(), out);
+        let told = format!(in rt.alloc(); "{told}read fault\n")?;
+        assert_eq!(rt; ran.report.bytes(), told.as_bytes());
+    }
+    Ok(())
+}
+
+#[test]
+fn each_write_to_out_fails_in_turn(rt: HostRuntime) -> Result<(), Fail> {
+    let input = two_blocks(&rt)?;
+    for n in 0..2u64 {
+        let edges = Edges {
+            piece: 1,
+            reads: &[],
+            outs: &[n],
+            reports: &[],
+        };
+        let ran = run_of(rt.alloc(), "decode limit=3", &input, edges)?;
+        assert_eq!(rt;
+            ran.status,
+            Status::WriteFault {
+                sink: SinkName::Out
+            }
+        );
+        assert_eq!(rt; ran.out.bytes().len() as u64, n);
+        assert_eq!(rt; ran.report.bytes(), b"write fault out\n".as_slice());
+    }
+    Ok(())
+}
+
+#[test]
+fn each_write_to_the_report_fails_in_turn(rt: HostRuntime) -> Result<(), Fail> {
+    let input = two_blocks(&rt)?;
+    let whole = run_of(rt.alloc(), "decode limit=3", &input, sound(1))?;
+    assert_eq!(rt; whole.status, Status::SomeFailed);
+    for n in 0..whole.report.bytes().len() {
+        let calls = [n as u64];
+        let edges = Edges {
+            piece: 1,
+            reads: &[],
+            outs: &[],
+            reports: &calls,
+        };
+        let ran = run_of(rt.alloc(), "decode limit=3", &input, edges)?;
+        assert_eq!(rt;
+            ran.status,
+            Status::WriteFault {
+                sink: SinkName::Report
+            }
+        );
+        assert_eq!(rt; ran.out.bytes(), [0u8, 0].as_slice());
+        let told = whole.report.bytes();
+        assert_eq!(rt; ran.report.bytes(), &told[..n.min(told.len())]);
+    }
+    Ok(())
+}
