@@ -6,6 +6,7 @@ pub mod Matchings
 pub mod Walked
 pub mod Selected
 pub mod CursorSteps
+pub mod Runs
 pub mod BlockStreams
 pub mod Lengths
 pub mod EachSending

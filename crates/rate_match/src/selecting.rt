@@ -1,10 +1,12 @@
 //! Bit selection (36.212 5.1.4.1.2): which bits of a code block are sent.
 ghost use Rattle.std.specs.Prelude.{◌≡◌, ◌≤◌, ◌<◌, ◌+◌, ◌++◌, Contains, IfOk, OnOk, IfSome, Some, map, length};
+ghost use Rattle.std.specs.List.{range_with_len};
 ghost use Rattle.lte_bits.specs.declared.bit.Cell.{Cell};
 ghost use Rattle.sender_model.specs.Interleaver.{sizes};
 ghost use Rattle.sender_model.specs.Segmentation.{plan_of, size, fill};
 ghost use Rattle.sender_model.specs.CircularBuffer.{AreStreams, Fits, buffer_size, cell_at, piece_length, spot, stream_of, w};
 ghost use Rattle.sender_model.specs.Selection.{bit_of_cell, bits_from, holds_bit, repeated, sent};
+ghost use Rattle.rate_match.specs.Cursor.{IsRun};
 
 use crate::cursor::{Cursor, Ring};
 use crate::matching::Match;
@@ -63,6 +65,26 @@ fn bit_at(streams: &Streams, spot: Spot) -> Bit
     bit_of_cell(stream_of(streams, spot.stream)[spot.index])
 }
 
+/// Appends the bits of a run, `count` places from the cursor on.
+fn push_run(
+    bits: &mut Vec<Bit>,
+    streams: &Streams,
+    ring: Ring,
+    cursor: Cursor,
+    count: usize,
+) -> Result<(), NoMemory>
+    requires streams { AreStreams ring.k ring.fill streams.now }
+    requires within { cursor.n + count ≤ ring.size }
+    requires run { IsRun ring.rows ring.k ring.fill cursor count }
+    ensures { OnOk result (bits.new.items ≡ bits.old.items
+        ++ map (λ i. bit_of_cell (w ring.k ring.fill streams.now (cursor.n + i))) (range_with_len 0 count)) }
+{
+    for i in 0..count {
+        bits.push(bit_at(streams, cursor.spot_down(ring, i)))?;
+    }
+    Ok(())
+}
+
 /// Appends the first `count` bits of the streams from place `start` of the ring on, round and round.
 fn push_bits(
     bits: &mut Vec<Bit>,
@@ -84,7 +106,12 @@ fn push_bits(
         if left == 0 {
             return Ok(());
         }
-        if let Some(spot) = cursor.spot(ring) {
+        let run = cursor.run(ring, left);
+        if run > 0 {
+            push_run(bits, streams, ring, cursor, run)?;
+            left -= run;
+            cursor = cursor.down(ring, run - 1);
+        } else if let Some(spot) = cursor.spot(ring) {
             bits.push(bit_at(streams, spot))?;
             left -= 1;
         }
