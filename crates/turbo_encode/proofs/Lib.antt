@@ -1,3 +1,5 @@
-mod CellSteps
 mod TailBits
 mod StreamsMade
+mod FilledCells
+mod FourSteps
+mod Written
