@@ -2,4 +2,5 @@ mod TailBits
 mod StreamsMade
 mod FilledCells
 mod FourSteps
-mod Written
+mod FourWritten
+mod Halves

@@ -1,7 +1,7 @@
 //! One constituent coder over a whole block (36.212 5.1.3.2.1).
 ghost use Rattle.std.specs.Prelude.{◌≡◌, Contains, IfOk, length};
 ghost use Rattle.sender_model.specs.ConstituentCoder.{zero_state, parities};
-ghost use Rattle.sender_model.specs.CodedStreams.{null_filled};
+ghost use Rattle.sender_model.specs.CodedStreams.{cells_of, null_filled};
 ghost use Rattle.sender_model.specs.Interleaver.{sizes};
 ghost use Rattle.sender_model.specs.Tail.{reached};
 
@@ -19,6 +19,39 @@ pub struct Coded {
     pub end: State,
 }
 
+/// Writes the cells of the parity bits, and gives the state in which the coder ends.
+fn write_parities(cells: &mut [Cell], bits: &[Bit]) -> State
+    requires size { Contains sizes (length bits.now) }
+    requires long { length cells.old ≡ length bits.now }
+    ensures cells { cells.new ≡ cells_of (parities bits.now) }
+    ensures end { result ≡ reached zero_state bits.now }
+{
+    let (fours, _) = bits.as_chunks::<4>();
+    let mut state = 0;
+    for (i, four) in fours.iter().enumerate() {
+        let steps = four_steps(state, four);
+        let [a, b, c, d] = steps.cells;
+        cells[4 * i] = a;
+        cells[4 * i + 1] = b;
+        cells[4 * i + 2] = c;
+        cells[4 * i + 3] = d;
+        state = steps.next;
+    }
+    State::new(state as u8).unwrap()
+}
+
+/// Writes the cells of the parity bits, `Null` at the first `fill` places.
+fn write_filled_parities(cells: &mut [Cell], bits: &[Bit], fill: usize) -> State
+    requires size { Contains sizes (length bits.now) }
+    requires long { length cells.old ≡ length bits.now }
+    ensures cells { cells.new ≡ null_filled fill (parities bits.now) }
+    ensures end { result ≡ reached zero_state bits.now }
+{
+    let end = write_parities(cells, bits);
+    write_nulls(cells, fill);
+    end
+}
+
 /// Codes the bits of a block. The cells are `Null` at the first `fill` places, and have room for the
 /// tail.
 pub fn code(alloc: Global, bits: &[Bit], fill: usize) -> Result<Coded, NoMemory>
@@ -26,17 +59,8 @@ pub fn code(alloc: Global, bits: &[Bit], fill: usize) -> Result<Coded, NoMemory>
     ensures cells { IfOk result (λ coded. coded.cells.items ≡ null_filled fill (parities bits.now)) }
     ensures end { IfOk result (λ coded. coded.end ≡ reached zero_state bits.now) }
 {
-    let (fours, _) = bits.as_chunks::<4>();
     let mut cells = Vec::with_capacity(alloc, bits.len() + TAIL)?;
-    let mut state = 0;
-    for four in fours {
-        let steps = four_steps(state, four);
-        cells.extend_from_slice(&steps.cells)?;
-        state = steps.next;
-    }
-    write_nulls(cells.as_mut_slice(), fill);
-    Ok(Coded {
-        cells,
-        end: State::new(state as u8).unwrap(),
-    })
+    cells.resize(bits.len(), Cell::Zero)?;
+    let end = write_filled_parities(cells.as_mut_slice(), bits, fill);
+    Ok(Coded { cells, end })
 }

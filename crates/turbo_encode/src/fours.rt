@@ -11,7 +11,7 @@ ghost use Rattle.turbo_encode.specs.Tables.{entry};
 use lte_bits::{Bit, Cell};
 
 /// The number of the four parity bits: a row for each state, and a place for each four inputs.
-const PARITIES: [[u8; 16]; 8] = [
+static PARITIES: [[u8; 16]; 8] = [
     [0, 1, 3, 2, 7, 6, 4, 5, 15, 14, 12, 13, 8, 9, 11, 10],
     [7, 6, 4, 5, 0, 1, 3, 2, 8, 9, 11, 10, 15, 14, 12, 13],
     [12, 13, 15, 14, 11, 10, 8, 9, 3, 2, 0, 1, 4, 5, 7, 6],
@@ -23,7 +23,7 @@ const PARITIES: [[u8; 16]; 8] = [
 ];
 
 /// The number of the state after four inputs, likewise.
-const NEXT: [[u8; 16]; 8] = [
+static NEXT: [[u8; 16]; 8] = [
     [0, 4, 2, 6, 5, 1, 7, 3, 6, 2, 4, 0, 3, 7, 1, 5],
     [6, 2, 4, 0, 3, 7, 1, 5, 0, 4, 2, 6, 5, 1, 7, 3],
     [3, 7, 1, 5, 6, 2, 4, 0, 5, 1, 7, 3, 0, 4, 2, 6],
@@ -35,7 +35,7 @@ const NEXT: [[u8; 16]; 8] = [
 ];
 
 /// The cells of four bits, in the order of their number.
-const CELLS: [[Cell; 4]; 16] = [
+static CELLS: [[Cell; 4]; 16] = [
     [Cell::Zero, Cell::Zero, Cell::Zero, Cell::Zero],
     [Cell::Zero, Cell::Zero, Cell::Zero, Cell::One],
     [Cell::Zero, Cell::Zero, Cell::One, Cell::Zero],
