@@ -36,10 +36,10 @@ abbrev four : Bit → Bit → Bit → Bit → List Bit
 four a b c d = a ∷ b ∷ c ∷ d ∷ []
 
 abbrev next_test : Bit → Bit → Bit → Bit → Bit → Bit → Bit → Bool
-next_test x y z a b c d = number_of (reached (state_of x y z) (four a b c d)) == entry NEXT (number_of (state_of x y z)) (number (four a b c d))
+next_test x y z a b c d = number_of (reached (state_of x y z) (four a b c d)) == entry NEXT (number (four a b c d)) (number_of (state_of x y z))
 
 abbrev parity_test : Bit → Bit → Bit → Bit → Bit → Bit → Bit → Bool
-parity_test x y z a b c d = number (parities_from (state_of x y z) (four a b c d)) == entry PARITIES (number_of (state_of x y z)) (number (four a b c d))
+parity_test x y z a b c d = number (parities_from (state_of x y z) (four a b c d)) == entry PARITIES (number (four a b c d)) (number_of (state_of x y z))
 
 next_passed : all_bits (λ x. all_bits (λ y. all_bits (λ z. all_bits (λ a. all_bits (λ b. all_bits (λ c. all_bits (λ d. next_test x y z a b c d))))))) ≡ true
 next_passed = refl
@@ -68,24 +68,24 @@ parity-test x y z a b c d =
     (each-bit (λ x. all_bits (λ y. all_bits (λ z. all_bits (λ a. all_bits (λ b. all_bits (λ c. all_bits (λ d. parity_test x y z a b c d))))))) parity_passed x) y) z) a) b) c) d
 
 -- the state after four inputs, and the number of their parity bits
-pub next-entry : (s : State) (bits : List Bit) (n i : ℕ) → length bits ≡ 4 → number_of s ≡ n → i ≡ number bits → number_of (reached s bits) ≡ entry NEXT n i
+pub next-entry : (s : State) (bits : List Bit) (n i : ℕ) → length bits ≡ 4 → number_of s ≡ n → i ≡ number bits → number_of (reached s bits) ≡ entry NEXT i n
 next-entry s [] n i long at is = absurd (omega (arith, long))
 next-entry s (a ∷ []) n i long at is = absurd (omega (arith, long))
 next-entry s (a ∷ b ∷ []) n i long at is = absurd (omega (arith, long))
 next-entry s (a ∷ b ∷ c ∷ []) n i long at is = absurd (omega (arith, long))
 next-entry s (a ∷ b ∷ c ∷ d ∷ []) n i long at is =
-    eqb-true (number_of (reached s (four a b c d))) (entry NEXT (number_of s) (number (four a b c d))) (next-test s.a1 s.a2 s.a3 a b c d)
-    ∙ ap (λ m. entry NEXT m (number (four a b c d))) at ∙ ap (entry NEXT n) (sym is)
+    eqb-true (number_of (reached s (four a b c d))) (entry NEXT (number (four a b c d)) (number_of s)) (next-test s.a1 s.a2 s.a3 a b c d)
+    ∙ ap (entry NEXT (number (four a b c d))) at ∙ ap (λ m. entry NEXT m n) (sym is)
 next-entry s (a ∷ b ∷ c ∷ d ∷ e ∷ rest) n i long at is = absurd (omega (arith, long))
 
-pub parity-entry : (s : State) (bits : List Bit) (n i : ℕ) → length bits ≡ 4 → number_of s ≡ n → i ≡ number bits → number (parities_from s bits) ≡ entry PARITIES n i
+pub parity-entry : (s : State) (bits : List Bit) (n i : ℕ) → length bits ≡ 4 → number_of s ≡ n → i ≡ number bits → number (parities_from s bits) ≡ entry PARITIES i n
 parity-entry s [] n i long at is = absurd (omega (arith, long))
 parity-entry s (a ∷ []) n i long at is = absurd (omega (arith, long))
 parity-entry s (a ∷ b ∷ []) n i long at is = absurd (omega (arith, long))
 parity-entry s (a ∷ b ∷ c ∷ []) n i long at is = absurd (omega (arith, long))
 parity-entry s (a ∷ b ∷ c ∷ d ∷ []) n i long at is =
-    eqb-true (number (parities_from s (four a b c d))) (entry PARITIES (number_of s) (number (four a b c d))) (parity-test s.a1 s.a2 s.a3 a b c d)
-    ∙ ap (λ m. entry PARITIES m (number (four a b c d))) at ∙ ap (entry PARITIES n) (sym is)
+    eqb-true (number (parities_from s (four a b c d))) (entry PARITIES (number (four a b c d)) (number_of s)) (parity-test s.a1 s.a2 s.a3 a b c d)
+    ∙ ap (entry PARITIES (number (four a b c d))) at ∙ ap (λ m. entry PARITIES m n) (sym is)
 parity-entry s (a ∷ b ∷ c ∷ d ∷ e ∷ rest) n i long at is = absurd (omega (arith, long))
 
 -- the cells of four bits

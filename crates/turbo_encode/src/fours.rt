@@ -10,28 +10,44 @@ ghost use Rattle.turbo_encode.specs.Tables.{entry};
 
 use lte_bits::{Bit, Cell};
 
-/// The number of the four parity bits: a row for each state, and a place for each four inputs.
-static PARITIES: [[u8; 16]; 8] = [
-    [0, 1, 3, 2, 7, 6, 4, 5, 15, 14, 12, 13, 8, 9, 11, 10],
-    [7, 6, 4, 5, 0, 1, 3, 2, 8, 9, 11, 10, 15, 14, 12, 13],
-    [12, 13, 15, 14, 11, 10, 8, 9, 3, 2, 0, 1, 4, 5, 7, 6],
-    [11, 10, 8, 9, 12, 13, 15, 14, 4, 5, 7, 6, 3, 2, 0, 1],
-    [14, 15, 13, 12, 9, 8, 10, 11, 1, 0, 2, 3, 6, 7, 5, 4],
-    [9, 8, 10, 11, 14, 15, 13, 12, 6, 7, 5, 4, 1, 0, 2, 3],
-    [2, 3, 1, 0, 5, 4, 6, 7, 13, 12, 14, 15, 10, 11, 9, 8],
-    [5, 4, 6, 7, 2, 3, 1, 0, 10, 11, 9, 8, 13, 12, 14, 15],
+/// The number of the four parity bits: a row for each four inputs, and a place for each state.
+static PARITIES: [[u8; 8]; 16] = [
+    [0, 7, 12, 11, 14, 9, 2, 5],
+    [1, 6, 13, 10, 15, 8, 3, 4],
+    [3, 4, 15, 8, 13, 10, 1, 6],
+    [2, 5, 14, 9, 12, 11, 0, 7],
+    [7, 0, 11, 12, 9, 14, 5, 2],
+    [6, 1, 10, 13, 8, 15, 4, 3],
+    [4, 3, 8, 15, 10, 13, 6, 1],
+    [5, 2, 9, 14, 11, 12, 7, 0],
+    [15, 8, 3, 4, 1, 6, 13, 10],
+    [14, 9, 2, 5, 0, 7, 12, 11],
+    [12, 11, 0, 7, 2, 5, 14, 9],
+    [13, 10, 1, 6, 3, 4, 15, 8],
+    [8, 15, 4, 3, 6, 1, 10, 13],
+    [9, 14, 5, 2, 7, 0, 11, 12],
+    [11, 12, 7, 0, 5, 2, 9, 14],
+    [10, 13, 6, 1, 4, 3, 8, 15],
 ];
 
 /// The number of the state after four inputs, likewise.
-static NEXT: [[u8; 16]; 8] = [
-    [0, 4, 2, 6, 5, 1, 7, 3, 6, 2, 4, 0, 3, 7, 1, 5],
-    [6, 2, 4, 0, 3, 7, 1, 5, 0, 4, 2, 6, 5, 1, 7, 3],
-    [3, 7, 1, 5, 6, 2, 4, 0, 5, 1, 7, 3, 0, 4, 2, 6],
-    [5, 1, 7, 3, 0, 4, 2, 6, 3, 7, 1, 5, 6, 2, 4, 0],
-    [7, 3, 5, 1, 2, 6, 0, 4, 1, 5, 3, 7, 4, 0, 6, 2],
-    [1, 5, 3, 7, 4, 0, 6, 2, 7, 3, 5, 1, 2, 6, 0, 4],
-    [4, 0, 6, 2, 1, 5, 3, 7, 2, 6, 0, 4, 7, 3, 5, 1],
-    [2, 6, 0, 4, 7, 3, 5, 1, 4, 0, 6, 2, 1, 5, 3, 7],
+static NEXT: [[u8; 8]; 16] = [
+    [0, 6, 3, 5, 7, 1, 4, 2],
+    [4, 2, 7, 1, 3, 5, 0, 6],
+    [2, 4, 1, 7, 5, 3, 6, 0],
+    [6, 0, 5, 3, 1, 7, 2, 4],
+    [5, 3, 6, 0, 2, 4, 1, 7],
+    [1, 7, 2, 4, 6, 0, 5, 3],
+    [7, 1, 4, 2, 0, 6, 3, 5],
+    [3, 5, 0, 6, 4, 2, 7, 1],
+    [6, 0, 5, 3, 1, 7, 2, 4],
+    [2, 4, 1, 7, 5, 3, 6, 0],
+    [4, 2, 7, 1, 3, 5, 0, 6],
+    [0, 6, 3, 5, 7, 1, 4, 2],
+    [3, 5, 0, 6, 4, 2, 7, 1],
+    [7, 1, 4, 2, 0, 6, 3, 5],
+    [1, 7, 2, 4, 6, 0, 5, 3],
+    [5, 3, 6, 0, 2, 4, 1, 7],
 ];
 
 /// The cells of four bits, in the order of their number.
@@ -74,18 +90,18 @@ fn number(four: &[Bit; 4]) -> usize
 fn parities(state: usize, inputs: usize) -> usize
     requires state { state < 8 }
     requires inputs { inputs < 16 }
-    ensures { result ≡ entry PARITIES state inputs }
+    ensures { result ≡ entry PARITIES inputs state }
 {
-    usize::from(PARITIES[state][inputs])
+    usize::from(PARITIES[inputs][state])
 }
 
 /// The number of the state after them.
 fn next(state: usize, inputs: usize) -> usize
     requires state { state < 8 }
     requires inputs { inputs < 16 }
-    ensures { result ≡ entry NEXT state inputs }
+    ensures { result ≡ entry NEXT inputs state }
 {
-    usize::from(NEXT[state][inputs])
+    usize::from(NEXT[inputs][state])
 }
 
 /// The cells of the four bits of a number.
