@@ -1,7 +1,7 @@
 -- The bits that a walk has added to others.
-use Rattle.std.proofs.Common.{◌≡◌, ℕ, ◌+◌, ◌*◌, ◌%◌, ◌<◌, ◌≤◌, Bool, true, false, List, [], ◌∷◌, ◌++◌, length, map, ap, sym, ◌∙◌, append_assoc, arith}
+use Rattle.std.proofs.Common.{◌≡◌, ℕ, ◌+◌, ◌-◌, ◌*◌, ◌%◌, ◌<◌, ◌≤◌, Bool, true, false, List, [], ◌∷◌, ◌++◌, length, map, refl, ap, sym, ◌∙◌, append_assoc, arith}
 use Rattle.std.specs.List.{range_with_len}
-use Rattle.std.proofs.lemmas.List.{append-nil, length-append, map-append}
+use Rattle.std.proofs.lemmas.List.{length-append, map-append}
 use Rattle.std.proofs.lemmas.Simd.{map-map}
 use Rattle.std.proofs.lemmas.List.FromFn.{length-map-range_with_len}
 use Rattle.std.proofs.Math.Nat.{mul-le-mul_left}
@@ -75,10 +75,10 @@ pub record IsWalking {X : Type 0} (f : ℕ → X) (keep : ℕ → Bool) (k n cou
   pub at : c ≡ cursor_at rows ((k + gone) % n)
   pub selecting : IsSelecting f keep k n count had gone left has
 
-pub walking_begun : {X : Type 0} (f : ℕ → X) (keep : ℕ → Bool) (k n count : ℕ) (had : List X) (rows : ℕ) (c : Cursor) → c ≡ cursor_at rows (k % n) → IsWalking f keep k n count had rows 0 c count had
-walking_begun f keep k n count had rows c is = record {
+pub walking_begun : {X : Type 0} (f : ℕ → X) (keep : ℕ → Bool) (k n count : ℕ) (rows : ℕ) (c : Cursor) → c ≡ cursor_at rows (k % n) → IsWalking f keep k n count [] rows 0 c (count - 0) []
+walking_begun f keep k n count rows c is = record {
   gone = 0;
   far = omega arith;
   at = is ∙ ap (λ (m : ℕ). cursor_at rows (m % n)) (let e : k ≡ k + 0 = omega arith in e);
-  selecting = record { taken = sym (append-nil had); rest = omega arith };
+  selecting = record { taken = refl; rest = omega arith };
 }

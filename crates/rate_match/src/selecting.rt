@@ -65,59 +65,44 @@ fn bit_at(streams: &Streams, spot: Spot) -> Bit
     bit_of_cell(stream_of(streams, spot.stream)[spot.index])
 }
 
-/// Appends the bits of a run, `count` places from the cursor on.
-fn push_run(
-    bits: &mut Vec<Bit>,
-    streams: &Streams,
-    ring: Ring,
-    cursor: Cursor,
-    count: usize,
-) -> Result<(), NoMemory>
+/// Writes the bits of a run, from the cursor on.
+fn write_run(out: &mut [Bit], streams: &Streams, ring: Ring, cursor: Cursor)
     requires streams { AreStreams ring.k ring.fill streams.now }
-    requires within { cursor.n + count ≤ ring.size }
-    requires run { IsRun ring.rows ring.k ring.fill cursor count }
-    ensures { OnOk result (bits.new.items ≡ bits.old.items
-        ++ map (λ i. bit_of_cell (w ring.k ring.fill streams.now (cursor.n + i))) (range_with_len 0 count)) }
+    requires within { cursor.n + length out.old ≤ ring.size }
+    requires run { IsRun ring.rows ring.k ring.fill cursor (length out.old) }
+    ensures { out.new ≡ map (λ i. bit_of_cell (w ring.k ring.fill streams.now (cursor.n + i)))
+        (range_with_len 0 (length out.old)) }
 {
-    for i in 0..count {
-        bits.push(bit_at(streams, cursor.spot_down(ring, i)))?;
+    for (i, bit) in out.iter_mut().enumerate() {
+        *bit = bit_at(streams, cursor.spot_down(ring, i));
     }
-    Ok(())
 }
 
-/// Appends the first `count` bits of the streams from place `start` of the ring on, round and round.
-fn push_bits(
-    bits: &mut Vec<Bit>,
-    streams: &Streams,
-    ring: Ring,
-    start: usize,
-    count: usize,
-) -> Result<(), NoMemory>
+/// Writes the bits of the streams from place `start` of the ring on, round and round.
+fn write_bits(out: &mut [Bit], streams: &Streams, ring: Ring, start: usize)
     requires streams { AreStreams ring.k ring.fill streams.now }
-    requires few { count ≤ 1000000 }
+    requires few { length out.old ≤ 1000000 }
     requires some { 0 < length (bits_from (holds_bit ring.k ring.fill) start ring.size) }
-    ensures { OnOk result (bits.new.items ≡ bits.old.items
-        ++ map (λ n. bit_of_cell (w ring.k ring.fill streams.now n))
-        (repeated (bits_from (holds_bit ring.k ring.fill) start ring.size) count)) }
+    ensures { out.new ≡ map (λ n. bit_of_cell (w ring.k ring.fill streams.now n))
+        (repeated (bits_from (holds_bit ring.k ring.fill) start ring.size) (length out.old)) }
 {
     let mut cursor = Cursor::at(ring, start % ring.size);
-    let mut left = count;
-    for _step in 0..count * ring.size {
-        if left == 0 {
-            return Ok(());
+    let mut done = 0;
+    for _step in 0..out.len() * ring.size {
+        if done == out.len() {
+            return;
         }
-        let run = cursor.run(ring, left);
+        let run = cursor.run(ring, out.len() - done);
         if run > 0 {
-            push_run(bits, streams, ring, cursor, run)?;
-            left -= run;
+            write_run(&mut out[done..done + run], streams, ring, cursor);
+            done += run;
             cursor = cursor.down(ring, run - 1);
         } else if let Some(spot) = cursor.spot(ring) {
-            bits.push(bit_at(streams, spot))?;
-            left -= 1;
+            out[done] = bit_at(streams, spot);
+            done += 1;
         }
         cursor = cursor.next(ring);
     }
-    Ok(())
 }
 
 /// Appends the bits that redundancy version `rv` sends of the streams of block `r`.
@@ -144,13 +129,15 @@ pub(crate) fn push_piece(
         rows: rows_of(k),
         size,
     };
-    push_bits(
-        bits,
+    let from = bits.len();
+    bits.resize(from + piece_len(m, plan, r), Bit::Zero)?;
+    write_bits(
+        &mut bits.as_mut_slice()[from..],
         streams,
         ring,
         start(k, size, rv),
-        piece_len(m, plan, r),
-    )
+    );
+    Ok(())
 }
 
 /// The E_r bits that redundancy version `rv` sends of block `r`, whose coded streams these are: of
