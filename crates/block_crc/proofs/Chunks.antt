@@ -1,7 +1,8 @@
 -- Bits divided chunk by chunk.
-use Rattle.std.proofs.Common.{◌≡◌, ℕ, zero, suc, ◌+◌, ◌*◌, ◌<◌, List, [], ◌∷◌, ◌++◌, take, drop, get_or, refl, sym, ap, ◌∙◌, arith}
+use Rattle.std.proofs.Common.{◌≡◌, ℕ, ◌+◌, ◌*◌, ◌<◌, List, [], ◌∷◌, ◌++◌, take, drop, get_or, refl, sym, ap, ◌∙◌, arith}
 use Rattle.std.specs.Simd.{first_chunks}
 use Rattle.std.proofs.lemmas.List.{take-append-drop, drop-drop}
+use Rattle.lte_bits.proofs.Chunks.{chunk-at}
 use Rattle.lte_bits.specs.Bits.{digit}
 use Rattle.lte_bits.specs.declared.bit.Bit.{Bit}
 use Rattle.sender_model.specs.CheckBits.{reduced, remainder}
@@ -9,13 +10,6 @@ use Rattle.sender_model.specs.CheckBits.{reduced, remainder}
 remainder-append : (g : ℕ) (xs ys : List Bit) (r : ℕ) → remainder g r (xs ++ ys) ≡ remainder g (remainder g r xs) ys
 remainder-append g [] ys r = refl
 remainder-append g (x ∷ xs) ys r = remainder-append g xs ys (reduced g (2 * r + digit x))
-
-chunk-at : (n k i : ℕ) (xs d : List Bit) → i < k → get_or (first_chunks n k xs) i d ≡ take n (drop (i * n) xs)
-chunk-at n zero i xs d h = absurd (omega (arith, h))
-chunk-at n (suc k) zero xs d h = ap (λ m. take n (drop m xs)) (let e : 0 ≡ 0 * n = omega arith in e)
-chunk-at n (suc k) (suc i) xs d h =
-    chunk-at n k i (drop n xs) d (omega (arith, h))
-    ∙ ap (take n) (drop-drop (i * n) n xs ∙ ap (λ m. drop m xs) (let e : n + i * n ≡ suc i * n = omega arith in e))
 
 -- a chunk more is divided
 pub chunk_more : (g n k i r s : ℕ) (xs d : List Bit) (chunks : List (List Bit)) → i < k → chunks ≡ first_chunks n k xs → s ≡ remainder g r (get_or chunks i d)

@@ -1,7 +1,7 @@
 -- Remainders of sums, by which eight bits are divided at once.
-use Rattle.std.proofs.Common.{◌≡◌, ℕ, zero, suc, ◌+◌, ◌*◌, ◌/◌, ◌%◌, ◌^◌, ◌<◌, ◌≤◌, Bool, true, false, List, [], ◌∷◌, ◌++◌, length, refl, sym, ap, ◌∙◌, inl, inr, arith, bit_xor, cond, nat_lt, eqb, get_or}
+use Rattle.std.proofs.Common.{◌≡◌, ℕ, zero, suc, ◌+◌, ◌*◌, ◌/◌, ◌%◌, ◌^◌, ◌<◌, ◌≤◌, Bool, List, [], ◌∷◌, length, refl, sym, ap, ◌∙◌, inl, inr, arith, bit_xor, cond, eqb, get_or}
 use Rattle.std.specs.Prelude.{replicate, IsTrue}
-use Rattle.std.specs.Int.Bits.{xor_self, xor_zero_l, xor_zero_r, xor_assoc, xor_shifted}
+use Rattle.std.specs.Int.Bits.{xor_zero_l, xor_assoc, xor_shifted}
 use Rattle.std.proofs.lemmas.Bool.{lt-ltb, le-ltb, cases_lt, eqb-true, and_parts}
 use Rattle.std.proofs.lemmas.Nat.{xor_comm, xor_lt, xor_block, pow_pos}
 use Rattle.std.proofs.Math.Nat.{pow-suc, mul-le-mul_left}

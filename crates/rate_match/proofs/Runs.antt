@@ -1,6 +1,5 @@
 -- The places of a run: bits of one column, 32 places apart in their streams.
-use Rattle.std.proofs.Common.{◌≡◌, ℕ, suc, ◌+◌, ◌-◌, ◌*◌, ◌/◌, ◌%◌, ◌<◌, ◌≤◌, min, if◌then◌else◌, slice_index, nat_lt, None, Some, refl, sym, ap, subst, ◌∙◌, inl, inr, arith}
-use Rattle.std.specs.Prelude.{◌==◌}
+use Rattle.std.proofs.Common.{◌≡◌, ℕ, ◌+◌, ◌-◌, ◌*◌, ◌/◌, ◌%◌, ◌<◌, ◌≤◌, min, if◌then◌else◌, slice_index, None, Some, refl, sym, ap, subst, ◌∙◌, inl, inr, arith}
 use Rattle.std.specs.Int.{div_ceil}
 use Rattle.std.proofs.lemmas.Bool.{cases_lt, lt-ltb, le-ltb}
 use Rattle.std.proofs.lemmas.Nat.{div-mul-add, mod-mul-add, mod_below}
@@ -11,7 +10,7 @@ use Rattle.sender_model.proofs.BufferLaws.{spot-first, spot-second, spot-third, 
 use Rattle.sender_model.proofs.PaddedStreams.{column-below}
 use Rattle.rate_match.specs.Cursor.{IsRun, order_of, cursor_at, rows_down, spot_down}
 use Rattle.rate_match.specs.declared.cursor.Cursor.{Cursor}
-use Rattle.rate_match.proofs.CursorSteps.{made, order-first, order-behind, order-below, placed, IsPlaced}
+use Rattle.rate_match.proofs.CursorSteps.{made, order-first, order-behind}
 
 -- ---- down a column
 

@@ -118,17 +118,17 @@ run-found keep k n p a b (suc m) at kept =
     ap (λ q. filter keep (q ∷ rest)) first
     ∙ ap (λ t. cond t ((p + b) ∷ filter keep rest) (filter keep rest)) is
     ∙ ap (λ xs. (p + b) ∷ xs) (run-found keep k n p (a + 1) (b + 1) m
-        (λ i h. ap (λ q. (k + q) % n) (let e : a + 1 + i ≡ a + suc i = omega arith in e) ∙ at (suc i) (omega (arith, h)) ∙ (let e : p + (b + suc i) ≡ p + (b + 1 + i) = omega arith in e))
-        (λ i h. ap keep (let e : p + (b + 1 + i) ≡ p + (b + suc i) = omega arith in e) ∙ kept (suc i) (omega (arith, h))))
+    (λ i h. ap (λ q. (k + q) % n) (let e : a + 1 + i ≡ a + suc i = omega arith in e) ∙ at (suc i) (omega (arith, h)) ∙ (let e : p + (b + suc i) ≡ p + (b + 1 + i) = omega arith in e))
+    (λ i h. ap keep (let e : p + (b + 1 + i) ≡ p + (b + suc i) = omega arith in e) ∙ kept (suc i) (omega (arith, h))))
 
 pub run_kept : (keep : ℕ → Bool) (k n s p m : ℕ) → p ≡ (k + s) % n → p + m ≤ n → ((i : ℕ) → i < m → keep (p + i) ≡ true) → walked keep k n (s + m) ≡ walked keep k n s ++ map (λ i. p + i) (range_with_len 0 m)
 run_kept keep k n s p m is within kept =
     let at : (i : ℕ) → i < m → (k + (0 + s + i)) % n ≡ p + (0 + i) = λ i h. (
-        ap (λ q. q % n) (let e : k + (0 + s + i) ≡ i + (k + s) = omega arith in e)
-        ∙ sym (add-mod-mod i (k + s) n)
-        ∙ ap (λ q. (i + q) % n) (sym is)
-        ∙ mod-eq_of_lt (let below : i + p < n = omega (arith, h, within) in below)
-        ∙ (let e : i + p ≡ p + (0 + i) = omega arith in e)) in
+    ap (λ q. q % n) (let e : k + (0 + s + i) ≡ i + (k + s) = omega arith in e)
+    ∙ sym (add-mod-mod i (k + s) n)
+    ∙ ap (λ q. (i + q) % n) (sym is)
+    ∙ mod-eq_of_lt (let below : i + p < n = omega (arith, h, within) in below)
+    ∙ (let e : i + p ≡ p + (0 + i) = omega arith in e)) in
     walked-split keep k n s m
     ∙ ap (λ xs. walked keep k n s ++ xs) (run-found keep k n p (0 + s) 0 m at (λ i h. ap keep (let e : p + (0 + i) ≡ p + i = omega arith in e) ∙ kept i h))
 

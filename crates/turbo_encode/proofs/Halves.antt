@@ -1,12 +1,12 @@
 -- Places half a block apart take their bits from places half a block apart.
-use Rattle.std.proofs.Common.{◌≡◌, ◌≢◌, ℕ, ◌+◌, ◌-◌, ◌*◌, ◌%◌, ◌/◌, ◌<◌, ◌≤◌, Contains, sym, ap, subst, ◌∙◌, ◌⊎◌, inl, inr, refl, arith}
+use Rattle.std.proofs.Common.{◌≡◌, ℕ, ◌+◌, ◌-◌, ◌*◌, ◌%◌, ◌/◌, ◌<◌, ◌≤◌, Contains, sym, ap, subst, ◌∙◌, inl, inr, arith}
 use Prim.Native.Nat.{◌∣◌}
-use Rattle.std.specs.Prelude.{nat_lt, if◌then◌else◌, ◌==◌}
+use Rattle.std.specs.Prelude.{if◌then◌else◌}
 use Rattle.std.proofs.lemmas.Bool.{cases_lt, lt-ltb, le-ltb}
 use Rattle.std.proofs.Math.Nat.{dvd-mul_right, mod-eq_of_lt, add-mod_right}
 use Rattle.sender_model.specs.Interleaver.{Lawful, pi, place, row_of, sizes}
 use Rattle.sender_model.specs.InterleaverLaws.{pi_below, pi_differs, pi_remainder}
-use Rattle.sender_model.proofs.RowLaws.{lawful-of_size, range-of_size}
+use Rattle.sender_model.proofs.RowLaws.{lawful-of_size}
 use Rattle.turbo_encode.specs.Across.{across}
 use Rattle.turbo_encode.proofs.FourSteps.{size-whole}
 
@@ -41,7 +41,7 @@ pi_across k f1 f2 w i law whole below =
     let qb : q < w + w = omega (arith, pi_below k f1 f2 (i + w) some, whole) in
     ap (pi k f1 f2) (let e : w + i ≡ i + w = omega arith in e)
     ∙ opposite w p q pb qb (pi_remainder k f1 f2 w i divides)
-        (λ e. let same : i + w ≡ i = pi_differs k f1 f2 (i + w) i law (omega (arith, whole, below)) (omega (arith, whole, below)) e in omega (arith, same, below))
+    (λ e. let same : i + w ≡ i = pi_differs k f1 f2 (i + w) i law (omega (arith, whole, below)) (omega (arith, whole, below)) e in omega (arith, same, below))
 
 pub half-whole : (k : ℕ) → Contains sizes k → k / 2 + k / 2 ≡ k
 half-whole k inside = omega (arith, size-whole k inside)

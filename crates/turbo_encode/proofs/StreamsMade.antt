@@ -1,6 +1,5 @@
 -- The streams from the cells of the coders and the states in which they ended.
-use Rattle.std.proofs.Common.{◌≡◌, ℕ, ◌+◌, ◌*◌, ◌%◌, ◌<◌, List, [], ◌∷◌, ◌++◌, length, refl, sym, ap, ◌∙◌, arith}
-use Rattle.std.proofs.Math.Nat.{mod-eq_of_lt}
+use Rattle.std.proofs.Common.{◌≡◌, ℕ, ◌+◌, List, [], ◌∷◌, ◌++◌, length, sym, ap, ◌∙◌, arith}
 use Rattle.std.specs.Prelude.{if◌then◌else◌}
 use Rattle.std.proofs.lemmas.Bool.{le-ltb}
 use Rattle.std.proofs.lemmas.List.{get_or-map, length-map}
@@ -14,7 +13,7 @@ use Rattle.lte_bits.specs.declared.block.Streams.{Streams}
 use Rattle.sender_model.specs.Bits.{at}
 use Rattle.sender_model.specs.ConstituentCoder.{State, zero_state, values, parities, tail_x, tail_z}
 use Rattle.sender_model.specs.CodedStreams.{cells_of, filled_cell, null_filled, tail_0, tail_1, tail_2, coded, interleaved}
-use Rattle.sender_model.specs.Interleaver.{pi, row_of, place}
+use Rattle.sender_model.specs.Interleaver.{place}
 use Rattle.sender_model.specs.Tail.{reached, tail_input, tail_parity}
 use Rattle.sender_model.proofs.TailSteps.{tail_x-after, tail_z-after}
 use Rattle.turbo_encode.proofs.TailBits.{four}

@@ -90,6 +90,6 @@ returns c =
     ∙ same_chosen c.args.streams.now c.size-k.ensures c.fill.ensures from c.buffer_len-size.ensures.value c.piece_len.ensures.value in
     let long : length new ≡ c.piece_len.result = ap length is ∙ sent-long p c.args.m.now c.args.streams.now c.args.r c.args.rv ∙ sym c.piece_len.ensures.value in
     behind_written c.len-from.result c.piece_len.result c.resize.new.self.len had now new _ _ first c.in_ok-resize.ensures.len long
-        (longer-kept c.len-from.result c.piece_len.result Zero had now c.resize.new.self.items first c.as_mut_slice.ensures.value
-        (c.in_ok-resize.ensures.items ∙ ap (λ (m : ℕ). take (c.len-from.result + c.piece_len.result) had ++ replicate (c.len-from.result + c.piece_len.result - m) Zero) (sym c.len-from.ensures)))
+    (longer-kept c.len-from.result c.piece_len.result Zero had now c.resize.new.self.items first c.as_mut_slice.ensures.value
+    (c.in_ok-resize.ensures.items ∙ ap (λ (m : ℕ). take (c.len-from.result + c.piece_len.result) had ++ replicate (c.len-from.result + c.piece_len.result - m) Zero) (sym c.len-from.ensures)))
     ∙ ap (λ (bits : List Bit). had ++ bits) is

@@ -1,4 +1,4 @@
-use Rattle.std.proofs.Common.{ℕ, ◌≡◌, ◌<◌, ◌≤◌, ◌+◌, ◌-◌, ◌*◌, ◌%◌, Bool, true, List, [], ◌∷◌, ◌++◌, length, map, take, drop, ap, sym, subst, ◌∙◌, is_some, arith}
+use Rattle.std.proofs.Common.{ℕ, ◌≡◌, ◌<◌, ◌≤◌, ◌+◌, ◌-◌, ◌*◌, ◌%◌, Bool, List, [], ◌∷◌, ◌++◌, length, map, take, drop, ap, sym, subst, ◌∙◌, is_some, arith}
 use Rattle.std.specs.List.{range_with_len}
 use Rattle.std.proofs.lemmas.List.{length-map, length-take-le, take_all, take_more_set}
 use Rattle.std.proofs.lemmas.List.FromFn.{length-map-range_with_len}
@@ -44,7 +44,7 @@ returns-then-done-out c =
     let count : ℕ = length c.args.out.now in
     sym (take_all step.done step.out (omega (arith, c.if-done-out.true)))
     ∙ selected_done (bit_in c.args.streams.now ring.k ring.fill) (holds_bit ring.k ring.fill) c.args.start ring.size count [] walking.gone (count - step.done) (take step.done step.out)
-        walking.selecting ring.some (omega (arith, c.if-done-out.true, step.auto.out))
+    walking.selecting ring.some (omega (arith, c.if-done-out.true, step.auto.out))
 
 pub returns : goal.returns
 unfolding bit_in
@@ -58,7 +58,7 @@ returns c =
     let far : count * ring.size ≤ walking.gone = omega (arith, c.loop-step-test.false, walking.far, step.auto.out) in
     let is : take step.done step.out ≡ map f (repeated v count) =
     selected_all f (holds_bit ring.k ring.fill) c.args.start ring.size count [] walking.gone (count - step.done) (take step.done step.out)
-        walking.selecting ring.some far c.requires.some in
+    walking.selecting ring.some far c.requires.some in
     let all : step.done ≡ count = omega (arith, ap length is, length-take-le step.done step.out step.invariant.within, length-map (repeated v count) f, repeated-long v count) in
     sym (take_all step.done step.out (omega (arith, all, step.auto.out))) ∙ is
 

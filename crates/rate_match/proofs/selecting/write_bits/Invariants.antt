@@ -1,4 +1,4 @@
-use Rattle.std.proofs.Common.{◌≡◌, ◌+◌, ◌-◌, ◌≤◌, [], length, take}
+use Rattle.std.proofs.Common.{◌-◌, ◌≤◌, [], length, take}
 use Rattle.sender_model.specs.CircularBuffer.{w}
 use Rattle.sender_model.specs.Selection.{bit_of_cell, holds_bit}
 use Rattle.rate_match.proofs.Selected.{IsWalking}

@@ -1,11 +1,10 @@
-use Rattle.std.proofs.Common.{◌≡◌, ◌+◌, ◌*◌, ◌/◌, ◌<◌, ◌≤◌, ◌++◌, ℕ, List, length, take, sym, ap, subst, ◌∙◌, arith}
+use Rattle.std.proofs.Common.{◌≡◌, ◌+◌, ◌*◌, ◌/◌, ◌<◌, ◌≤◌, ℕ, List, length, take, sym, ap, subst, ◌∙◌, arith}
 use Rattle.std.specs.Prelude.{IfSome}
-use Rattle.std.proofs.lemmas.List.{take_all, length-map}
-use Rattle.lte_bits.specs.Bits.{cell_of}
+use Rattle.std.proofs.lemmas.List.{take_all}
 use Rattle.lte_bits.specs.declared.bit.Bit.{Bit}
 use Rattle.lte_bits.specs.declared.bit.Cell.{Cell}
 use Rattle.lte_bits.proofs.Chunks.{take-chunk}
-use Rattle.sender_model.specs.ConstituentCoder.{zero_state, parities, parities_from}
+use Rattle.sender_model.specs.ConstituentCoder.{zero_state, parities}
 use Rattle.sender_model.specs.CodedStreams.{cells_of}
 use Rattle.sender_model.specs.Tail.{reached}
 use Rattle.rsc_trellis.specs.Number.{number_of}

@@ -1,5 +1,4 @@
 use Rattle.std.proofs.Common.{◌≡◌, ◌∙◌, ◌^◌, length, sym, ap, arith}
-use Rattle.lte_bits.specs.Bits.{number}
 use Rattle.sender_model.specs.ConstituentCoder.{parities_from}
 use Rattle.sender_model.specs.Tail.{reached}
 use Rattle.sender_model.proofs.BitNumbers.{number-lt}

@@ -1,4 +1,4 @@
-use Rattle.std.proofs.Common.{◌≡◌, ◌/◌, ◌<◌, length, ◌∙◌, arith}
+use Rattle.std.proofs.Common.{◌/◌, ◌<◌, length, ◌∙◌, arith}
 use Rattle.block_crc.proofs.Chunks.{chunk_more}
 use Rattle.block_crc.proofs.generator.Generator.remainder.Goals as goal
 
