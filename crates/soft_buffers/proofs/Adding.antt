@@ -170,7 +170,7 @@ adding_run w had steps taken has p (suc m) bits part is at within bit inside lon
     let here : p + m ≡ (w.start + (steps + m)) % w.n = place_within w.start steps w.n p m at (omega (arith, within)) in
     let old : List ℤ = with_values w.k bits part m has in
     let more = adding_kept w had (steps + m) (taken + m) (taken + m + 1) old (with_values w.k bits part (suc m) has) (p + m) (bits m) (pos 0) before here (bit m last) (inside m last) long (omega (arith, few)) refl
-        (ap (λ (v : ℤ). set old (cell_index w.k (bits m)) (added (cell_of w.k old (bits m)) v)) (from m last)) in
+    (ap (λ (v : ℤ). set old (cell_index w.k (bits m)) (added (cell_of w.k old (bits m)) v)) (from m last)) in
     let P : ℕ → ℕ → Type 0 = λ a b. IsAdding w had a b (with_values w.k bits part (suc m) has) in
     subst (λ (a : ℕ). P a (taken + suc m)) (let e : steps + m + 1 ≡ steps + suc m = omega arith in e) (subst (λ (b : ℕ). P (steps + m + 1) b) (let e : taken + m + 1 ≡ taken + suc m = omega arith in e) more)
 

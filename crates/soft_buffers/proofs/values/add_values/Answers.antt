@@ -6,8 +6,6 @@ use Rattle.rate_match.specs.declared.cursor.Cursor.{Cursor}
 use Rattle.rate_match.proofs.Parts.{part-long}
 use Rattle.rate_match.proofs.Runs.{run-inside}
 use Rattle.rate_match.proofs.Walked.{next_place, place_behind}
-use Rattle.receiver_model.specs.SoftCells.{added}
-use Rattle.soft_buffers.specs.Buffers.{IsBit}
 use Rattle.soft_buffers.specs.Runs.{with_values}
 use Rattle.soft_buffers.proofs.Adding.{AreFrom, Course, IsAdding, changed, course, adding_done, adding_all, adding_left, adding_kept, adding_run, walking_begun}
 use Rattle.soft_buffers.proofs.values.add_values.Goals as goal
@@ -70,8 +68,8 @@ loop-step-preserved c =
           let end : c.if-run-gt0.cursor.n ≡ n + (run - 1) = ap (λ (c : Cursor). c.n) (v.cursor-is ∙ v.down-cursor.ensures) in
           let is : c.if-run-gt0.cells ≡ with_values ring.k bits part run step.cells = v.cells-is ∙ v.add_run.ensures ∙ ap (λ (m : ℕ). with_values ring.k bits part m step.cells) long in
           let all = adding_run w c.args.cells.now gone step.taken step.cells n run bits part step.invariant.adding here c.run-run.ensures.within (λ i h. c.run-run.ensures.run.bits i h)
-              (λ i h. let t = run-inside ring.k ring.fill (n + i) ring.size (bits i) (bits i) (omega (arith, h, c.run-run.ensures.within)) ring.within (c.run-run.ensures.run.bits i h) refl in record { stream = t.0; index = t.1 })
-              c.requires.cells fits (part-from values step.taken run fits) in
+          (λ i h. let t = run-inside ring.k ring.fill (n + i) ring.size (bits i) (bits i) (omega (arith, h, c.run-run.ensures.within)) ring.within (c.run-run.ensures.run.bits i h) refl in record { stream = t.0; index = t.1 })
+          c.requires.cells fits (part-from values step.taken run fits) in
           record {
             gone = gone + run;
             far = omega (arith, step.invariant.far, some);
