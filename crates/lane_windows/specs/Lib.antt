@@ -1,0 +1,4 @@
+pub mod Banks
+pub mod Crossings
+pub mod Lanes
+pub mod Progress

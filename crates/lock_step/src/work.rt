@@ -1,0 +1,47 @@
+//! Room for windows that run in lock step.
+ghost use Rattle.std.specs.Prelude.{◌≡◌, ◌≤◌, IfOk};
+ghost use Rattle.lock_step.specs.Lanes.{IsLaneCount};
+
+use crate::lane::Lane;
+use lte_bits::NoMemory;
+use std::alloc::Global;
+use std::marker::Model;
+use window_decode::Work;
+
+/// Room for N windows of up to some width.
+#[derive(Drop)]
+pub struct LaneWork<const N: usize> {
+    pub(crate) work: Work,
+    pub(crate) lane: Lane,
+}
+
+impl<const N: usize> Model for LaneWork<N> {
+    ghost use Rattle.std.specs.Prelude.{◌≡◌, ℕ, ◌≤◌, length};
+
+    ghost Value = { ℕ };
+
+    ghost view = { λ w. w.work };
+
+    ghost invariant = { λ w. (length w.lane.cells.items ≡ w.work) × (w.work ≤ 768) };
+}
+
+impl<const N: usize> LaneWork<N> {
+    /// Room for windows of up to `width` positions; `width` is 8 to 768.
+    pub fn new(alloc: Global, width: usize) -> Result<LaneWork<N>, NoMemory>
+        requires lanes { IsLaneCount N }
+        requires least { 8 ≤ width }
+        requires most { width ≤ 768 }
+        ensures { IfOk result (λ work. work ≡ width) }
+    {
+        let work = Work::new(alloc, width)?;
+        let lane = Lane::new(alloc, width)?;
+        Ok(LaneWork { work, lane })
+    }
+
+    /// The greatest width for which there is room.
+    pub fn room(&self) -> usize
+        ensures { result ≡ self.now }
+    {
+        self.work.room()
+    }
+}
