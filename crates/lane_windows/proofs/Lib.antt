@@ -1,0 +1,3 @@
+pub mod BankCells
+pub mod BankRows
+pub mod Columns

@@ -1,4 +1,4 @@
 pub mod Banks
+pub mod Borders
 pub mod Crossings
 pub mod Lanes
-pub mod Progress

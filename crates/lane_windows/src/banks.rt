@@ -6,9 +6,9 @@ ghost use Rattle.receiver_model.specs.Windows.{cell_at, zero_cell};
 ghost use Rattle.receiver_model.specs.Decoding.{decided_bits};
 ghost use Rattle.lock_step.specs.Lanes.{IsLaneCount};
 
-use crate::cells::{joined, split};
+use crate::cells::{lane_bit, lane_cell, split};
+use crate::zeros::zero_rows;
 use lte_bits::{Bit, List, NoMemory};
-use serial_decode::bits::decided;
 use std::alloc::Global;
 use std::marker::Model;
 use window_decode::Ext;
@@ -42,8 +42,8 @@ impl<const N: usize> Banks<N> {
         requires most { width ≤ 768 }
         ensures { IfOk result (λ banks. banks ≡ replicate (N * width) zero_cell) }
     {
-        let values = vec![in alloc; [0i16; N]; width]?;
-        let sums = vec![in alloc; [0i16; N]; width]?;
+        let values = zero_rows(alloc, width)?;
+        let sums = zero_rows(alloc, width)?;
         Ok(Banks { values, sums })
     }
 
@@ -84,7 +84,7 @@ impl<const N: usize> Banks<N> {
         let sums = &self.sums[r];
         let mut row = [Ext::ZERO; N];
         for b in 0..N {
-            row[b] = joined(values[b], sums[b]);
+            row[b] = lane_cell(values, sums, b);
         }
         row
     }
@@ -94,11 +94,11 @@ impl<const N: usize> Banks<N> {
         requires { r < length self.old / N }
         ensures long { length self.new ≡ length self.old }
         ensures row { (b : ℕ) → b < N
-            → cell_at self.new (b * (length self.old / N) + r) ≡ cell_at row b }
+            → cell_at self.new (b * (length self.old / N) + r) ≡ cell_at row.entry b }
         ensures others { (i : ℕ) → i % (length self.old / N) ≢ r
             → cell_at self.new i ≡ cell_at self.old i }
     {
-        split(row, &mut self.values[r], &mut self.sums[r]);
+        split(&row, &mut self.values[r], &mut self.sums[r]);
     }
 
     /// The cell of place `n`, which is below N*W.
@@ -109,7 +109,7 @@ impl<const N: usize> Banks<N> {
         let width = self.values.len();
         let values = &self.values[n % width];
         let sums = &self.sums[n % width];
-        joined(values[n / width], sums[n / width])
+        lane_cell(values, sums, n / width)
     }
 
     /// Leaves the decided bits by place, with the first `fill` of them 0.
@@ -123,7 +123,7 @@ impl<const N: usize> Banks<N> {
         let mut bank = 0;
         for (i, bit) in bits.iter_mut().enumerate() {
             let sums = &self.sums[row];
-            *bit = decided(i < fill, sums[bank] < 0);
+            *bit = lane_bit(fill, i, sums, bank);
             row += 1;
             if row == width {
                 row = 0;

@@ -1,21 +1,32 @@
 //! Cells as numbers: a value, and a sum that is negative exactly where the decided bit is 1.
-ghost use Rattle.std.specs.Prelude.{◌≡◌, ℕ, ◌<◌, ◌≤◌, pos, int_lt, length, map};
-ghost use Rattle.std.specs.List.{range_with_len};
+ghost use Rattle.std.specs.Prelude.{◌≡◌, ℕ, ◌<◌, pos, int_lt};
 ghost use Rattle.lte_bits.specs.Softs.{IsWithin};
 ghost use Rattle.receiver_model.specs.Borders.{at};
-ghost use Rattle.receiver_model.specs.Windows.{Extrinsic, cell_at};
+ghost use Rattle.receiver_model.specs.Windows.{cell_at};
+ghost use Rattle.lane_windows.specs.Banks.{cell_of, bit_at_place};
 
+use lte_bits::Bit;
+use serial_decode::bits::decided;
 use window_decode::Ext;
 
-/// The cell of a value, decided by a sum.
-pub fn joined(value: i16, sum: i16) -> Ext
-    requires { IsWithin 511 value }
-    ensures { result ≡ record { value = value; one = int_lt sum (pos 0) } }
+/// The cell of a lane, decided by its sum.
+pub fn lane_cell<const N: usize>(values: &[i16; N], sums: &[i16; N], b: usize) -> Ext
+    requires lane { b < N }
+    requires within { IsWithin 511 (at values.now b) }
+    ensures { result ≡ cell_of (at values.now b) (at sums.now b) }
 {
     Ext {
-        value,
-        one: sum < 0,
+        value: values[b],
+        one: sums[b] < 0,
     }
+}
+
+/// The decided bit of place `i` in a lane: 0 at the first `fill` places.
+pub fn lane_bit<const N: usize>(fill: usize, i: usize, sums: &[i16; N], b: usize) -> Bit
+    requires { b < N }
+    ensures { result ≡ bit_at_place fill i (at sums.now b) }
+{
+    decided(i < fill, sums[b] < 0)
 }
 
 /// A sum that decides a bit.
@@ -26,9 +37,9 @@ fn sum_of(one: bool) -> i16
 }
 
 /// Leaves the values and the sums of a row of cells.
-pub fn split<const N: usize>(row: [Ext; N], values: &mut [i16; N], sums: &mut [i16; N])
-    ensures value { (b : ℕ) → b < N → at values.new b ≡ (cell_at row b).value }
-    ensures sum { (b : ℕ) → b < N → int_lt (at sums.new b) (pos 0) ≡ (cell_at row b).one }
+pub fn split<const N: usize>(row: &[Ext; N], values: &mut [i16; N], sums: &mut [i16; N])
+    ensures value { (b : ℕ) → b < N → at values.new b ≡ (cell_at row.now b).value }
+    ensures sum { (b : ℕ) → b < N → int_lt (at sums.new b) (pos 0) ≡ (cell_at row.now b).one }
     ensures within { (b : ℕ) → IsWithin 511 (at values.new b) }
 {
     for b in 0..N {

@@ -5,7 +5,7 @@ ghost use Rattle.cell_shares.specs.Orders.{place_in, IsOrderOf};
 ghost use Rattle.lock_step.specs.Lanes.{IsLaneCount};
 ghost use Rattle.lane_windows.specs.Crossings.{IsTable};
 
-use crate::crossbar::crossbar;
+use crate::steps::crossbar;
 use crate::crossings::Crossings;
 use cell_shares::Order;
 use lte_bits::NoMemory;

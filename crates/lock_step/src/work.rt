@@ -2,7 +2,6 @@
 ghost use Rattle.std.specs.Prelude.{◌≡◌, ◌≤◌, IfOk};
 ghost use Rattle.lock_step.specs.Lanes.{IsLaneCount};
 
-use crate::lane::Lane;
 use lte_bits::NoMemory;
 use std::alloc::Global;
 use std::marker::Model;
@@ -12,7 +11,6 @@ use window_decode::Work;
 #[derive(Drop)]
 pub struct LaneWork<const N: usize> {
     pub(crate) work: Work,
-    pub(crate) lane: Lane,
 }
 
 impl<const N: usize> Model for LaneWork<N> {
@@ -22,7 +20,7 @@ impl<const N: usize> Model for LaneWork<N> {
 
     ghost view = { λ w. w.work };
 
-    ghost invariant = { λ w. (length w.lane.cells.items ≡ w.work) × (w.work ≤ 768) };
+    ghost invariant = { λ w. w.work ≤ 768 };
 }
 
 impl<const N: usize> LaneWork<N> {
@@ -34,8 +32,7 @@ impl<const N: usize> LaneWork<N> {
         ensures { IfOk result (λ work. work ≡ width) }
     {
         let work = Work::new(alloc, width)?;
-        let lane = Lane::new(alloc, width)?;
-        Ok(LaneWork { work, lane })
+        Ok(LaneWork { work })
     }
 
     /// The greatest width for which there is room.

@@ -1,0 +1,45 @@
+-- Rows of numbers, lane by lane.
+use Rattle.std.proofs.Common.{◌≡◌, ◌≢◌, ℕ, ◌+◌, ◌*◌, ◌<◌, ◌≤◌, ℤ, pos, List, [], length, get_or, set, map, sym, ap, ◌∙◌, subst, arith, inl, inr, get_or-set_other, get_or-set_same}
+use Rattle.std.specs.List.{range_with_len}
+use Rattle.std.proofs.lemmas.Int.{ints}
+use Rattle.std.proofs.lemmas.Bool.{cases_eq}
+use Rattle.std.proofs.lemmas.List.{ext_get_or, get_or-map, get_or_past, length-map}
+use Rattle.std.proofs.lemmas.List.FromFn.{fill_by_all, length-map-range_with_len, get_or-map-range_with_len}
+use Rattle.lte_bits.specs.Softs.{IsWithin}
+use Rattle.receiver_model.specs.Borders.{at}
+use Rattle.lock_step.specs.Lanes.{column, AreWithin}
+use Rattle.lane_windows.specs.Banks.{number_in}
+
+-- past the end of a list there are zeros
+pub within-past : (n : ℕ) (xs : List ℤ) (b : ℕ) → length xs ≤ b → IsWithin n (at xs b)
+within-past n xs b le = subst (IsWithin n) (sym (get_or_past xs b (pos 0) le)) (omega (arith, ints), omega (arith, ints))
+
+-- a number of a column
+pub at-column : (t j : ℕ) (rows : List (List ℤ)) → j < length rows → at (column t rows) j ≡ number_in rows j t
+at-column t j rows lt = get_or-map (λ (row : List ℤ). at row t) rows j [] (pos 0) lt
+
+pub length-column : (t : ℕ) (rows : List (List ℤ)) → length (column t rows) ≡ length rows
+length-column t rows = length-map rows (λ (row : List ℤ). at row t)
+
+-- a column whose numbers are known
+pub column-is : (t : ℕ) (rows : List (List ℤ)) (f : ℕ → ℤ) (from w : ℕ) → length rows ≡ w
+    → ((j : ℕ) → j < w → number_in rows j t ≡ f (from + j)) → column t rows ≡ map f (range_with_len from w)
+column-is t rows f from w long same =
+    ext_get_or (pos 0) _ _ (length-column t rows ∙ (long ∙ sym (length-map-range_with_len f from w)))
+    (λ j lt. let h : j < w = omega (arith, length-column t rows, long, lt) in
+    at-column t j rows (omega (arith, long, h)) ∙ (same j h ∙ sym (get_or-map-range_with_len f from w j (from + j) (pos 0) h (omega arith))))
+
+-- a row is replaced
+pub number-in_same : (rows : List (List ℤ)) (r b : ℕ) (row : List ℤ) → r < length rows → number_in (set rows r row) r b ≡ at row b
+number-in_same rows r b row lt = ap (λ (xs : List ℤ). at xs b) (get_or-set_same rows r row [] lt)
+
+pub number-in_other : (rows : List (List ℤ)) (r s b : ℕ) (row : List ℤ) → s ≢ r → number_in (set rows r row) s b ≡ number_in rows s b
+number-in_other rows r s b row ne = ap (λ (xs : List ℤ). at xs b) (get_or-set_other rows r s row [] ne)
+
+-- and all stay within
+pub within-set : (n : ℕ) (rows : List (List ℤ)) (r : ℕ) (row : List ℤ) → r < length rows → AreWithin n rows → ((b : ℕ) → IsWithin n (at row b)) → AreWithin n (set rows r row)
+within-set n rows r row lt all here j t =
+    elim (cases_eq j r) [
+      | inl e ↦ subst (λ (k : ℕ). IsWithin n (number_in (set rows r row) k t)) (sym e) (subst (IsWithin n) (sym (number-in_same rows r t row lt)) (here t))
+      | inr ne ↦ subst (IsWithin n) (sym (number-in_other rows r j t row ne)) (all j t)
+    ]
