@@ -53,6 +53,9 @@ lanes-few n (inr (inr e)) = omega (arith, e)
 pub fits-twice : (n : ℕ) → IsLaneCount n → n * 2 < 9223372036854775808
 fits-twice n lanes = let few = lanes-few n lanes in omega (arith, few)
 
+pub fits-once : (n : ℕ) → IsLaneCount n → n * 1 < 9223372036854775808
+fits-once n lanes = let few = lanes-few n lanes in omega (arith, few)
+
 pub fits-four_times : (n : ℕ) → IsLaneCount n → n * 4 < 9223372036854775808
 fits-four_times n lanes = let few = lanes-few n lanes in omega (arith, few)
 
@@ -103,6 +106,10 @@ same-by_banks n w xs ys some ex ey same =
 -- the bank of a place
 pub bank-below : (n w b r i : ℕ) → b * w + r ≡ i → r < w → i < n * w → b < n
 bank-below n w b r i e lr lt = let d = div_below i w n (omega (arith, lr)) lt in let q = div-mul-add b w r lr in omega (arith, d, q, ap (λ (k : ℕ). k / w) e)
+
+-- the place behind the last of a bank
+pub next-place : (w b r i : ℕ) → b * w + r ≡ i → r + 1 ≡ w → (b + 1) * w + 0 ≡ i + 1
+next-place w b r i e er = let s : (b + 1) * w ≡ b * w + w = omega arith in omega (arith, s, e, er)
 
 -- ---- the decided bit of a place
 

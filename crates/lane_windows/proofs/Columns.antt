@@ -2,8 +2,8 @@
 use Rattle.std.proofs.Common.{◌≡◌, ◌≢◌, ℕ, ◌+◌, ◌*◌, ◌<◌, ◌≤◌, ℤ, pos, List, [], length, get_or, set, map, sym, ap, ◌∙◌, subst, arith, inl, inr, get_or-set_other, get_or-set_same}
 use Rattle.std.specs.List.{range_with_len}
 use Rattle.std.proofs.lemmas.Int.{ints}
-use Rattle.std.proofs.lemmas.Bool.{cases_eq}
-use Rattle.std.proofs.lemmas.List.{ext_get_or, get_or-map, get_or_past, length-map}
+use Rattle.std.proofs.lemmas.Bool.{cases_eq, cases_lt}
+use Rattle.std.proofs.lemmas.List.{ext_get_or, get_or-map, get_or_past, length-map, length-set}
 use Rattle.std.proofs.lemmas.List.FromFn.{fill_by_all, length-map-range_with_len, get_or-map-range_with_len}
 use Rattle.lte_bits.specs.Softs.{IsWithin}
 use Rattle.receiver_model.specs.Borders.{at}
@@ -42,4 +42,19 @@ within-set n rows r row lt all here j t =
     elim (cases_eq j r) [
       | inl e ↦ subst (λ (k : ℕ). IsWithin n (number_in (set rows r row) k t)) (sym e) (subst (IsWithin n) (sym (number-in_same rows r t row lt)) (here t))
       | inr ne ↦ subst (IsWithin n) (sym (number-in_other rows r j t row ne)) (all j t)
+    ]
+
+-- past the end of the rows, too
+pub within-no_row : (n : ℕ) (rows : List (List ℤ)) (j t : ℕ) → length rows ≤ j → IsWithin n (number_in rows j t)
+within-no_row n rows j t le = subst (λ (xs : List ℤ). IsWithin n (at xs t)) (sym (get_or_past rows j [] le)) (omega (arith, ints), omega (arith, ints))
+
+-- a number is replaced
+pub within-set_at : (n : ℕ) (xs : List ℤ) (i : ℕ) (x : ℤ) → ((b : ℕ) → IsWithin n (at xs b)) → IsWithin n x → (b : ℕ) → IsWithin n (at (set xs i x) b)
+within-set_at n xs i x all here b =
+    elim (cases_eq b i) [
+      | inl e ↦ elim (cases_lt i (length xs)) [
+          | inl lt ↦ subst (λ (k : ℕ). IsWithin n (at (set xs i x) k)) (sym e) (subst (IsWithin n) (sym (get_or-set_same xs i x (pos 0) lt)) here)
+          | inr le ↦ within-past n (set xs i x) b (omega (arith, length-set xs i x, le, e))
+        ]
+      | inr ne ↦ subst (IsWithin n) (sym (get_or-set_other xs i b x (pos 0) ne)) (all b)
     ]

@@ -1,3 +1,5 @@
 pub mod BankCells
 pub mod BankRows
 pub mod Columns
+pub mod CrossingLaws
+pub mod CrossingSteps

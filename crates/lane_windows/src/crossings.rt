@@ -1,5 +1,6 @@
 //! Rows brought from the order of the banks into that of the windows, and back.
-ghost use Rattle.std.specs.Prelude.{◌≡◌, ℕ, ◌+◌, ◌*◌, ◌<◌, ◌≤◌, [], IfOk, length, slice_index, slice_index_or};
+ghost use Rattle.std.specs.Prelude.{◌≡◌, ℕ, ◌+◌, ◌*◌, ◌<◌, ◌≤◌, [], IfOk, length, slice_index, slice_index_or, slice_set};
+ghost use Rattle.lte_bits.specs.Softs.{IsWithin};
 ghost use Rattle.receiver_model.specs.Borders.{at};
 ghost use Rattle.lock_step.specs.Lanes.{IsLaneCount, AreWithin};
 ghost use Rattle.lane_windows.specs.Banks.{number_in};
@@ -18,11 +19,22 @@ pub struct Crossings<const N: usize> {
 /// Leaves in lane `t` the number of bank `banks[t]`.
 fn bring_row<const N: usize>(from: &[i16; N], banks: &[u8; N], to: &mut [i16; N])
     requires { (t : ℕ) → t < N → slice_index banks.now t < N }
-    ensures { (t : ℕ) → t < N → at to.new t ≡ at from.now (slice_index banks.now t) }
+    ensures brought { (t : ℕ) → t < N → at to.new t ≡ at from.now (slice_index banks.now t) }
+    ensures kept { (n : ℕ) → ((b : ℕ) → IsWithin n (at from.now b)) → (t : ℕ) → IsWithin n (at to.new t) }
 {
     for t in 0..N {
         to[t] = from[usize::from(banks[t])];
     }
+}
+
+/// Replaces the number of a bank by that of lane `t`.
+#[inline]
+fn put_number<const N: usize>(from: &[i16; N], t: usize, to: &mut [i16; N], bank: usize)
+    requires lane { t < N }
+    requires bank { bank < N }
+    ensures { to.new ≡ slice_set to.old bank (at from.now t) }
+{
+    to[bank] = from[t];
 }
 
 /// Leaves in bank `banks[t]` the number of lane `t`.
@@ -31,9 +43,11 @@ fn put_row_back<const N: usize>(from: &[i16; N], banks: &[u8; N], to: &mut [i16;
     requires apart { (t u : ℕ) → t < N → u < N → slice_index banks.now t ≡ slice_index banks.now u → t ≡ u }
     ensures put { (t : ℕ) → t < N → at to.new (slice_index banks.now t) ≡ at from.now t }
     ensures others { (b : ℕ) → ((t : ℕ) → t < N → slice_index banks.now t ≡ b → ⊥) → at to.new b ≡ at to.old b }
+    ensures kept { (n : ℕ) → ((b : ℕ) → IsWithin n (at from.now b)) → ((b : ℕ) → IsWithin n (at to.old b))
+        → (b : ℕ) → IsWithin n (at to.new b) }
 {
     for t in 0..N {
-        to[usize::from(banks[t])] = from[t];
+        put_number(from, t, to, usize::from(banks[t]));
     }
 }
 
@@ -49,14 +63,27 @@ impl<const N: usize> Crossings<N> {
         Ok(Crossings { rows, banks })
     }
 
+    /// Replaces the row and the banks of step `j`.
+    pub fn set(&mut self, j: usize, row: u16, banks: [u8; N])
+        requires rows { j < length self.old.rows.items }
+        requires banks { j < length self.old.banks.items }
+        ensures rows { self.new.rows.items ≡ slice_set self.old.rows.items j row }
+        ensures banks { self.new.banks.items ≡ slice_set self.old.banks.items j banks.entry }
+    {
+        self.rows[j] = row;
+        self.banks[j] = banks;
+    }
+
     /// Brings rows of banks into the order of windows.
     pub fn bring(&self, from: &[[i16; N]], to: &mut [[i16; N]])
+        requires lanes { IsLaneCount N }
         requires rows { length to.old ≤ length self.now.rows.items }
         requires banks { length to.old ≤ length self.now.banks.items }
         requires from { length from.now ≡ length to.old }
         requires table { (place : ℕ → ℕ) × IsTable N (length to.old) place self.now.rows.items self.now.banks.items }
-        ensures { (j t : ℕ) → j < length to.old → t < N → number_in to.new j t
+        ensures brought { (j t : ℕ) → j < length to.old → t < N → number_in to.new j t
             ≡ number_in from.now (slice_index self.now.rows.items j) (slice_index (slice_index_or self.now.banks.items j []) t) }
+        ensures kept { (n : ℕ) → AreWithin n from.now → AreWithin n to.new }
     {
         for j in 0..to.len() {
             let row = usize::from(self.rows[j]);
@@ -66,14 +93,16 @@ impl<const N: usize> Crossings<N> {
 
     /// Puts rows in the order of windows back into banks.
     pub fn put_back(&self, from: &[[i16; N]], to: &mut [[i16; N]])
+        requires lanes { IsLaneCount N }
         requires rows { length from.now ≤ length self.now.rows.items }
         requires banks { length from.now ≤ length self.now.banks.items }
         requires to { length to.old ≡ length from.now }
         requires table { (place : ℕ → ℕ) × IsTable N (length from.now) place self.now.rows.items self.now.banks.items
             × AreApart N (length from.now) place }
-        ensures { (j t : ℕ) → j < length from.now → t < N
+        ensures put { (j t : ℕ) → j < length from.now → t < N
             → number_in to.new (slice_index self.now.rows.items j) (slice_index (slice_index_or self.now.banks.items j []) t)
             ≡ number_in from.now j t }
+        ensures kept { (n : ℕ) → AreWithin n from.now → AreWithin n to.old → AreWithin n to.new }
     {
         for j in 0..from.len() {
             let row = usize::from(self.rows[j]);

@@ -4,7 +4,7 @@ use Rattle.lte_bits.specs.declared.bit.Bit.TheVariants.{Zero}
 use Rattle.receiver_model.specs.Decoding.{decided_bits}
 use Rattle.receiver_model.specs.Windows.{cell_at}
 use Rattle.lane_windows.specs.Banks.{number_in, cell_in, bit_at_place}
-use Rattle.lane_windows.proofs.BankCells.{fits-twice, bank-below, bit-at, length-decided}
+use Rattle.lane_windows.proofs.BankCells.{fits-twice, next-place, bank-below, bit-at, length-decided}
 use Rattle.lane_windows.proofs.BankRows.{length-of_view, width-of_view, read-number, cell-of_view}
 use Rattle.lane_windows.proofs.banks.Banks.decide.Goals as goal
 use Rattle.lane_windows.proofs.banks.Banks.decide.Goals.{then-row-width, else-row-width}
@@ -20,9 +20,6 @@ lane_bit-requires g c =
     let long = length-of_view g.row.N b.values.items b.sums.items c.args.self.now c.self.invariant c.self.view_is in
     (fits-twice g.row.N c.self.invariant.lanes,
     bank-in g.row.N c.len-width.result l.bank l.row l.i (length c.args.bits.now) (length c.args.self.now) l.invariant.place l.invariant.inside c.loop-i-test.true c.requires.long (long ∙ ap (λ (k : ℕ). g.row.N * k) (sym w)))
-
-one_more : (w b r i : ℕ) → b * w + r ≡ i → r + 1 ≡ w → (b + 1) * w + 0 ≡ i + 1
-one_more w b r i e er = let s : (b + 1) * w ≡ b * w + w = omega arith in omega (arith, s, e, er)
 
 pub loop-i-preserved : goal.loop-i-preserved
 loop-i-preserved g c =
@@ -41,7 +38,7 @@ loop-i-preserved g c =
     ∙ bit-at c.args.fill l.i c.args.self.now (number_in b.values.items l.row l.bank) (number_in b.sums.items l.row l.bank) (omega (arith, c.loop-i-test.true, c.requires.long)) cell) in
     record {
       place = elim c.if-row-width.branch [
-          | then-row-width v ↦ (ap (λ (k : ℕ). k * c.len-width.result + c.if-row-width.row) v.bank-is ∙ (ap (λ (k : ℕ). (l.bank + 1) * c.len-width.result + k) v.row-is ∙ one_more c.len-width.result l.bank l.row l.i inv.place v.if-row-width.true))
+          | then-row-width v ↦ (ap (λ (k : ℕ). k * c.len-width.result + c.if-row-width.row) v.bank-is ∙ (ap (λ (k : ℕ). (l.bank + 1) * c.len-width.result + k) v.row-is ∙ next-place c.len-width.result l.bank l.row l.i inv.place v.if-row-width.true))
           | else-row-width v ↦ (ap (λ (k : ℕ). k * c.len-width.result + c.if-row-width.row) v.bank-is ∙ (ap (λ (k : ℕ). l.bank * c.len-width.result + k) v.row-is ∙ (let s : l.bank * c.len-width.result + (l.row + 1) ≡ l.i + 1 = omega (arith, inv.place) in s)))
         ];
       inside = elim c.if-row-width.branch [
