@@ -6,7 +6,7 @@ use Rattle.std.proofs.lemmas.List.{get_or_default, get_or_past, length-set}
 use Rattle.std.proofs.lemmas.Nat.{div_below, mod_below}
 use Rattle.receiver_model.specs.Borders.{at}
 use Rattle.receiver_model.specs.Windows.{Extrinsic, zero_cell, cell_at}
-use Rattle.lock_step.specs.Lanes.{IsLaneCount}
+use Rattle.lock_step.specs.Lanes.{IsLaneCount, AreWithin}
 use Rattle.lane_windows.specs.Banks.{number_in, cell_of, cell_in, cells_by_place, AreBanks}
 use Rattle.lane_windows.proofs.BankCells.{length-by_place, cell-by_place, cell-in_bank, rows-of_product, lanes-some}
 use Rattle.lane_windows.proofs.Columns.{number-in_same, number-in_other}
@@ -30,6 +30,10 @@ module _ (n : ℕ) (values sums : List (List ℤ)) (cells : List Extrinsic) (ban
   cell-of_view b r lb lr =
       sym (cell-in_bank n (length values) values sums b r lb lr)
       ∙ (ap (λ (xs : List Extrinsic). cell_at xs (b * length values + r)) view ∙ ap (λ (w : ℕ). cell_at cells (b * w + r)) (sym width-of_view))
+
+  pub cell-in_view : (b r : ℕ) → b < n → r < length values → cell_in values sums r b ≡ cell_at cells (b * length values + r)
+  cell-in_view b r lb lr =
+      sym (cell-in_bank n (length values) values sums b r lb lr) ∙ ap (λ (xs : List Extrinsic). cell_at xs (b * length values + r)) view
 
   pub cell-at_place : (i : ℕ) → i < length cells → cell_in values sums (i % length values) (i / length values) ≡ cell_at cells i
   cell-at_place i lt =
@@ -69,3 +73,19 @@ module _ (n : ℕ) (values sums : List (List ℤ)) (cells : List Extrinsic) (ban
             ∙ cell-at_place i li))))
         | inr le ↦ get_or_past _ i zero_cell (omega (arith, length-replaced, le)) ∙ sym (get_or_past cells i zero_cell le)
       ]
+
+-- a cell of banks whose rows were all replaced
+pub cell-of_rows : (n w : ℕ) (values sums : List (List ℤ)) (b r : ℕ) → length values ≡ w → b < n → r < w
+    → cell_at (cells_by_place n (length values) values sums) (b * w + r) ≡ cell_in values sums r b
+cell-of_rows n w values sums b r e lb lr =
+    ap (λ (k : ℕ). cell_at (cells_by_place n (length values) values sums) (b * k + r)) (sym e)
+    ∙ cell-in_bank n (length values) values sums b r lb (omega (arith, e, lr))
+
+pub banks-of_rows : (n : ℕ) (values sums vs ss : List (List ℤ)) → AreBanks n values sums → length vs ≡ length values → length ss ≡ length values → AreWithin 511 vs → AreBanks n vs ss
+banks-of_rows n values sums vs ss banks ev es within = record {
+  lanes = banks.lanes;
+  sums_long = es ∙ sym ev;
+  least = omega (arith, ev, banks.least);
+  most = omega (arith, ev, banks.most);
+  within = within;
+}

@@ -3,3 +3,4 @@ pub mod BankRows
 pub mod Columns
 pub mod CrossingLaws
 pub mod CrossingSteps
+pub mod LaneRuns

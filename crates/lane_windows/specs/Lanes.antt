@@ -1,9 +1,9 @@
 -- Windows whose cells stand in banks.
-use Rattle.std.specs.Prelude.{ℕ, ◌*◌, ℤ, List, map}
+use Rattle.std.specs.Prelude.{◌≡◌, ℕ, ◌*◌, ◌<◌, ℤ, List, length, map}
 use Rattle.std.specs.List.{range_with_len}
 use Rattle.receiver_model.specs.Borders.{Border, at}
 use Rattle.receiver_model.specs.Paths.{Window}
-use Rattle.receiver_model.specs.Windows.{Extrinsic, window_between, cell_at}
+use Rattle.receiver_model.specs.Windows.{Extrinsic, window_between, cell_at, new_cells, forward_left, backward_left}
 use Rattle.lock_step.specs.Lanes.{border_at, column}
 
 -- the values of window t, of values by position
@@ -25,3 +25,14 @@ abbrev pub window_of_rows : ℕ → (ℕ → ℕ) → (from to : List Border) �
 window_of_rows w place from to sys par cells t =
     window_between (border_at from t) (border_at to t) (column t sys) (column t par)
     (cells_of_window w place cells t)
+
+-- n windows w wide, whose positions stand at these places, have run: their new cells and the borders that they
+-- leave
+pub record HaveRun
+    (n w : ℕ) (place : ℕ → ℕ) (from to : List Border) (sys par : List (List ℤ))
+    (old new : List Extrinsic) (ahead back : List Border) : Type 0 where
+  pub long : length new ≡ length old
+  pub cells : (t : ℕ) → t < n
+      → cells_of_window w place new t ≡ new_cells (window_of_rows w place from to sys par old t)
+  pub forward : (t : ℕ) → t < n → border_at ahead t ≡ forward_left (window_of_rows w place from to sys par old t)
+  pub backward : (t : ℕ) → t < n → border_at back t ≡ backward_left (window_of_rows w place from to sys par old t)
