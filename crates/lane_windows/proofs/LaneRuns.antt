@@ -13,7 +13,7 @@ use Rattle.lock_step.specs.Lanes.{column, border_at, window_at, decided_cells}
 use Rattle.std.specs.Prelude.{slice_index}
 use Rattle.lane_windows.specs.Banks.{number_in, cell_of, cell_in, cells_by_place, AreBanks}
 use Rattle.lane_windows.specs.Crossings.{IsTable}
-use Rattle.lane_windows.specs.Lanes.{cells_of_window, window_of_rows, HaveRun}
+use Rattle.lane_windows.specs.Lanes.{cells_of_window, values_of_window, window_of, window_of_rows, HaveRun}
 use Rattle.lane_windows.proofs.BankCells.{length-by_place}
 use Rattle.lane_windows.proofs.BankRows.{width-of_view, length-of_view, cell-in_view, cell-of_rows}
 use Rattle.lane_windows.proofs.CrossingSteps.{bank_at}
@@ -130,3 +130,15 @@ module _ (n : ℕ) (from to : List Border) (sys par values sums : List (List ℤ
       ∙ (cell-of_rows n w all others (bank_at bs j t) (slice_index rs j) la (table.bank j t lj lt) (table.row j lj)
       ∙ (ap (λ (x : ℤ). cell_of x (number_in others (slice_index rs j) (bank_at bs j t))) (putv j t lj lt) ∙ ap (cell_of (number_in vs j t)) (puts j t lj lt))))
       ran)
+
+-- the soft values in rows are those by position
+pub by-position : (n w : ℕ) (place : ℕ → ℕ) (from to : List Border) (sys par : List (List ℤ)) (s p : List ℤ) (cells : List Extrinsic) (t : ℕ)
+    → column t sys ≡ values_of_window w s t → column t par ≡ values_of_window w p t
+    → window_of_rows w place from to sys par cells t ≡ window_of w place from to s p cells t
+by-position n w place from to sys par s p cells t es ep = λ i. record {
+  start = border_at from t;
+  end = border_at to t;
+  sys = es i;
+  par = ep i;
+  cells = values (cells_of_window w place cells t);
+}

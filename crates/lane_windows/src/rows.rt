@@ -1,6 +1,5 @@
 //! Soft values in rows: row j has in lane t the value of position j of window t.
-ghost use Rattle.std.specs.Prelude.{◌≡◌, ℕ, ◌+◌, ◌*◌, ◌<◌, length, map};
-ghost use Rattle.std.specs.List.{range_with_len};
+ghost use Rattle.std.specs.Prelude.{◌≡◌, ℕ, ◌+◌, ◌*◌, ◌<◌, ◌≤◌, length, take};
 ghost use Rattle.lte_bits.specs.Softs.{IsWithin};
 ghost use Rattle.receiver_model.specs.Borders.{at};
 ghost use Rattle.lock_step.specs.Lanes.{column, AreWithin};
@@ -31,4 +30,15 @@ pub fn lay_out<const N: usize>(values: &[Soft], rows: &mut [[i16; N]])
     for j in 0..width {
         lay_row(values, width, j, &mut rows[j]);
     }
+}
+
+/// The same in the first `width` rows.
+pub fn lay_front<const N: usize>(values: &[Soft], rows: &mut [[i16; N]], width: usize)
+    requires long { N * width ≡ length values.now }
+    requires room { width ≤ length rows.old }
+    ensures columns { (t : ℕ) → t < N
+        → column t (take width rows.new) ≡ values_of_window width values.now t }
+    ensures within { AreWithin 127 (take width rows.new) }
+{
+    lay_out(values, &mut rows[..width]);
 }
