@@ -1,0 +1,134 @@
+//! N windows by rows.
+ghost use Rattle.std.specs.Prelude.{◌≡◌, ◌<◌, ◌≤◌, length};
+
+use crate::joined::join;
+use crate::lanes::add;
+use crate::metrics::{backward, forward, keep};
+use crate::work::LaneWork;
+use window_decode::Border;
+
+/// Keeps the metrics before each position in the rows, and leaves those after the last.
+fn sweep_forward<const N: usize>(
+    rows: &mut [[[i16; N]; 8]],
+    m: &mut [[i16; N]; 8],
+    sys: &[[i16; N]],
+    par: &[[i16; N]],
+    cells: &[[i16; N]],
+)
+    requires room { length sys.now ≤ length rows.old }
+    requires parities { length par.now ≡ length sys.now }
+    requires cells { length cells.now ≡ length sys.now }
+{
+    let mut x = [0; N];
+    for j in 0..sys.len() {
+        keep(m, &mut rows[j]);
+        add(&sys[j], &cells[j], &mut x);
+        forward(&rows[j], &x, &par[j], m);
+    }
+}
+
+/// Leaves the new cell of a position and its sum, and the metrics before it.
+fn step_back<const N: usize>(
+    before: &[[i16; N]; 8],
+    m: &mut [[i16; N]; 8],
+    sys: &[i16; N],
+    par: &[i16; N],
+    cell: &mut [i16; N],
+    sum: &mut [i16; N],
+)
+{
+    let mut x = [0; N];
+    add(sys, cell, &mut x);
+    join(before, m, par, &x, cell, sum);
+    let mut after = [[0; N]; 8];
+    keep(m, &mut after);
+    backward(&after, &x, par, m);
+}
+
+/// Leaves the new cells with their sums, and the metrics before the first position.
+fn sweep_backward<const N: usize>(
+    rows: &[[[i16; N]; 8]],
+    m: &mut [[i16; N]; 8],
+    sys: &[[i16; N]],
+    par: &[[i16; N]],
+    cells: &mut [[i16; N]],
+    sums: &mut [[i16; N]],
+)
+    requires room { length sys.now ≤ length rows.now }
+    requires parities { length par.now ≡ length sys.now }
+    requires cells { length cells.old ≡ length sys.now }
+    requires sums { length sums.old ≡ length sys.now }
+{
+    let width = sys.len();
+    for i in 0..width {
+        let j = width - 1 - i;
+        step_back(&rows[j], m, &sys[j], &par[j], &mut cells[j], &mut sums[j]);
+    }
+}
+
+/// Puts a border's numbers into lane `t`.
+fn put_border<const N: usize>(m: &mut [[i16; N]; 8], t: usize, border: &Border)
+    requires { t < N }
+{
+    for (lanes, number) in m.iter_mut().zip(border.numbers()) {
+        lanes[t] = *number;
+    }
+}
+
+/// The numbers of borders, lane by lane.
+fn put_borders<const N: usize>(m: &mut [[i16; N]; 8], borders: &[Border])
+    requires { length borders.now ≡ N }
+{
+    for (t, border) in borders.iter().enumerate() {
+        put_border(m, t, border);
+    }
+}
+
+/// The border in lane `t`.
+fn border_at<const N: usize>(m: &[[i16; N]; 8], t: usize) -> Border
+    requires { t < N }
+{
+    Border::from_numbers([
+        m[0][t], m[1][t], m[2][t], m[3][t], m[4][t], m[5][t], m[6][t], m[7][t],
+    ])
+}
+
+/// Leaves the border of each lane.
+fn take_borders<const N: usize>(m: &[[i16; N]; 8], borders: &mut [Border])
+    requires { length borders.old ≡ N }
+{
+    for (t, border) in borders.iter_mut().enumerate() {
+        *border = border_at(m, t);
+    }
+}
+
+/// Decodes N windows between their borders: window t has lane t of each row.
+pub fn run_rows<const N: usize>(
+    work: &mut LaneWork<N>,
+    from: &[Border],
+    to: &[Border],
+    sys: &[[i16; N]],
+    par: &[[i16; N]],
+    cells: &mut [[i16; N]],
+    sums: &mut [[i16; N]],
+    ahead: &mut [Border],
+    back: &mut [Border],
+)
+    requires room { length sys.now ≤ work.old }
+    requires parities { length par.now ≡ length sys.now }
+    requires cells { length cells.old ≡ length sys.now }
+    requires sums { length sums.old ≡ length sys.now }
+    requires from { length from.now ≡ N }
+    requires to { length to.now ≡ N }
+    requires ahead { length ahead.old ≡ N }
+    requires back { length back.old ≡ N }
+    ensures room { work.new ≡ work.old }
+{
+    let mut m = [[0; N]; 8];
+    put_borders(&mut m, from);
+    sweep_forward(&mut work.rows, &mut m, sys, par, cells);
+    take_borders(&m, ahead);
+    put_borders(&mut m, to);
+    sweep_backward(&work.rows, &mut m, sys, par, cells, sums);
+    take_borders(&m, back);
+}
