@@ -3,7 +3,7 @@ use Rattle.std.proofs.Common.{◌≡◌, ℕ, zero, suc, ◌+◌, ◌<◌, ◌�
 use Rattle.std.specs.Int.{int_max}
 use Rattle.std.proofs.lemmas.Bool.{cases_lt}
 use Rattle.std.proofs.lemmas.Int.{ints, clamps}
-use Rattle.std.proofs.lemmas.List.{get_or_past}
+use Rattle.std.proofs.lemmas.List.{get_or_past, get_or-map, length-map}
 use Rattle.std.proofs.lemmas.Simd.{get_or-zip2, length-zip2}
 use lib.Lanes.{Each2, zip2, put_chunk}
 use Rattle.lte_bits.specs.Softs.{IsWithin}
@@ -19,7 +19,7 @@ each_at R [] ys l h = tt
 each_at R (x ∷ xs) [] l h = tt
 each_at R (x ∷ xs) (y ∷ ys) l h = (h 0 (omega arith), each_at R xs ys (omega (arith, l)) (λ t lt. h (suc t) (omega (arith, lt))))
 
-next_lane : (a b : ℤ) (xs ys : List ℤ) → a ≡ b → xs ≡ ys → a ∷ xs ≡ b ∷ ys
+pub next_lane : (a b : ℤ) (xs ys : List ℤ) → a ≡ b → xs ≡ ys → a ∷ xs ≡ b ∷ ys
 next_lane a b xs ys e f = cc
 
 -- a vector that is passed on
@@ -148,3 +148,11 @@ difference-fits n m k f h xs ys le p q t =
 -- a vector is passed on as one
 pub any_passed : (n b : ℕ) (f : ℕ → ℤ) (xs : List ℤ) → b ≤ 32767 → AreLanes n b f xs → IsVector n 32767 (passed xs)
 any_passed n b f xs le h = vector-still n b 32767 xs le (omega arith) h.vector
+
+-- a function of each lane
+pub map-lane : (f : ℤ → ℤ) (n : ℕ) (xs r : List ℤ) → r ≡ map f xs → length xs ≡ n → (t : ℕ) → t < n → at r t ≡ f (at xs t)
+map-lane f n xs r e long t lt = ap (λ zs. at zs t) e ∙ get_or-map f xs t (pos 0) (pos 0) (omega (arith, long, lt))
+
+pub map-vector : (f : ℤ → ℤ) (n b : ℕ) (xs r : List ℤ) → r ≡ map f xs → length xs ≡ n → ((t : ℕ) → IsWithin b (f (at xs t))) → IsVector n b r
+map-vector f n b xs r e long h =
+    vector_from n b r (ap length e ∙ (length-map xs f ∙ long)) (λ t lt. within-same b (at r t) (f (at xs t)) (map-lane f n xs r e long t lt) (h t))
