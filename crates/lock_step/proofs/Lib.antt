@@ -1,2 +1,4 @@
 pub mod Vectors
 pub mod Quarters
+pub mod StateRows
+pub mod Steps

@@ -1,0 +1,94 @@
+-- Eight rows of N lanes as the metrics of N windows.
+use Rattle.std.proofs.Common.{◌≡◌, ℕ, ◌+◌, ◌*◌, ◌<◌, ◌≤◌, List, [], ◌∷◌, length, map, set, replicate, ℤ, pos, ◌+ℤ◌, ◌-ℤ◌, refl, sym, ap, ◌∙◌, subst, arith}
+use Rattle.std.proofs.lemmas.List.{get_or-map, get_or-replicate, length-map, length-replicate}
+use Rattle.std.proofs.lemmas.Int.{ints}
+use Rattle.lte_bits.specs.Softs.{IsWithin}
+use Rattle.lte_bits.specs.declared.bit.Bit.{Bit}
+use Rattle.lte_bits.specs.declared.bit.Bit.TheVariants.{Zero, One}
+use Rattle.sender_model.specs.ConstituentCoder.{State}
+use Rattle.receiver_model.specs.Borders.{state, state_number, number_for, at}
+use Rattle.window_decode.specs.Lanes.{IsRelative}
+use Rattle.window_decode.proofs.Within.{within-same}
+use Rattle.window_decode.proofs.LaneKernel.{relative-numbers}
+use Rattle.lock_step.specs.Lanes.{row_at, column}
+use Rattle.lock_step.specs.Vectors.{IsVector, AreMetrics, AreRelative}
+use Rattle.lock_step.proofs.Vectors.{vector_from}
+
+-- the states by their numbers
+abbrev pub s0 : State
+s0 = state Zero Zero Zero
+
+abbrev pub s1 : State
+s1 = state Zero Zero One
+
+abbrev pub s2 : State
+s2 = state Zero One Zero
+
+abbrev pub s3 : State
+s3 = state Zero One One
+
+abbrev pub s4 : State
+s4 = state One Zero Zero
+
+abbrev pub s5 : State
+s5 = state One Zero One
+
+abbrev pub s6 : State
+s6 = state One One Zero
+
+abbrev pub s7 : State
+s7 = state One One One
+
+number-below : (s : State) → state_number s < 8
+number-below s = by_bits s.a1 s.a2 s.a3
+  where
+    by_bits : (a b c : Bit) → state_number (state a b c) < 8
+    by_bits Zero Zero Zero = omega arith
+    by_bits Zero Zero One = omega arith
+    by_bits Zero One Zero = omega arith
+    by_bits Zero One One = omega arith
+    by_bits One Zero Zero = omega arith
+    by_bits One Zero One = omega arith
+    by_bits One One Zero = omega arith
+    by_bits One One One = omega arith
+
+pub at-column : (rows : List (List ℤ)) (t k : ℕ) → k < length rows → at (column t rows) k ≡ at (row_at rows k) t
+at-column rows t k lt = get_or-map (λ (row : List ℤ). at row t) rows k [] (pos 0) lt
+
+-- what a state's row has in lane t is the number of the state
+pub number-column : (m : List (List ℤ)) (t : ℕ) (s : State) → length m ≡ 8 → number_for (column t m) s ≡ at (row_at m (state_number s)) t
+number-column m t s long = at-column m t (state_number s) (let below = number-below s in omega (arith, below, long))
+
+pub row-vector : (n : ℕ) (m : List (List ℤ)) → AreRelative n m → (s : State) → IsVector n 6391 (row_at m (state_number s))
+row-vector n m h s =
+    vector_from n 6391 (row_at m (state_number s)) (h.shape.long (state_number s) (number-below s))
+    (λ t lt. within-same 6391 _ _ (sym (number-column m t s h.shape.eight)) ((relative-numbers (column t m) (h.relative t lt)).bounded s))
+
+pub nothing-vector : (n b : ℕ) → IsVector n b (replicate n (pos 0))
+nothing-vector n b = vector_from n b (replicate n (pos 0)) (length-replicate n (pos 0)) (λ t lt. within-same b _ (pos 0) (get_or-replicate n t (pos 0) (pos 0) lt) nothing)
+  where
+    nothing : IsWithin b (pos 0)
+    nothing = (omega (arith, ints), omega (arith, ints))
+
+pub at-nothing : (n t : ℕ) → t < n → at (replicate n (pos 0)) t ≡ pos 0
+at-nothing n t lt = get_or-replicate n t (pos 0) (pos 0) lt
+
+-- eight rows by its elements
+pub eight_rows : (P : List (List ℤ) → Type 0) → ((a b c d e f g h : List ℤ) → P (a ∷ b ∷ c ∷ d ∷ e ∷ f ∷ g ∷ h ∷ [])) → (m : List (List ℤ)) → length m ≡ 8 → P m
+eight_rows P each [] l = absurd (omega (arith, l))
+eight_rows P each (a ∷ []) l = absurd (omega (arith, l))
+eight_rows P each (a ∷ b ∷ []) l = absurd (omega (arith, l))
+eight_rows P each (a ∷ b ∷ c ∷ []) l = absurd (omega (arith, l))
+eight_rows P each (a ∷ b ∷ c ∷ d ∷ []) l = absurd (omega (arith, l))
+eight_rows P each (a ∷ b ∷ c ∷ d ∷ e ∷ []) l = absurd (omega (arith, l))
+eight_rows P each (a ∷ b ∷ c ∷ d ∷ e ∷ f ∷ []) l = absurd (omega (arith, l))
+eight_rows P each (a ∷ b ∷ c ∷ d ∷ e ∷ f ∷ g ∷ []) l = absurd (omega (arith, l))
+eight_rows P each (a ∷ b ∷ c ∷ d ∷ e ∷ f ∷ g ∷ h ∷ []) l = each a b c d e f g h
+eight_rows P each (a ∷ b ∷ c ∷ d ∷ e ∷ f ∷ g ∷ h ∷ i ∷ xs) l = absurd (omega (arith, l))
+
+-- eight rows that are written one by one
+pub set_eight : (m : List (List ℤ)) (r0 r1 r2 r3 r4 r5 r6 r7 : List ℤ) → length m ≡ 8
+    → set (set (set (set (set (set (set (set m 0 r0) 1 r1) 2 r2) 3 r3) 4 r4) 5 r5) 6 r6) 7 r7 ≡ r0 ∷ r1 ∷ r2 ∷ r3 ∷ r4 ∷ r5 ∷ r6 ∷ r7 ∷ []
+set_eight m r0 r1 r2 r3 r4 r5 r6 r7 long =
+    eight_rows (λ m. set (set (set (set (set (set (set (set m 0 r0) 1 r1) 2 r2) 3 r3) 4 r4) 5 r5) 6 r6) 7 r7 ≡ r0 ∷ r1 ∷ r2 ∷ r3 ∷ r4 ∷ r5 ∷ r6 ∷ r7 ∷ [])
+    (λ a b c d e f g h. refl) m long
