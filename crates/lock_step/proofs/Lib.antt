@@ -2,3 +2,4 @@ pub mod Vectors
 pub mod Quarters
 pub mod StateRows
 pub mod Steps
+pub mod Joins

@@ -12,7 +12,8 @@ use Rattle.window_decode.proofs.Within.{within-same}
 use Rattle.window_decode.proofs.LaneKernel.{relative-numbers}
 use Rattle.lock_step.specs.Lanes.{row_at, column}
 use Rattle.lock_step.specs.Vectors.{IsVector, AreMetrics, AreRelative}
-use Rattle.lock_step.proofs.Vectors.{vector_from}
+use Rattle.lock_step.proofs.Vectors.{vector_from, vector_passed, vector-still}
+use Rattle.window_decode.proofs.LaneNumbers.{passed}
 
 -- the states by their numbers
 abbrev pub s0 : State
@@ -92,3 +93,20 @@ pub set_eight : (m : List (List ℤ)) (r0 r1 r2 r3 r4 r5 r6 r7 : List ℤ) → l
 set_eight m r0 r1 r2 r3 r4 r5 r6 r7 long =
     eight_rows (λ m. set (set (set (set (set (set (set (set m 0 r0) 1 r1) 2 r2) 3 r3) 4 r4) 5 r5) 6 r6) 7 r7 ≡ r0 ∷ r1 ∷ r2 ∷ r3 ∷ r4 ∷ r5 ∷ r6 ∷ r7 ∷ [])
     (λ a b c d e f g h. refl) m long
+
+-- rows that were copied
+pub rows_kept : (m : List (List ℤ)) (r0 r1 r2 r3 r4 r5 r6 r7 : List ℤ) → length m ≡ 8 → r0 ≡ row_at m 0 → r1 ≡ row_at m 1 → r2 ≡ row_at m 2 → r3 ≡ row_at m 3
+    → r4 ≡ row_at m 4 → r5 ≡ row_at m 5 → r6 ≡ row_at m 6 → r7 ≡ row_at m 7 → r0 ∷ r1 ∷ r2 ∷ r3 ∷ r4 ∷ r5 ∷ r6 ∷ r7 ∷ [] ≡ m
+rows_kept m r0 r1 r2 r3 r4 r5 r6 r7 long =
+    eight_rows (λ m. r0 ≡ row_at m 0 → r1 ≡ row_at m 1 → r2 ≡ row_at m 2 → r3 ≡ row_at m 3 → r4 ≡ row_at m 4 → r5 ≡ row_at m 5 → r6 ≡ row_at m 6 → r7 ≡ row_at m 7 → r0 ∷ r1 ∷ r2 ∷ r3 ∷ r4 ∷ r5 ∷ r6 ∷ r7 ∷ [] ≡ m)
+    (λ a b c d e f g h p0 p1 p2 p3 p4 p5 p6 p7. same a b c d e f g h p0 p1 p2 p3 p4 p5 p6 p7) m long
+  where
+    same : (a b c d e f g h : List ℤ) → r0 ≡ a → r1 ≡ b → r2 ≡ c → r3 ≡ d → r4 ≡ e → r5 ≡ f → r6 ≡ g → r7 ≡ h → r0 ∷ r1 ∷ r2 ∷ r3 ∷ r4 ∷ r5 ∷ r6 ∷ r7 ∷ [] ≡ a ∷ b ∷ c ∷ d ∷ e ∷ f ∷ g ∷ h ∷ []
+    same a b c d e f g h p0 p1 p2 p3 p4 p5 p6 p7 = cc
+
+-- a row that was loaded, as it is stored
+pub copied : (n : ℕ) (x l r : List ℤ) → IsVector n 6391 x → l ≡ x → r ≡ passed l → r ≡ x
+copied n x l r h e f = f ∙ (ap passed e ∙ vector_passed n 6391 x (omega arith) h)
+
+pub loaded-still : (n : ℕ) (x l : List ℤ) → IsVector n 6391 x → l ≡ x → IsVector n 32767 (passed l)
+loaded-still n x l h e = subst (λ (ys : List ℤ). IsVector n 32767 (passed ys)) (sym e) (vector-still n 6391 32767 x (omega arith) (omega arith) h)

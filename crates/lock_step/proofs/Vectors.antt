@@ -156,3 +156,6 @@ map-lane f n xs r e long t lt = ap (λ zs. at zs t) e ∙ get_or-map f xs t (pos
 pub map-vector : (f : ℤ → ℤ) (n b : ℕ) (xs r : List ℤ) → r ≡ map f xs → length xs ≡ n → ((t : ℕ) → IsWithin b (f (at xs t))) → IsVector n b r
 map-vector f n b xs r e long h =
     vector_from n b r (ap length e ∙ (length-map xs f ∙ long)) (λ t lt. within-same b (at r t) (f (at xs t)) (map-lane f n xs r e long t lt) (h t))
+
+pub more-lanes : (n b c : ℕ) (f : ℕ → ℤ) (xs : List ℤ) → b ≤ c → AreLanes n b f xs → AreLanes n c f xs
+more-lanes n b c f xs le h = record { vector = vector_more n b c xs le h.vector; is = h.is }
