@@ -11,7 +11,7 @@ use Rattle.receiver_model.specs.Borders.{at}
 use Rattle.window_decode.proofs.Within.{within-same, within-more, within-sum}
 use Rattle.window_decode.proofs.LaneSteps.{stored, IsSum, IsDifference, AreStored}
 use Rattle.window_decode.proofs.LaneNumbers.{passed}
-use Rattle.lock_step.specs.Vectors.{IsVector}
+use Rattle.lock_step.specs.Vectors.{IsSmall, IsVector}
 
 -- what holds at each lane holds of the lanes in turn
 pub each_at : (R : ℤ → ℤ → Type 0) (xs ys : List ℤ) → length xs ≡ length ys → ((t : ℕ) → t < length xs → R (at xs t) (at ys t)) → Each2 R xs ys
@@ -159,3 +159,11 @@ map-vector f n b xs r e long h =
 
 pub more-lanes : (n b c : ℕ) (f : ℕ → ℤ) (xs : List ℤ) → b ≤ c → AreLanes n b f xs → AreLanes n c f xs
 more-lanes n b c f xs le h = record { vector = vector_more n b c xs le h.vector; is = h.is }
+
+-- small numbers in a row of n lanes
+pub small-vector : (n b : ℕ) (xs : List ℤ) → length xs ≡ n → IsSmall b xs → IsVector n b xs
+small-vector n b xs long h = record { long = long; bounded = h }
+
+-- sums of small numbers
+pub sum-small : (n : ℕ) (xs ys r : List ℤ) → IsSmall 127 xs → IsSmall 511 ys → length r ≡ n → ((t : ℕ) → t < n → at r t ≡ at xs t +ℤ at ys t) → IsSmall 638 r
+sum-small n xs ys r h k long e = (vector_from n 638 r long (λ t lt. within-same 638 _ _ (e t lt) (within-sum 127 511 _ _ (h t) (k t)))).bounded

@@ -18,15 +18,19 @@ column t rows = map (λ (row : List ℤ). at row t) rows
 abbrev pub border_at : List Border → ℕ → Border
 border_at borders t = slice_index_or borders t []
 
--- window t of those that run in lock step
-abbrev pub window_at : ℕ → (from to : List Border) → (sys par cells : List (List ℤ)) → Window
-window_at t from to sys par cells = record {
-  start = border_at from t;
-  end = border_at to t;
+-- the window of lane t between two borders
+abbrev pub lane_window : ℕ → (start end : Border) → (sys par cells : List (List ℤ)) → Window
+lane_window t start end sys par cells = record {
+  start = start;
+  end = end;
   sys = column t sys;
   par = column t par;
   cells = column t cells;
 }
+
+-- window t of those that run in lock step
+abbrev pub window_at : ℕ → (from to : List Border) → (sys par cells : List (List ℤ)) → Window
+window_at t from to sys par cells = lane_window t (border_at from t) (border_at to t) sys par cells
 
 -- cells of these values, where the decided bit is 1 exactly where the sum is negative
 abbrev pub decided_cells : (values sums : List ℤ) → List Extrinsic

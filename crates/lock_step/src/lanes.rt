@@ -4,7 +4,7 @@ ghost use Rattle.std.specs.Int.{int_max};
 ghost use Rattle.lte_bits.specs.Softs.{IsWithin, clamped};
 ghost use Rattle.receiver_model.specs.Borders.{at};
 ghost use Rattle.receiver_model.specs.Windows.{scaled};
-ghost use Rattle.lock_step.specs.Vectors.{IsVector};
+ghost use Rattle.lock_step.specs.Vectors.{IsSmall, IsVector};
 
 use std::simd::prelude::*;
 
@@ -130,8 +130,8 @@ pub fn greater<const N: usize>(
 /// Leaves the sums of small numbers.
 #[inline]
 pub fn add<const N: usize>(a: &[i16; N], b: &[i16; N], out: &mut [i16; N])
-    requires first { IsVector N 638 a.now }
-    requires second { IsVector N 511 b.now }
+    requires first { IsSmall 638 a.now }
+    requires second { IsSmall 511 b.now }
     ensures vector { IsVector N 1149 out.new }
     ensures lanes { (t : ℕ) → t < N → at out.new t ≡ at a.now t +ℤ at b.now t }
 {

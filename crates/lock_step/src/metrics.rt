@@ -4,7 +4,7 @@ ghost use Rattle.std.specs.Int.{int_max};
 ghost use Rattle.receiver_model.specs.Borders.{at, number_for, relative};
 ghost use Rattle.window_decode.specs.Recursions.{step_gain, forward, backward};
 ghost use Rattle.lock_step.specs.Lanes.{column};
-ghost use Rattle.lock_step.specs.Vectors.{IsVector, AreMetrics, AreRelative};
+ghost use Rattle.lock_step.specs.Vectors.{IsSmall, IsVector, AreMetrics, AreRelative};
 
 use crate::lanes::{add, better, difference, greater, loaded, store};
 
@@ -38,8 +38,8 @@ pub fn forward<const N: usize>(
     after: &mut [[i16; N]; 8],
 )
     requires before { AreRelative N m.now }
-    requires input { IsVector N 638 x.now }
-    requires parity { IsVector N 127 p.now }
+    requires input { IsSmall 638 x.now }
+    requires parity { IsSmall 127 p.now }
     ensures shape { AreMetrics N after.new }
     ensures lanes { (t : ℕ) → t < N → column t after.new
         ≡ relative (forward (number_for (column t m.now)) (step_gain (at x.now t) (at p.now t))) }
@@ -68,8 +68,8 @@ pub fn backward<const N: usize>(
     before: &mut [[i16; N]; 8],
 )
     requires after { AreRelative N m.now }
-    requires input { IsVector N 638 x.now }
-    requires parity { IsVector N 127 p.now }
+    requires input { IsSmall 638 x.now }
+    requires parity { IsSmall 127 p.now }
     ensures shape { AreMetrics N before.new }
     ensures lanes { (t : ℕ) → t < N → column t before.new
         ≡ relative (backward (number_for (column t m.now)) (step_gain (at x.now t) (at p.now t))) }

@@ -1,5 +1,12 @@
 //! N windows by rows.
-ghost use Rattle.std.specs.Prelude.{◌≡◌, ◌<◌, ◌≤◌, length};
+ghost use Rattle.std.specs.Prelude.{◌≡◌, ◌<◌, ◌≤◌, ℕ, ℤ, List, pos, ◌+ℤ◌, int_lt, length};
+ghost use Rattle.receiver_model.specs.Borders.{at, number_for, relative};
+ghost use Rattle.receiver_model.specs.Windows.{new_cells};
+ghost use Rattle.window_decode.specs.Recursions.{step_gain, backward, cell_through};
+ghost use Rattle.window_decode.specs.Metrics.{IsForwardRow, IsBackwardRow};
+ghost use Rattle.lock_step.specs.Lanes.{column, lane_window, decided_cells};
+ghost use Rattle.lock_step.specs.Vectors.{IsSmall, AreMetrics, AreRelative, AreBorders, AreSoft};
+ghost use Rattle.lock_step.specs.Vectors.{lane_gain, metrics_at, AreForwardRows};
 
 use crate::joined::join;
 use crate::lanes::add;
@@ -18,6 +25,14 @@ fn sweep_forward<const N: usize>(
     requires room { length sys.now ≤ length rows.old }
     requires parities { length par.now ≡ length sys.now }
     requires cells { length cells.now ≡ length sys.now }
+    requires soft { AreSoft sys.now par.now cells.now }
+    requires start { AreBorders N m.old }
+    ensures shapes { (j : ℕ) → j < length sys.now → AreMetrics N (metrics_at rows.new j) }
+    ensures rows { (t : ℕ) → t < N
+        → AreForwardRows t (column t m.old) sys.now par.now cells.now rows.new (length sys.now) }
+    ensures shape { AreMetrics N m.new }
+    ensures last { (t : ℕ) → t < N → IsForwardRow (column t m.old)
+        (lane_gain t sys.now par.now cells.now) (length sys.now) (column t m.new) }
 {
     let mut x = [0; N];
     for j in 0..sys.len() {
@@ -27,7 +42,7 @@ fn sweep_forward<const N: usize>(
     }
 }
 
-/// Leaves the new cell of a position and its sum, and the metrics before it.
+/// Leaves the new cells of a position and their sums, and the metrics before it.
 fn step_back<const N: usize>(
     before: &[[i16; N]; 8],
     m: &mut [[i16; N]; 8],
@@ -36,6 +51,19 @@ fn step_back<const N: usize>(
     cell: &mut [i16; N],
     sum: &mut [i16; N],
 )
+    requires before { AreRelative N before.now }
+    requires after { AreRelative N m.old }
+    requires systematic { IsSmall 127 sys.now }
+    requires parity { IsSmall 127 par.now }
+    requires cell { IsSmall 511 cell.old }
+    ensures shape { AreMetrics N m.new }
+    ensures metrics { (t : ℕ) → t < N → column t m.new
+        ≡ relative (backward (number_for (column t m.old))
+            (step_gain (at sys.now t +ℤ at cell.old t) (at par.now t))) }
+    ensures cells { (t : ℕ) → t < N
+        → record { value = at cell.new t; one = int_lt (at sum.new t) (pos 0) }
+            ≡ cell_through (column t before.now) (column t m.old)
+                (at sys.now t) (at par.now t) (at cell.old t) }
 {
     let mut x = [0; N];
     add(sys, cell, &mut x);
@@ -58,6 +86,16 @@ fn sweep_backward<const N: usize>(
     requires parities { length par.now ≡ length sys.now }
     requires cells { length cells.old ≡ length sys.now }
     requires sums { length sums.old ≡ length sys.now }
+    requires soft { AreSoft sys.now par.now cells.old }
+    requires rows { (j : ℕ) → j < length sys.now → AreRelative N (metrics_at rows.now j) }
+    requires end { AreBorders N m.old }
+    ensures shape { AreMetrics N m.new }
+    ensures first { (t : ℕ) → t < N → IsBackwardRow (column t m.old)
+        (lane_gain t sys.now par.now cells.old) 0 (length sys.now) (column t m.new) }
+    ensures cells { (t : ℕ) (start : List ℤ) → t < N
+        → AreForwardRows t start sys.now par.now cells.old rows.now (length sys.now)
+        → decided_cells (column t cells.new) (column t sums.new)
+            ≡ new_cells (lane_window t start (column t m.old) sys.now par.now cells.old) }
 {
     let width = sys.len();
     for i in 0..width {

@@ -2,7 +2,7 @@ use Rattle.std.proofs.Common.{List, ℤ, ap, sym, ◌∙◌, subst, arith, rules
 use Rattle.receiver_model.specs.Borders.{at}
 use Rattle.receiver_model.specs.Windows.{scaled}
 use Rattle.lock_step.specs.Vectors.{IsVector, better_by}
-use Rattle.lock_step.proofs.Vectors.{AreLanes, same-lanes, sum-lanes, lanes_stored, any_passed, sum-fits, vector-still, vector_passed, more-lanes}
+use Rattle.lock_step.proofs.Vectors.{small-vector, AreLanes, same-lanes, sum-lanes, lanes_stored, any_passed, sum-fits, vector-still, vector_passed, more-lanes}
 use Rattle.lock_step.proofs.joined.join.Goals as goal
 
 pub scaled-requires : goal.scaled-requires
@@ -15,7 +15,7 @@ pub sum-requires : goal.sum-requires
 sum-requires g c =
     let n = g.row.N in
     let e : AreLanes n 25818 (λ t. better_by c.args.before.now c.args.after.now (at c.args.p.now t) t) c.extrinsic-e.result = record { vector = c.extrinsic-e.ensures.vector; is = c.extrinsic-e.ensures.lanes } in
-    let x = same-lanes n 638 _ _ c.loaded.ensures c.requires.input in
+    let x = same-lanes n 638 _ _ c.loaded.ensures (small-vector n 638 _ c.told-x c.requires.input) in
     (search rules, (any_passed n 25818 _ _ (omega arith) e, (any_passed n 638 _ _ (omega arith) x, sum-fits n 25818 638 _ _ _ _ (omega arith) e x)))
 
 pub store-requires-2 : goal.store-requires-2
@@ -39,5 +39,5 @@ pub returns-clause-sums : goal.returns-clause-sums
 returns-clause-sums g c =
     let n = g.row.N in
     let e : AreLanes n 25818 (λ t. better_by c.args.before.now c.args.after.now (at c.args.p.now t) t) c.extrinsic-e.result = record { vector = c.extrinsic-e.ensures.vector; is = c.extrinsic-e.ensures.lanes } in
-    let x = same-lanes n 638 _ _ c.loaded.ensures c.requires.input in
+    let x = same-lanes n 638 _ _ c.loaded.ensures (small-vector n 638 _ c.told-x c.requires.input) in
     (lanes_stored n 26456 _ _ _ (omega arith) c.store-2.ensures (sum-lanes n 25818 638 _ _ _ _ _ (omega arith) e x c.sum.ensures.vector.long c.sum.ensures.lanes)).is

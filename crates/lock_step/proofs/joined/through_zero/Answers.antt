@@ -1,7 +1,7 @@
 use Rattle.std.proofs.Common.{◌∙◌, arith, rules}
 use Rattle.receiver_model.specs.Borders.{at}
 use Rattle.lock_step.specs.Lanes.{row_at}
-use Rattle.lock_step.proofs.Vectors.{AreLanes, same-lanes, sum-lanes, larger-lanes, lanes_passed, any_passed, sum-fits, more-lanes}
+use Rattle.lock_step.proofs.Vectors.{small-vector, AreLanes, same-lanes, sum-lanes, larger-lanes, lanes_passed, any_passed, sum-fits, more-lanes}
 use Rattle.lock_step.proofs.StateRows.{s0, s1, s2, s3, s4, s5, s6, s7, row-vector}
 use Rattle.lock_step.proofs.Joins.{pair, zero-lane}
 use Rattle.lock_step.proofs.joined.through_zero.Goals as goal
@@ -38,7 +38,7 @@ sum-requires g c =
     let b0 : AreLanes n 12782 (λ t. pair t c.args.before.now c.args.after.now 0 0 1 4) c.better.result = record { vector = c.better.ensures.vector; is = c.better.ensures.lanes } in
     let b1 : AreLanes n 12782 (λ t. pair t c.args.before.now c.args.after.now 6 7 7 3) c.better-2.result = record { vector = c.better-2.ensures.vector; is = c.better-2.ensures.lanes } in
     let zero = larger-lanes n 12782 _ _ _ _ _ (omega arith) b0 b1 c.larger-zero.ensures.vector.long c.larger-zero.ensures.lanes in
-    let p = same-lanes n 127 _ _ c.loaded.ensures c.requires.parity in
+    let p = same-lanes n 127 _ _ c.loaded.ensures (small-vector n 127 _ c.told-p c.requires.parity) in
     (search rules, (any_passed n 12782 _ _ (omega arith) zero, (any_passed n 127 _ _ (omega arith) p, sum-fits n 12782 127 _ _ _ _ (omega arith) zero p)))
 
 pub larger-requires : goal.larger-requires
@@ -50,7 +50,7 @@ larger-requires g c =
     let b3 : AreLanes n 12782 (λ t. pair t c.args.before.now c.args.after.now 4 2 5 6) c.better-4.result = record { vector = c.better-4.ensures.vector; is = c.better-4.ensures.lanes } in
     let zero = larger-lanes n 12782 _ _ _ _ _ (omega arith) b0 b1 c.larger-zero.ensures.vector.long c.larger-zero.ensures.lanes in
     let one = larger-lanes n 12782 _ _ _ _ _ (omega arith) b2 b3 c.larger-one.ensures.vector.long c.larger-one.ensures.lanes in
-    let p = same-lanes n 127 _ _ c.loaded.ensures c.requires.parity in
+    let p = same-lanes n 127 _ _ c.loaded.ensures (small-vector n 127 _ c.told-p c.requires.parity) in
     let earned = sum-lanes n 12782 127 _ _ _ _ _ (omega arith) zero p c.sum.ensures.vector.long c.sum.ensures.lanes in
     (search rules, (any_passed n 12909 _ _ (omega arith) earned, any_passed n 12782 _ _ (omega arith) one))
 
@@ -63,7 +63,7 @@ returns-clause-vector g c =
     let b3 : AreLanes n 12782 (λ t. pair t c.args.before.now c.args.after.now 4 2 5 6) c.better-4.result = record { vector = c.better-4.ensures.vector; is = c.better-4.ensures.lanes } in
     let zero = larger-lanes n 12782 _ _ _ _ _ (omega arith) b0 b1 c.larger-zero.ensures.vector.long c.larger-zero.ensures.lanes in
     let one = larger-lanes n 12782 _ _ _ _ _ (omega arith) b2 b3 c.larger-one.ensures.vector.long c.larger-one.ensures.lanes in
-    let p = same-lanes n 127 _ _ c.loaded.ensures c.requires.parity in
+    let p = same-lanes n 127 _ _ c.loaded.ensures (small-vector n 127 _ c.told-p c.requires.parity) in
     let earned = sum-lanes n 12782 127 _ _ _ _ _ (omega arith) zero p c.sum.ensures.vector.long c.sum.ensures.lanes in
     (lanes_passed n 12909 _ _ (omega arith) (larger-lanes n 12909 _ _ _ _ _ (omega arith) earned (more-lanes n 12782 12909 _ _ (omega arith) one) c.larger.ensures.vector.long c.larger.ensures.lanes)).vector
 
@@ -76,7 +76,7 @@ returns-clause-lanes g c = λ t lt.
     let b3 : AreLanes n 12782 (λ t. pair t c.args.before.now c.args.after.now 4 2 5 6) c.better-4.result = record { vector = c.better-4.ensures.vector; is = c.better-4.ensures.lanes } in
     let zero = larger-lanes n 12782 _ _ _ _ _ (omega arith) b0 b1 c.larger-zero.ensures.vector.long c.larger-zero.ensures.lanes in
     let one = larger-lanes n 12782 _ _ _ _ _ (omega arith) b2 b3 c.larger-one.ensures.vector.long c.larger-one.ensures.lanes in
-    let p = same-lanes n 127 _ _ c.loaded.ensures c.requires.parity in
+    let p = same-lanes n 127 _ _ c.loaded.ensures (small-vector n 127 _ c.told-p c.requires.parity) in
     let earned = sum-lanes n 12782 127 _ _ _ _ _ (omega arith) zero p c.sum.ensures.vector.long c.sum.ensures.lanes in
     (lanes_passed n 12909 _ _ (omega arith) (larger-lanes n 12909 _ _ _ _ _ (omega arith) earned (more-lanes n 12782 12909 _ _ (omega arith) one) c.larger.ensures.vector.long c.larger.ensures.lanes)).is t lt
     ∙ zero-lane t c.args.before.now c.args.after.now (at c.args.p.now t) c.told-before c.told-after

@@ -1,6 +1,6 @@
 use Rattle.std.proofs.Common.{ap, ◌∙◌, arith, rules}
 use Rattle.lock_step.specs.Lanes.{column}
-use Rattle.lock_step.proofs.Vectors.{vector_more}
+use Rattle.lock_step.proofs.Vectors.{small-vector, vector_more}
 use Rattle.lock_step.proofs.StateRows.{s0, s1, s2, s3, s4, s5, s6, s7, row-vector, nothing-vector, at-nothing, set_eight}
 use Rattle.lock_step.proofs.Steps.{backward-lane}
 use Rattle.lock_step.proofs.metrics.backward.Goals as goal
@@ -23,22 +23,22 @@ next-requires-2 g c =
 pub next-requires-3 : goal.next-requires-3
 next-requires-3 g c =
     let n = g.row.N in
-    (search rules, ((row-vector n c.args.m.now c.requires.after s5, vector_more n 638 6391 _ (omega arith) c.requires.input), ((row-vector n c.args.m.now c.requires.after s1, vector_more n 127 6391 _ (omega arith) c.requires.parity), c.greater.ensures.vector)))
+    (search rules, ((row-vector n c.args.m.now c.requires.after s5, vector_more n 638 6391 _ (omega arith) (small-vector n 638 _ c.told-x c.requires.input)), ((row-vector n c.args.m.now c.requires.after s1, vector_more n 127 6391 _ (omega arith) (small-vector n 127 _ c.told-p c.requires.parity)), c.greater.ensures.vector)))
 
 pub next-requires-4 : goal.next-requires-4
 next-requires-4 g c =
     let n = g.row.N in
-    (search rules, ((row-vector n c.args.m.now c.requires.after s1, vector_more n 638 6391 _ (omega arith) c.requires.input), ((row-vector n c.args.m.now c.requires.after s5, vector_more n 127 6391 _ (omega arith) c.requires.parity), c.greater.ensures.vector)))
+    (search rules, ((row-vector n c.args.m.now c.requires.after s1, vector_more n 638 6391 _ (omega arith) (small-vector n 638 _ c.told-x c.requires.input)), ((row-vector n c.args.m.now c.requires.after s5, vector_more n 127 6391 _ (omega arith) (small-vector n 127 _ c.told-p c.requires.parity)), c.greater.ensures.vector)))
 
 pub next-requires-5 : goal.next-requires-5
 next-requires-5 g c =
     let n = g.row.N in
-    (search rules, ((row-vector n c.args.m.now c.requires.after s2, vector_more n 638 6391 _ (omega arith) c.requires.input), ((row-vector n c.args.m.now c.requires.after s6, vector_more n 127 6391 _ (omega arith) c.requires.parity), c.greater.ensures.vector)))
+    (search rules, ((row-vector n c.args.m.now c.requires.after s2, vector_more n 638 6391 _ (omega arith) (small-vector n 638 _ c.told-x c.requires.input)), ((row-vector n c.args.m.now c.requires.after s6, vector_more n 127 6391 _ (omega arith) (small-vector n 127 _ c.told-p c.requires.parity)), c.greater.ensures.vector)))
 
 pub next-requires-6 : goal.next-requires-6
 next-requires-6 g c =
     let n = g.row.N in
-    (search rules, ((row-vector n c.args.m.now c.requires.after s6, vector_more n 638 6391 _ (omega arith) c.requires.input), ((row-vector n c.args.m.now c.requires.after s2, vector_more n 127 6391 _ (omega arith) c.requires.parity), c.greater.ensures.vector)))
+    (search rules, ((row-vector n c.args.m.now c.requires.after s6, vector_more n 638 6391 _ (omega arith) (small-vector n 638 _ c.told-x c.requires.input)), ((row-vector n c.args.m.now c.requires.after s2, vector_more n 127 6391 _ (omega arith) (small-vector n 127 _ c.told-p c.requires.parity)), c.greater.ensures.vector)))
 
 pub next-requires-7 : goal.next-requires-7
 next-requires-7 g c =
