@@ -3,3 +3,5 @@ pub mod Quarters
 pub mod StateRows
 pub mod Steps
 pub mod Joins
+pub mod Cells
+pub mod Sweeps

@@ -5,15 +5,13 @@ use Rattle.receiver_model.specs.Borders.{at}
 use Rattle.receiver_model.specs.Windows.{Extrinsic}
 use Rattle.lock_step.specs.Vectors.{AreRelative, better_by}
 use Rattle.lock_step.proofs.Vectors.{sum-small}
+use Rattle.lock_step.proofs.Cells.{same_cell}
 use Rattle.lock_step.proofs.rows.step_back.Goals as goal
 
 pub backward-requires : goal.backward-requires
 backward-requires g c =
     (search rules, (search rules, (subst (λ (m : List (List ℤ)). AreRelative g.row.N m) (sym c.keep.ensures) c.requires.after,
      (sum-small g.row.N c.args.sys.now c.args.cell.now c.add.new.out c.requires.systematic c.requires.cell c.add.ensures.vector.long c.add.ensures.lanes, c.requires.parity))))
-
-same_cell : (a b : ℤ) (p q : Bool) → a ≡ b → p ≡ q → (let c : Extrinsic = record { value = a; one = p } in c) ≡ (let d : Extrinsic = record { value = b; one = q } in d)
-same_cell a b p q e f = ap (λ (z : ℤ). let c : Extrinsic = record { value = z; one = p } in c) e ∙ ap (λ (t : Bool). let c : Extrinsic = record { value = b; one = t } in c) f
 
 whole : (r e x s k : ℤ) → r ≡ e +ℤ x → x ≡ s +ℤ k → r ≡ e +ℤ s +ℤ k
 whole r e x s k p q = omega (arith, ints)

@@ -1,0 +1,130 @@
+-- What stands after each position of the sweeps.
+use Rattle.std.proofs.Common.{◌≡◌, ◌≢◌, ℕ, suc, ◌+◌, ◌-◌, ◌<◌, ◌≤◌, List, [], length, map, set, get_or, ℤ, pos, ◌+ℤ◌, refl, sym, ap, ◌∙◌, subst, inl, inr, arith}
+use Rattle.std.specs.Prelude.{int_lt}
+use Rattle.std.specs.List.{range_with_len}
+use Rattle.std.proofs.lemmas.Bool.{cases_lt}
+use Rattle.std.proofs.lemmas.Int.{ints}
+use Rattle.std.proofs.lemmas.List.{get_or-set_same, get_or-set_other, get_or_read, get_or_past, length-set, length-map}
+use Rattle.std.proofs.lemmas.List.FromFn.{fill_by_all}
+use Rattle.std.proofs.lemmas.Simd.{get_or-zip2, length-zip2}
+use Rattle.lte_bits.specs.Softs.{IsWithin}
+use Rattle.lte_bits.specs.declared.bit.Bit.{Bit}
+use Rattle.sender_model.specs.ConstituentCoder.{State, parity}
+use Rattle.receiver_model.specs.Borders.{Border, IsBorder, at, if_zero}
+use Rattle.receiver_model.specs.Paths.{Window, Gain, gain, width}
+use Rattle.receiver_model.specs.Windows.{Extrinsic, cell_at, zero_cell, new_cell, new_cells}
+use Rattle.window_decode.specs.Ranges.{IsSoft}
+use Rattle.window_decode.specs.Recursions.{step_gain}
+use Rattle.window_decode.proofs.Within.{within-same, within-sum, within-more}
+use Rattle.window_decode.proofs.Spread.{IsNarrow}
+use Rattle.window_decode.proofs.WindowSteps.{Earns}
+use Rattle.window_decode.proofs.WindowSpread.{narrow}
+use Rattle.lock_step.specs.Lanes.{row_at, column, lane_window, decided_cells, AreWithin}
+use Rattle.lock_step.specs.Vectors.{IsSmall, AreSoft, lane_gain, metrics_at, cell_of}
+use Rattle.lock_step.proofs.StateRows.{at-column}
+use Rattle.lock_step.proofs.Cells.{same_cell}
+
+-- ---- what steps earn
+
+column-within : (b : ℕ) (rows : List (List ℤ)) (t j : ℕ) → AreWithin b rows → IsWithin b (at (column t rows) j)
+column-within b rows t j h =
+    elim (cases_lt j (length rows)) [
+      | inl inside ↦ within-same b _ _ (at-column rows t j inside) (h j t)
+      | inr past ↦ within-same b _ (pos 0) (get_or_past (column t rows) j (pos 0) (let e = length-map rows (λ (row : List ℤ). at row t) in omega (arith, e, past))) nothing
+    ]
+  where
+    nothing : IsWithin b (pos 0)
+    nothing = (omega (arith, ints), omega (arith, ints))
+
+pub lane-narrow : (t : ℕ) (sys par cells : List (List ℤ)) → AreSoft sys par cells → (j : ℕ) → IsNarrow (lane_gain t sys par cells) j
+lane-narrow t sys par cells soft j =
+    narrow (lane_window t [] [] sys par cells)
+    (let h : IsSoft (lane_window t [] [] sys par cells) = record {
+      systematic = λ j. column-within 127 sys t j soft.systematic;
+      parity = λ j. column-within 127 par t j soft.parity;
+      cells = λ j. column-within 511 cells t j soft.extrinsic;
+    } in h) j
+
+-- x and p are what input and parity bits 0 earn in lane t at position j
+pub lane-earns : (t : ℕ) (sys par cells : List (List ℤ)) (j : ℕ) (x p : ℤ) → AreSoft sys par cells → j < length sys → j < length par → j < length cells
+    → x ≡ at (row_at sys j) t +ℤ at (row_at cells j) t → p ≡ at (row_at par j) t → Earns (lane_gain t sys par cells) j x p
+lane-earns t sys par cells j x p soft ls lp lc e f =
+    let input : at (column t sys) j +ℤ at (column t cells) j ≡ x = ap (λ z. z +ℤ at (column t cells) j) (at-column sys t j ls) ∙ (ap (λ z. at (row_at sys j) t +ℤ z) (at-column cells t j lc) ∙ sym e) in
+    let own : at (column t par) j ≡ p = at-column par t j lp ∙ sym f in
+    record {
+      is = λ s u. ap (λ z. if_zero u z +ℤ if_zero (parity s u) (at (column t par) j)) input ∙ ap (λ z. if_zero u x +ℤ if_zero (parity s u) z) own;
+      input = within-same 638 x _ e (within-sum 127 511 _ _ (soft.systematic j t) (soft.extrinsic j t));
+      parity = within-same 127 p _ f (soft.parity j t);
+    }
+
+-- a row that was read
+pub row-read : (rows : List (List ℤ)) (j : ℕ) (row : List ℤ) → j < length rows → row ≡ get_or rows j row → row ≡ row_at rows j
+row-read rows j row inside is = get_or_read rows j row inside is []
+
+pub metrics-read : (rows : List (List (List ℤ))) (j : ℕ) (row : List (List ℤ)) → j < length rows → row ≡ get_or rows j row → row ≡ metrics_at rows j
+metrics-read rows j row inside is = get_or_read rows j row inside is []
+
+pub read-small : (b c : ℕ) (rows : List (List ℤ)) (j : ℕ) (row : List ℤ) → b ≤ c → AreWithin b rows → row ≡ row_at rows j → IsSmall c row
+read-small b c rows j row le h e = λ t. within-more b c _ le (within-same b _ _ (ap (λ (xs : List ℤ). at xs t) e) (h j t))
+
+-- ---- rows that are written in turn
+
+apart : (i j : ℕ) → i < j → i ≢ j
+apart i j lt e = omega (arith, lt, e)
+
+-- what holds of the rows before j, and of a new row j, holds up to it
+pub set-more : (P : ℕ → List (List ℤ) → Type 0) (rows : List (List (List ℤ))) (j : ℕ) (row : List (List ℤ)) → j < length rows → ((i : ℕ) → i < j → P i (metrics_at rows i)) → P j row
+    → (i : ℕ) → i < j + 1 → P i (metrics_at (set rows j row) i)
+set-more P rows j row inside h here i lt =
+    elim (cases_lt i j) [
+      | inl below ↦ subst (λ m. P i m) (sym (get_or-set_other rows j i row [] (apart i j below))) (h i below)
+      | inr upto ↦ (let e : j ≡ i = omega (arith, lt, upto) in subst (λ k. P k (metrics_at (set rows j row) k)) e (subst (λ m. P j m) (sym (get_or-set_same rows j row [] inside)) here))
+    ]
+
+-- the rows from the last i positions are new
+pub kept-more : (old rows : List (List ℤ)) (n i j : ℕ) (row : List ℤ) → j + suc i ≡ n → ((k : ℕ) → k + i < n → row_at rows k ≡ row_at old k) → (k : ℕ) → k + (i + 1) < n → row_at (set rows j row) k ≡ row_at old k
+kept-more old rows n i j row place h k lt = get_or-set_other rows j k row [] (λ e. omega (arith, lt, e, place)) ∙ h k (omega (arith, lt))
+
+-- the new cell of position j, and those after it
+pub renewed-more : (w : Window) (t : ℕ) (cells sums : List (List ℤ)) (n i j : ℕ) (cell sum : List ℤ) → j + suc i ≡ n → length cells ≡ n → length sums ≡ n
+    → ((k : ℕ) → n ≤ k + i → k < n → cell_of t cells sums k ≡ new_cell w k) → cell_of t (set cells j cell) (set sums j sum) j ≡ new_cell w j
+    → (k : ℕ) → n ≤ k + (i + 1) → k < n → cell_of t (set cells j cell) (set sums j sum) k ≡ new_cell w k
+renewed-more w t cells sums n i j cell sum place lc ls h here k le lt =
+    elim (cases_lt j k) [
+      | inl after ↦ other_of after ∙ h k (omega (arith, after, place)) lt
+      | inr upto ↦ (let e : j ≡ k = omega (arith, upto, le, place) in subst (λ m. cell_of t (set cells j cell) (set sums j sum) m ≡ new_cell w m) e here)
+    ]
+  where
+    beyond : j < k → k ≢ j
+    beyond lt e = omega (arith, lt, e)
+
+    other_of : j < k → cell_of t (set cells j cell) (set sums j sum) k ≡ cell_of t cells sums k
+    other_of after =
+        same_cell _ _ _ _ (ap (λ (xs : List ℤ). at xs t) (get_or-set_other cells j k cell [] (beyond after)))
+        (ap (λ (xs : List ℤ). int_lt (at xs t) (pos 0)) (get_or-set_other sums j k sum [] (beyond after)))
+
+-- the cell that was written
+pub cell-set : (t : ℕ) (cells sums : List (List ℤ)) (j : ℕ) (cell sum : List ℤ) (v : Extrinsic) → j < length cells → j < length sums
+    → (let c : Extrinsic = record { value = at cell t; one = int_lt (at sum t) (pos 0) } in c) ≡ v → cell_of t (set cells j cell) (set sums j sum) j ≡ v
+cell-set t cells sums j cell sum v lc ls e =
+    same_cell _ _ _ _ (ap (λ (xs : List ℤ). at xs t) (get_or-set_same cells j cell [] lc)) (ap (λ (xs : List ℤ). int_lt (at xs t) (pos 0)) (get_or-set_same sums j sum [] ls)) ∙ e
+
+-- all cells of a lane
+pub decided-all : (w : Window) (t : ℕ) (cells sums : List (List ℤ)) (n : ℕ) → width w ≡ n → length cells ≡ n → length sums ≡ n → ((k : ℕ) → k < n → cell_of t cells sums k ≡ new_cell w k)
+    → decided_cells (column t cells) (column t sums) ≡ new_cells w
+unfolding new_cells
+decided-all w t cells sums n same lc ls h =
+    subst (λ m. decided_cells (column t cells) (column t sums) ≡ map (new_cell w) (range_with_len 0 m)) (sym same)
+    (fill_by_all (new_cell w) (decided_cells (column t cells) (column t sums)) n zero_cell long (λ k lt. place k lt ∙ h k lt))
+  where
+    lanes : (rows : List (List ℤ)) → length (column t rows) ≡ length rows
+    lanes rows = length-map rows (λ (row : List ℤ). at row t)
+
+    long : length (decided_cells (column t cells) (column t sums)) ≡ n
+    long = length-zip2 (λ (v s : ℤ). let c : Extrinsic = record { value = v; one = int_lt s (pos 0) } in c) (column t cells) (column t sums) (lanes cells ∙ (lc ∙ sym (lanes sums ∙ ls))) ∙ (lanes cells ∙ lc)
+
+    place : (k : ℕ) → k < n → cell_at (decided_cells (column t cells) (column t sums)) k ≡ cell_of t cells sums k
+    place k lt =
+        get_or-zip2 (λ (v s : ℤ). let c : Extrinsic = record { value = v; one = int_lt s (pos 0) } in c) (column t cells) (column t sums) k (pos 0) (pos 0) zero_cell
+        (let e = lanes cells in omega (arith, lt, lc, e)) (let e = lanes sums in omega (arith, lt, ls, e))
+        ∙ same_cell _ _ _ _ (at-column cells t k (omega (arith, lt, lc))) (ap (λ z. int_lt z (pos 0)) (at-column sums t k (omega (arith, lt, ls))))
