@@ -9,6 +9,7 @@ use Rattle.sender_model.specs.ConstituentCoder.{State}
 use Rattle.receiver_model.specs.Borders.{state, state_number, number_for, at}
 use Rattle.window_decode.specs.Lanes.{IsRelative}
 use Rattle.window_decode.proofs.Within.{within-same}
+use Rattle.window_decode.proofs.EightStates.{by_eight}
 use Rattle.window_decode.proofs.LaneKernel.{relative-numbers}
 use Rattle.lock_step.specs.Lanes.{row_at, column}
 use Rattle.lock_step.specs.Vectors.{IsVector, AreMetrics, AreRelative}
@@ -110,3 +111,22 @@ copied n x l r h e f = f ∙ (ap passed e ∙ vector_passed n 6391 x (omega arit
 
 pub loaded-still : (n : ℕ) (x l : List ℤ) → IsVector n 6391 x → l ≡ x → IsVector n 32767 (passed l)
 loaded-still n x l h e = subst (λ (ys : List ℤ). IsVector n 32767 (passed ys)) (sym e) (vector-still n 6391 32767 x (omega arith) (omega arith) h)
+
+-- lane t of eight rows, row by row
+pub eight-column : (m : List (List ℤ)) (t : ℕ) → length m ≡ 8
+    → at (row_at m 0) t ∷ at (row_at m 1) t ∷ at (row_at m 2) t ∷ at (row_at m 3) t ∷ at (row_at m 4) t ∷ at (row_at m 5) t ∷ at (row_at m 6) t ∷ at (row_at m 7) t ∷ [] ≡ column t m
+eight-column m t long =
+    eight_rows (λ m. at (row_at m 0) t ∷ at (row_at m 1) t ∷ at (row_at m 2) t ∷ at (row_at m 3) t ∷ at (row_at m 4) t ∷ at (row_at m 5) t ∷ at (row_at m 6) t ∷ at (row_at m 7) t ∷ [] ≡ column t m)
+    (λ a b c d e f g h. refl) m long
+
+-- eight rows that have a border in lane t
+pub border-column : (t : ℕ) (r0 r1 r2 r3 r4 r5 r6 r7 b : List ℤ) → length b ≡ 8 → at r0 t ≡ at b 0 → at r1 t ≡ at b 1 → at r2 t ≡ at b 2 → at r3 t ≡ at b 3 → at r4 t ≡ at b 4 → at r5 t ≡ at b 5
+    → at r6 t ≡ at b 6 → at r7 t ≡ at b 7 → column t (r0 ∷ r1 ∷ r2 ∷ r3 ∷ r4 ∷ r5 ∷ r6 ∷ r7 ∷ []) ≡ b
+border-column t r0 r1 r2 r3 r4 r5 r6 r7 b long =
+    by_eight (λ b. at r0 t ≡ at b 0 → at r1 t ≡ at b 1 → at r2 t ≡ at b 2 → at r3 t ≡ at b 3 → at r4 t ≡ at b 4 → at r5 t ≡ at b 5 → at r6 t ≡ at b 6 → at r7 t ≡ at b 7
+    → column t (r0 ∷ r1 ∷ r2 ∷ r3 ∷ r4 ∷ r5 ∷ r6 ∷ r7 ∷ []) ≡ b)
+    (λ a b c d e f g h p0 p1 p2 p3 p4 p5 p6 p7. same a b c d e f g h p0 p1 p2 p3 p4 p5 p6 p7) b long
+  where
+    same : (a b c d e f g h : ℤ) → at r0 t ≡ a → at r1 t ≡ b → at r2 t ≡ c → at r3 t ≡ d → at r4 t ≡ e → at r5 t ≡ f → at r6 t ≡ g → at r7 t ≡ h
+        → at r0 t ∷ at r1 t ∷ at r2 t ∷ at r3 t ∷ at r4 t ∷ at r5 t ∷ at r6 t ∷ at r7 t ∷ [] ≡ a ∷ b ∷ c ∷ d ∷ e ∷ f ∷ g ∷ h ∷ []
+    same a b c d e f g h p0 p1 p2 p3 p4 p5 p6 p7 = cc

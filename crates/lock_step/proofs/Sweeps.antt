@@ -10,17 +10,19 @@ use Rattle.std.proofs.lemmas.Simd.{get_or-zip2, length-zip2}
 use Rattle.lte_bits.specs.Softs.{IsWithin}
 use Rattle.lte_bits.specs.declared.bit.Bit.{Bit}
 use Rattle.sender_model.specs.ConstituentCoder.{State, parity}
-use Rattle.receiver_model.specs.Borders.{Border, IsBorder, at, if_zero}
+use Rattle.receiver_model.specs.Borders.{Border, IsBorder, number_for, at, if_zero}
 use Rattle.receiver_model.specs.Paths.{Window, Gain, gain, width}
-use Rattle.receiver_model.specs.Windows.{Extrinsic, cell_at, zero_cell, new_cell, new_cells}
+use Rattle.receiver_model.specs.Windows.{Extrinsic, cell_at, zero_cell, new_cell, new_cells, forward_left, backward_left}
 use Rattle.window_decode.specs.Ranges.{IsSoft}
+use Rattle.window_decode.specs.Metrics.{IsForwardRow, IsBackwardRow, IsForward, IsBackward}
+use Rattle.window_decode.proofs.JoinedPaths.{forward-left, backward-left}
 use Rattle.window_decode.specs.Recursions.{step_gain}
 use Rattle.window_decode.proofs.Within.{within-same, within-sum, within-more}
 use Rattle.window_decode.proofs.Spread.{IsNarrow}
 use Rattle.window_decode.proofs.WindowSteps.{Earns}
 use Rattle.window_decode.proofs.WindowSpread.{narrow}
-use Rattle.lock_step.specs.Lanes.{row_at, column, lane_window, decided_cells, AreWithin}
-use Rattle.lock_step.specs.Vectors.{IsSmall, AreSoft, lane_gain, metrics_at, cell_of}
+use Rattle.lock_step.specs.Lanes.{row_at, column, border_at, lane_window, decided_cells, AreWithin}
+use Rattle.lock_step.specs.Vectors.{IsSmall, AreMetrics, AreBorders, AreSoft, lane_gain, metrics_at, cell_of}
 use Rattle.lock_step.proofs.StateRows.{at-column}
 use Rattle.lock_step.proofs.Cells.{same_cell}
 
@@ -128,3 +130,18 @@ decided-all w t cells sums n same lc ls h =
         get_or-zip2 (λ (v s : ℤ). let c : Extrinsic = record { value = v; one = int_lt s (pos 0) } in c) (column t cells) (column t sums) k (pos 0) (pos 0) zero_cell
         (let e = lanes cells in omega (arith, lt, lc, e)) (let e = lanes sums in omega (arith, lt, ls, e))
         ∙ same_cell _ _ _ _ (at-column cells t k (omega (arith, lt, lc))) (ap (λ z. int_lt z (pos 0)) (at-column sums t k (omega (arith, lt, ls))))
+
+-- ---- the ends
+
+-- metrics that are borders
+pub borders_from : (n : ℕ) (m : List (List ℤ)) (borders : List Border) → AreMetrics n m → ((t : ℕ) → t < n → column t m ≡ border_at borders t) → ((t : ℕ) → t < n → IsBorder (border_at borders t)) → AreBorders n m
+borders_from n m borders shape lanes h = record { shape = shape; border = λ t lt. subst (λ (b : Border). IsBorder b) (sym (lanes t lt)) (h t lt) }
+
+pub width-column : (rows : List (List ℤ)) (t n : ℕ) → length rows ≡ n → n ≡ length (column t rows)
+width-column rows t n e = sym (length-map rows (λ (row : List ℤ). at row t) ∙ e)
+
+pub forward-end : (w : Window) (n : ℕ) (row : List ℤ) → n ≡ width w → IsForwardRow w.start (gain w) n row → row ≡ forward_left w
+forward-end w n row e h = h.is ∙ forward-left w h.metrics (subst (λ n. IsForward (number_for w.start) (gain w) n h.metrics) e h.greatest)
+
+pub backward-end : (w : Window) (n : ℕ) (row : List ℤ) → n ≡ width w → IsBackwardRow w.end (gain w) 0 n row → row ≡ backward_left w
+backward-end w n row e h = h.is ∙ backward-left w h.metrics (subst (λ n. IsBackward (number_for w.end) (gain w) 0 n h.metrics) e h.greatest)

@@ -1,6 +1,7 @@
 //! Windows of the max-log decoder in lock step: lane t of each vector is window t.
 #![tactic(auto)]
 
+mod borders;
 mod joined;
 mod lanes;
 mod metrics;

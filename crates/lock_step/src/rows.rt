@@ -1,13 +1,14 @@
 //! N windows by rows.
 ghost use Rattle.std.specs.Prelude.{◌≡◌, ◌<◌, ◌≤◌, ℕ, ℤ, List, pos, ◌+ℤ◌, int_lt, length};
 ghost use Rattle.receiver_model.specs.Borders.{at, number_for, relative};
-ghost use Rattle.receiver_model.specs.Windows.{new_cells};
+ghost use Rattle.receiver_model.specs.Windows.{new_cells, forward_left, backward_left};
 ghost use Rattle.window_decode.specs.Recursions.{step_gain, backward, cell_through};
 ghost use Rattle.window_decode.specs.Metrics.{IsForwardRow, IsBackwardRow};
-ghost use Rattle.lock_step.specs.Lanes.{column, lane_window, decided_cells};
+ghost use Rattle.lock_step.specs.Lanes.{column, border_at, lane_window, window_at, decided_cells, IsLaneCount};
 ghost use Rattle.lock_step.specs.Vectors.{IsSmall, AreMetrics, AreRelative, AreBorders, AreSoft};
 ghost use Rattle.lock_step.specs.Vectors.{lane_gain, metrics_at, AreForwardRows};
 
+use crate::borders::{put_borders, take_borders};
 use crate::joined::join;
 use crate::lanes::add;
 use crate::metrics::{backward, forward, keep};
@@ -104,42 +105,6 @@ fn sweep_backward<const N: usize>(
     }
 }
 
-/// Puts a border's numbers into lane `t`.
-fn put_border<const N: usize>(m: &mut [[i16; N]; 8], t: usize, border: &Border)
-    requires { t < N }
-{
-    for (lanes, number) in m.iter_mut().zip(border.numbers()) {
-        lanes[t] = *number;
-    }
-}
-
-/// The numbers of borders, lane by lane.
-fn put_borders<const N: usize>(m: &mut [[i16; N]; 8], borders: &[Border])
-    requires { length borders.now ≡ N }
-{
-    for (t, border) in borders.iter().enumerate() {
-        put_border(m, t, border);
-    }
-}
-
-/// The border in lane `t`.
-fn border_at<const N: usize>(m: &[[i16; N]; 8], t: usize) -> Border
-    requires { t < N }
-{
-    Border::from_numbers([
-        m[0][t], m[1][t], m[2][t], m[3][t], m[4][t], m[5][t], m[6][t], m[7][t],
-    ])
-}
-
-/// Leaves the border of each lane.
-fn take_borders<const N: usize>(m: &[[i16; N]; 8], borders: &mut [Border])
-    requires { length borders.old ≡ N }
-{
-    for (t, border) in borders.iter_mut().enumerate() {
-        *border = border_at(m, t);
-    }
-}
-
 /// Decodes N windows between their borders: window t has lane t of each row.
 pub fn run_rows<const N: usize>(
     work: &mut LaneWork<N>,
@@ -152,6 +117,8 @@ pub fn run_rows<const N: usize>(
     ahead: &mut [Border],
     back: &mut [Border],
 )
+    requires lanes { IsLaneCount N }
+    requires least { 8 ≤ length sys.now }
     requires room { length sys.now ≤ work.old }
     requires parities { length par.now ≡ length sys.now }
     requires cells { length cells.old ≡ length sys.now }
@@ -160,13 +127,21 @@ pub fn run_rows<const N: usize>(
     requires to { length to.now ≡ N }
     requires ahead { length ahead.old ≡ N }
     requires back { length back.old ≡ N }
+    requires soft { AreSoft sys.now par.now cells.old }
+    ensures cells { (t : ℕ) → t < N → decided_cells (column t cells.new) (column t sums.new)
+        ≡ new_cells (window_at t from.now to.now sys.now par.now cells.old) }
+    ensures forward { (t : ℕ) → t < N → border_at ahead.new t
+        ≡ forward_left (window_at t from.now to.now sys.now par.now cells.old) }
+    ensures backward { (t : ℕ) → t < N → border_at back.new t
+        ≡ backward_left (window_at t from.now to.now sys.now par.now cells.old) }
     ensures room { work.new ≡ work.old }
 {
+    let rows = work.rows.as_mut_slice();
     let mut m = [[0; N]; 8];
-    put_borders(&mut m, from);
-    sweep_forward(&mut work.rows, &mut m, sys, par, cells);
+    put_borders(from, &mut m);
+    sweep_forward(rows, &mut m, sys, par, cells);
     take_borders(&m, ahead);
-    put_borders(&mut m, to);
-    sweep_backward(&work.rows, &mut m, sys, par, cells, sums);
+    put_borders(to, &mut m);
+    sweep_backward(rows, &mut m, sys, par, cells, sums);
     take_borders(&m, back);
 }

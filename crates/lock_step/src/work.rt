@@ -1,5 +1,6 @@
 //! Room for the metrics of N windows.
 ghost use Rattle.std.specs.Prelude.{◌≡◌, ◌≤◌, IfOk};
+ghost use Rattle.lock_step.specs.Lanes.{IsLaneCount};
 
 use lte_bits::NoMemory;
 use std::alloc::Global;
@@ -24,7 +25,7 @@ impl<const N: usize> Model for LaneWork<N> {
 impl<const N: usize> LaneWork<N> {
     /// Room for windows of up to `width` positions; `width` is 8 to 768.
     pub fn new(alloc: Global, width: usize) -> Result<LaneWork<N>, NoMemory>
-        requires lanes { N ≤ 64 }
+        requires lanes { IsLaneCount N }
         requires least { 8 ≤ width }
         requires most { width ≤ 768 }
         ensures { IfOk result (λ work. work ≡ width) }
