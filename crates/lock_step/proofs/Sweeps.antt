@@ -21,42 +21,42 @@ use Rattle.window_decode.proofs.Within.{within-same, within-sum, within-more}
 use Rattle.window_decode.proofs.Spread.{IsNarrow}
 use Rattle.window_decode.proofs.WindowSteps.{Earns}
 use Rattle.window_decode.proofs.WindowSpread.{narrow}
-use Rattle.lock_step.specs.Lanes.{row_at, column, border_at, lane_window, decided_cells, AreWithin}
-use Rattle.lock_step.specs.Vectors.{IsSmall, AreMetrics, AreBorders, AreSoft, lane_gain, metrics_at, cell_of}
+use Rattle.lock_step.specs.Lanes.{row_at, column, border_at, lane_window, decided_cells, AreWithin, AreSoft}
+use Rattle.lock_step.specs.Vectors.{IsSmall, AreMetrics, AreBorders, lane_gain, metrics_at, cell_of}
 use Rattle.lock_step.proofs.StateRows.{at-column}
 use Rattle.lock_step.proofs.Cells.{same_cell}
 
 -- ---- what steps earn
 
-column-within : (b : ℕ) (rows : List (List ℤ)) (t j : ℕ) → AreWithin b rows → IsWithin b (at (column t rows) j)
-column-within b rows t j h =
+column-within : (n b : ℕ) (rows : List (List ℤ)) (t j : ℕ) → t < n → AreWithin n b rows → IsWithin b (at (column t rows) j)
+column-within n b rows t j lt h =
     elim (cases_lt j (length rows)) [
-      | inl inside ↦ within-same b _ _ (at-column rows t j inside) (h j t)
+      | inl inside ↦ within-same b _ _ (at-column rows t j inside) (h j t inside lt)
       | inr past ↦ within-same b _ (pos 0) (get_or_past (column t rows) j (pos 0) (let e = length-map rows (λ (row : List ℤ). at row t) in omega (arith, e, past))) nothing
     ]
   where
     nothing : IsWithin b (pos 0)
     nothing = (omega (arith, ints), omega (arith, ints))
 
-pub lane-narrow : (t : ℕ) (sys par cells : List (List ℤ)) → AreSoft sys par cells → (j : ℕ) → IsNarrow (lane_gain t sys par cells) j
-lane-narrow t sys par cells soft j =
+pub lane-narrow : (n t : ℕ) (sys par cells : List (List ℤ)) → t < n → AreSoft n sys par cells → (j : ℕ) → IsNarrow (lane_gain t sys par cells) j
+lane-narrow n t sys par cells lt soft j =
     narrow (lane_window t [] [] sys par cells)
     (let h : IsSoft (lane_window t [] [] sys par cells) = record {
-      systematic = λ j. column-within 127 sys t j soft.systematic;
-      parity = λ j. column-within 127 par t j soft.parity;
-      cells = λ j. column-within 511 cells t j soft.extrinsic;
+      systematic = λ j. column-within n 127 sys t j lt soft.systematic;
+      parity = λ j. column-within n 127 par t j lt soft.parity;
+      cells = λ j. column-within n 511 cells t j lt soft.extrinsic;
     } in h) j
 
 -- x and p are what input and parity bits 0 earn in lane t at position j
-pub lane-earns : (t : ℕ) (sys par cells : List (List ℤ)) (j : ℕ) (x p : ℤ) → AreSoft sys par cells → j < length sys → j < length par → j < length cells
+pub lane-earns : (n t : ℕ) (sys par cells : List (List ℤ)) (j : ℕ) (x p : ℤ) → t < n → AreSoft n sys par cells → j < length sys → j < length par → j < length cells
     → x ≡ at (row_at sys j) t +ℤ at (row_at cells j) t → p ≡ at (row_at par j) t → Earns (lane_gain t sys par cells) j x p
-lane-earns t sys par cells j x p soft ls lp lc e f =
+lane-earns n t sys par cells j x p lt soft ls lp lc e f =
     let input : at (column t sys) j +ℤ at (column t cells) j ≡ x = ap (λ z. z +ℤ at (column t cells) j) (at-column sys t j ls) ∙ (ap (λ z. at (row_at sys j) t +ℤ z) (at-column cells t j lc) ∙ sym e) in
     let own : at (column t par) j ≡ p = at-column par t j lp ∙ sym f in
     record {
       is = λ s u. ap (λ z. if_zero u z +ℤ if_zero (parity s u) (at (column t par) j)) input ∙ ap (λ z. if_zero u x +ℤ if_zero (parity s u) z) own;
-      input = within-same 638 x _ e (within-sum 127 511 _ _ (soft.systematic j t) (soft.extrinsic j t));
-      parity = within-same 127 p _ f (soft.parity j t);
+      input = within-same 638 x _ e (within-sum 127 511 _ _ (soft.systematic j t ls lt) (soft.extrinsic j t lc lt));
+      parity = within-same 127 p _ f (soft.parity j t lp lt);
     }
 
 -- a row that was read
@@ -66,8 +66,8 @@ row-read rows j row inside is = get_or_read rows j row inside is []
 pub metrics-read : (rows : List (List (List ℤ))) (j : ℕ) (row : List (List ℤ)) → j < length rows → row ≡ get_or rows j row → row ≡ metrics_at rows j
 metrics-read rows j row inside is = get_or_read rows j row inside is []
 
-pub read-small : (b c : ℕ) (rows : List (List ℤ)) (j : ℕ) (row : List ℤ) → b ≤ c → AreWithin b rows → row ≡ row_at rows j → IsSmall c row
-read-small b c rows j row le h e = λ t. within-more b c _ le (within-same b _ _ (ap (λ (xs : List ℤ). at xs t) e) (h j t))
+pub read-small : (n b c : ℕ) (rows : List (List ℤ)) (j : ℕ) (row : List ℤ) → b ≤ c → j < length rows → AreWithin n b rows → row ≡ row_at rows j → IsSmall n c row
+read-small n b c rows j row le inside h e t lt = within-more b c _ le (within-same b _ _ (ap (λ (xs : List ℤ). at xs t) e) (h j t inside lt))
 
 -- ---- rows that are written in turn
 

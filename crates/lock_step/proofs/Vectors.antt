@@ -161,9 +161,9 @@ pub more-lanes : (n b c : ℕ) (f : ℕ → ℤ) (xs : List ℤ) → b ≤ c →
 more-lanes n b c f xs le h = record { vector = vector_more n b c xs le h.vector; is = h.is }
 
 -- small numbers in a row of n lanes
-pub small-vector : (n b : ℕ) (xs : List ℤ) → length xs ≡ n → IsSmall b xs → IsVector n b xs
-small-vector n b xs long h = record { long = long; bounded = h }
+pub small-vector : (n b : ℕ) (xs : List ℤ) → length xs ≡ n → IsSmall n b xs → IsVector n b xs
+small-vector n b xs long h = vector_from n b xs long h
 
 -- sums of small numbers
-pub sum-small : (n : ℕ) (xs ys r : List ℤ) → IsSmall 127 xs → IsSmall 511 ys → length r ≡ n → ((t : ℕ) → t < n → at r t ≡ at xs t +ℤ at ys t) → IsSmall 638 r
-sum-small n xs ys r h k long e = (vector_from n 638 r long (λ t lt. within-same 638 _ _ (e t lt) (within-sum 127 511 _ _ (h t) (k t)))).bounded
+pub sum-small : (n : ℕ) (xs ys r : List ℤ) → IsSmall n 127 xs → IsSmall n 511 ys → ((t : ℕ) → t < n → at r t ≡ at xs t +ℤ at ys t) → IsSmall n 638 r
+sum-small n xs ys r h k e t lt = within-same 638 _ _ (e t lt) (within-sum 127 511 _ _ (h t lt) (k t lt))

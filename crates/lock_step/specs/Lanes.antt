@@ -1,5 +1,5 @@
 -- Windows in lock step: rows of numbers, in which lane t is window t's.
-use Rattle.std.specs.Prelude.{◌≡◌, ◌⊎◌, ℕ, ℤ, pos, int_lt, List, [], length, map, slice_index_or}
+use Rattle.std.specs.Prelude.{◌≡◌, ◌<◌, ◌⊎◌, ℕ, ℤ, pos, int_lt, List, [], length, map, slice_index_or}
 use Rattle.std.specs.Simd.Lanes.{zip2}
 use Rattle.lte_bits.specs.Softs.{IsWithin}
 use Rattle.receiver_model.specs.Borders.{Border, at}
@@ -40,6 +40,12 @@ decided_cells values sums = zip2 (λ v s. record { value = v; one = int_lt s (po
 abbrev pub IsLaneCount : ℕ → Type 0
 IsLaneCount n = (n ≡ 8) ⊎ (n ≡ 16) ⊎ (n ≡ 32)
 
--- every number of the rows is from -n to n
-abbrev pub AreWithin : ℕ → List (List ℤ) → Type 0
-AreWithin n rows = (j t : ℕ) → IsWithin n (at (row_at rows j) t)
+-- every number of rows of n lanes is from -b to b
+abbrev pub AreWithin : (n b : ℕ) → List (List ℤ) → Type 0
+AreWithin n b rows = (j t : ℕ) → j < length rows → t < n → IsWithin b (at (row_at rows j) t)
+
+-- values and cells of n windows
+pub record AreSoft (n : ℕ) (sys par cells : List (List ℤ)) : Type 0 where
+  pub systematic : AreWithin n 127 sys
+  pub parity : AreWithin n 127 par
+  pub extrinsic : AreWithin n 511 cells

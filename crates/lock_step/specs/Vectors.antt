@@ -9,16 +9,16 @@ use Rattle.receiver_model.specs.Borders.{IsBorder}
 use Rattle.receiver_model.specs.Paths.{Gain, gain}
 use Rattle.receiver_model.specs.Windows.{Extrinsic, new_cell}
 use Rattle.window_decode.specs.Metrics.{IsForwardRow}
-use Rattle.lock_step.specs.Lanes.{row_at, column, lane_window, AreWithin}
+use Rattle.lock_step.specs.Lanes.{row_at, column, lane_window}
 
--- the numbers of the lanes are from -b to b
-abbrev pub IsSmall : ℕ → List ℤ → Type 0
-IsSmall b lanes = (t : ℕ) → IsWithin b (at lanes t)
+-- the numbers of n lanes are from -b to b
+abbrev pub IsSmall : (n b : ℕ) → List ℤ → Type 0
+IsSmall n b lanes = (t : ℕ) → t < n → IsWithin b (at lanes t)
 
 -- a number from -b to b in each of n lanes
 pub record IsVector (n b : ℕ) (lanes : List ℤ) : Type 0 where
   pub long : length lanes ≡ n
-  pub bounded : IsSmall b lanes
+  pub bounded : (t : ℕ) → IsWithin b (at lanes t)
 
 -- eight vectors of n lanes, one for each state
 pub record AreMetrics (n : ℕ) (m : List (List ℤ)) : Type 0 where
@@ -39,12 +39,6 @@ better_by before after p t =
 pub record AreBorders (n : ℕ) (m : List (List ℤ)) : Type 0 where
   pub shape : AreMetrics n m
   pub border : (t : ℕ) → t < n → IsBorder (column t m)
-
--- values and cells of windows
-pub record AreSoft (sys par cells : List (List ℤ)) : Type 0 where
-  pub systematic : AreWithin 127 sys
-  pub parity : AreWithin 127 par
-  pub extrinsic : AreWithin 511 cells
 
 -- what steps earn in lane t
 abbrev pub lane_gain : ℕ → (sys par cells : List (List ℤ)) → Gain

@@ -19,7 +19,7 @@ fn through_zero<const N: usize>(
 ) -> Simd<i16, N>
     requires before { AreRelative N before.now }
     requires after { AreRelative N after.now }
-    requires parity { IsSmall 127 p.now }
+    requires parity { IsSmall N 127 p.now }
     ensures vector { IsVector N 12909 result }
     ensures lanes { (t : ℕ) → t < N → at result t
         ≡ through (column t before.now) (column t after.now) (at p.now t) Zero }
@@ -44,7 +44,7 @@ fn through_one<const N: usize>(
 ) -> Simd<i16, N>
     requires before { AreRelative N before.now }
     requires after { AreRelative N after.now }
-    requires parity { IsSmall 127 p.now }
+    requires parity { IsSmall N 127 p.now }
     ensures vector { IsVector N 12909 result }
     ensures lanes { (t : ℕ) → t < N → at result t
         ≡ through (column t before.now) (column t after.now) (at p.now t) One }
@@ -69,7 +69,7 @@ pub fn extrinsic<const N: usize>(
 ) -> Simd<i16, N>
     requires before { AreRelative N before.now }
     requires after { AreRelative N after.now }
-    requires parity { IsSmall 127 p.now }
+    requires parity { IsSmall N 127 p.now }
     ensures vector { IsVector N 25818 result }
     ensures lanes { (t : ℕ) → t < N → at result t
         ≡ better_by before.now after.now (at p.now t) t }
@@ -92,8 +92,8 @@ pub fn join<const N: usize>(
 )
     requires before { AreRelative N before.now }
     requires after { AreRelative N after.now }
-    requires parity { IsSmall 127 p.now }
-    requires input { IsSmall 638 x.now }
+    requires parity { IsSmall N 127 p.now }
+    requires input { IsSmall N 638 x.now }
     ensures cell { IsVector N 511 cell.new }
     ensures sum { IsVector N 32767 sum.new }
     ensures cells { (t : ℕ) → t < N → at cell.new t

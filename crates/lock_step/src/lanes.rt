@@ -130,8 +130,8 @@ pub fn greater<const N: usize>(
 /// Leaves the sums of small numbers.
 #[inline]
 pub fn add<const N: usize>(a: &[i16; N], b: &[i16; N], out: &mut [i16; N])
-    requires first { IsSmall 638 a.now }
-    requires second { IsSmall 511 b.now }
+    requires first { IsSmall N 638 a.now }
+    requires second { IsSmall N 511 b.now }
     ensures vector { IsVector N 1149 out.new }
     ensures lanes { (t : ℕ) → t < N → at out.new t ≡ at a.now t +ℤ at b.now t }
 {

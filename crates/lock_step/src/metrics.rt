@@ -38,8 +38,8 @@ pub fn forward<const N: usize>(
     after: &mut [[i16; N]; 8],
 )
     requires before { AreRelative N m.now }
-    requires input { IsSmall 638 x.now }
-    requires parity { IsSmall 127 p.now }
+    requires input { IsSmall N 638 x.now }
+    requires parity { IsSmall N 127 p.now }
     ensures shape { AreMetrics N after.new }
     ensures lanes { (t : ℕ) → t < N → column t after.new
         ≡ relative (forward (number_for (column t m.now)) (step_gain (at x.now t) (at p.now t))) }
@@ -68,8 +68,8 @@ pub fn backward<const N: usize>(
     before: &mut [[i16; N]; 8],
 )
     requires after { AreRelative N m.now }
-    requires input { IsSmall 638 x.now }
-    requires parity { IsSmall 127 p.now }
+    requires input { IsSmall N 638 x.now }
+    requires parity { IsSmall N 127 p.now }
     ensures shape { AreMetrics N before.new }
     ensures lanes { (t : ℕ) → t < N → column t before.new
         ≡ relative (backward (number_for (column t m.now)) (step_gain (at x.now t) (at p.now t))) }

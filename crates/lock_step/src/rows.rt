@@ -4,8 +4,8 @@ ghost use Rattle.receiver_model.specs.Borders.{at, number_for, relative};
 ghost use Rattle.receiver_model.specs.Windows.{new_cells, forward_left, backward_left};
 ghost use Rattle.window_decode.specs.Recursions.{step_gain, backward, cell_through};
 ghost use Rattle.window_decode.specs.Metrics.{IsForwardRow, IsBackwardRow};
-ghost use Rattle.lock_step.specs.Lanes.{column, border_at, lane_window, window_at, decided_cells, IsLaneCount};
-ghost use Rattle.lock_step.specs.Vectors.{IsSmall, AreMetrics, AreRelative, AreBorders, AreSoft};
+ghost use Rattle.lock_step.specs.Lanes.{column, border_at, lane_window, window_at, decided_cells, AreSoft, IsLaneCount};
+ghost use Rattle.lock_step.specs.Vectors.{IsSmall, AreMetrics, AreRelative, AreBorders};
 ghost use Rattle.lock_step.specs.Vectors.{lane_gain, metrics_at, AreForwardRows};
 
 use crate::borders::{put_borders, take_borders};
@@ -26,7 +26,7 @@ fn sweep_forward<const N: usize>(
     requires room { length sys.now ≤ length rows.old }
     requires parities { length par.now ≡ length sys.now }
     requires cells { length cells.now ≡ length sys.now }
-    requires soft { AreSoft sys.now par.now cells.now }
+    requires soft { AreSoft N sys.now par.now cells.now }
     requires start { AreBorders N m.old }
     ensures shapes { (j : ℕ) → j < length sys.now → AreMetrics N (metrics_at rows.new j) }
     ensures rows { (t : ℕ) → t < N
@@ -54,9 +54,9 @@ fn step_back<const N: usize>(
 )
     requires before { AreRelative N before.now }
     requires after { AreRelative N m.old }
-    requires systematic { IsSmall 127 sys.now }
-    requires parity { IsSmall 127 par.now }
-    requires cell { IsSmall 511 cell.old }
+    requires systematic { IsSmall N 127 sys.now }
+    requires parity { IsSmall N 127 par.now }
+    requires cell { IsSmall N 511 cell.old }
     ensures shape { AreMetrics N m.new }
     ensures metrics { (t : ℕ) → t < N → column t m.new
         ≡ relative (backward (number_for (column t m.old))
@@ -87,7 +87,7 @@ fn sweep_backward<const N: usize>(
     requires parities { length par.now ≡ length sys.now }
     requires cells { length cells.old ≡ length sys.now }
     requires sums { length sums.old ≡ length sys.now }
-    requires soft { AreSoft sys.now par.now cells.old }
+    requires soft { AreSoft N sys.now par.now cells.old }
     requires rows { (j : ℕ) → j < length sys.now → AreRelative N (metrics_at rows.now j) }
     requires end { AreBorders N m.old }
     ensures shape { AreMetrics N m.new }
@@ -127,7 +127,7 @@ pub fn run_rows<const N: usize>(
     requires to { length to.now ≡ N }
     requires ahead { length ahead.old ≡ N }
     requires back { length back.old ≡ N }
-    requires soft { AreSoft sys.now par.now cells.old }
+    requires soft { AreSoft N sys.now par.now cells.old }
     ensures cells { (t : ℕ) → t < N → decided_cells (column t cells.new) (column t sums.new)
         ≡ new_cells (window_at t from.now to.now sys.now par.now cells.old) }
     ensures forward { (t : ℕ) → t < N → border_at ahead.new t

@@ -18,7 +18,7 @@ take_borders-requires g c =
     (search rules, (search rules, (c.requires.ahead, record {
       shape = c.sweep_forward.ensures.shape;
       border = λ t lt.
-          forward_row-border _ _ (length c.args.sys.now) _ c.requires.least (λ i below. lane-narrow t c.args.sys.now c.args.par.now c.args.cells.now c.requires.soft i) (c.sweep_forward.ensures.last t lt);
+          forward_row-border _ _ (length c.args.sys.now) _ c.requires.least (λ i below. lane-narrow g.row.N t c.args.sys.now c.args.par.now c.args.cells.now lt c.requires.soft i) (c.sweep_forward.ensures.last t lt);
     })))
 
 pub sweep_backward-requires : goal.sweep_backward-requires
@@ -28,7 +28,7 @@ sweep_backward-requires g c =
      (λ j below. record {
        shape = c.sweep_forward.ensures.shapes j below;
        relative = λ t lt.
-           forward-relative _ _ j _ (start.border t lt) (λ i _. lane-narrow t c.args.sys.now c.args.par.now c.args.cells.now c.requires.soft i) (c.sweep_forward.ensures.rows t lt j below);
+           forward-relative _ _ j _ (start.border t lt) (λ i _. lane-narrow g.row.N t c.args.sys.now c.args.par.now c.args.cells.now lt c.requires.soft i) (c.sweep_forward.ensures.rows t lt j below);
      },
      borders_from g.row.N c.put_borders-2.new.m c.args.to.now c.put_borders-2.ensures.shape c.put_borders-2.ensures.lanes c.put_borders-2.ensures.borders))))))))
 
@@ -37,7 +37,7 @@ take_borders-requires-2 g c =
     (search rules, (search rules, (c.requires.back, record {
       shape = c.sweep_backward.ensures.shape;
       border = λ t lt.
-          backward_row-border _ _ (length c.args.sys.now) _ c.requires.least (λ i below. lane-narrow t c.args.sys.now c.args.par.now c.args.cells.now c.requires.soft i) (c.sweep_backward.ensures.first t lt);
+          backward_row-border _ _ (length c.args.sys.now) _ c.requires.least (λ i below. lane-narrow g.row.N t c.args.sys.now c.args.par.now c.args.cells.now lt c.requires.soft i) (c.sweep_backward.ensures.first t lt);
     })))
 
 pub returns-clause-cells : goal.returns-clause-cells

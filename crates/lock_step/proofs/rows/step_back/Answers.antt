@@ -11,7 +11,7 @@ use Rattle.lock_step.proofs.rows.step_back.Goals as goal
 pub backward-requires : goal.backward-requires
 backward-requires g c =
     (search rules, (search rules, (subst (λ (m : List (List ℤ)). AreRelative g.row.N m) (sym c.keep.ensures) c.requires.after,
-     (sum-small g.row.N c.args.sys.now c.args.cell.now c.add.new.out c.requires.systematic c.requires.cell c.add.ensures.vector.long c.add.ensures.lanes, c.requires.parity))))
+     (sum-small g.row.N c.args.sys.now c.args.cell.now c.add.new.out c.requires.systematic c.requires.cell c.add.ensures.lanes, c.requires.parity))))
 
 whole : (r e x s k : ℤ) → r ≡ e +ℤ x → x ≡ s +ℤ k → r ≡ e +ℤ s +ℤ k
 whole r e x s k p q = omega (arith, ints)

@@ -37,10 +37,10 @@ step_back-requires g c =
     (search rules, (search rules, (subst (λ (m : List (List ℤ)). AreRelative g.row.N m) (sym r) (c.requires.rows j (omega (arith, place))),
      (record {
        shape = h.shape;
-       relative = λ t lt. backward-relative _ _ (n - i) i _ (c.requires.end.border t lt) (λ k below. lane-narrow t sys par cells c.requires.soft k) (h.row t lt);
+       relative = λ t lt. backward-relative _ _ (n - i) i _ (c.requires.end.border t lt) (λ k below. lane-narrow g.row.N t sys par cells lt c.requires.soft k) (h.row t lt);
      },
-     (read-small 127 127 sys j _ (omega arith) c.requires.soft.systematic s, (read-small 127 127 par j _ (omega arith) c.requires.soft.parity p,
-      read-small 511 511 cells j _ (omega arith) c.requires.soft.extrinsic (h.kept j (omega (arith, place)))))))))
+     (read-small g.row.N 127 127 sys j _ (omega arith) (omega (arith, place)) c.requires.soft.systematic s, (read-small g.row.N 127 127 par j _ (omega arith) (omega (arith, place, c.requires.parities)) c.requires.soft.parity p,
+      read-small g.row.N 511 511 cells j _ (omega arith) (omega (arith, place, c.requires.cells)) c.requires.soft.extrinsic (h.kept j (omega (arith, place)))))))))
 
 pub loop-i-preserved : goal.loop-i-preserved
 loop-i-preserved g c =
@@ -63,7 +63,7 @@ loop-i-preserved g c =
           backward_at _ _ j (n - (i + 1)) (i + 1) (i + 1) _ (omega (arith, place)) refl
           (backward-row (column t c.args.m.now) (lane_gain t sys par cells) j i (column t c.loop-i.m) (column t c.step_back.new.m) (x t) (at c.index-par-j.result t)
           (backward_at _ _ (n - i) (suc j) i i (column t c.loop-i.m) (omega (arith, place)) refl (h.row t lt))
-          (lane-earns t sys par cells j (x t) (at c.index-par-j.result t) c.requires.soft in_sys in_par in_cells
+          (lane-earns g.row.N t sys par cells j (x t) (at c.index-par-j.result t) lt c.requires.soft in_sys in_par in_cells
           (ap (λ (xs : List ℤ). at xs t +ℤ at (row_at c.loop-i.cells j) t) s ∙ ap (λ (xs : List ℤ). at (row_at sys j) t +ℤ at xs t) own)
           (ap (λ (xs : List ℤ). at xs t) p))
           (c.step_back.ensures.metrics t lt));

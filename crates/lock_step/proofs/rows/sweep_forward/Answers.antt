@@ -25,14 +25,14 @@ keep-requires g c =
     (search rules, (search rules, record {
       shape = h.shape;
       relative = λ t lt.
-          forward-relative _ _ c.loop-j.j _ (c.requires.start.border t lt) (λ i below. lane-narrow t c.args.sys.now c.args.par.now c.args.cells.now c.requires.soft i) (h.row t lt);
+          forward-relative _ _ c.loop-j.j _ (c.requires.start.border t lt) (λ i below. lane-narrow g.row.N t c.args.sys.now c.args.par.now c.args.cells.now lt c.requires.soft i) (h.row t lt);
     }))
 
 pub add-requires : goal.add-requires
 add-requires g c =
     let s = row-read c.args.sys.now c.loop-j.j c.index-sys-j.result c.loop-j-test.true c.index-sys-j.is in
     let k = row-read c.args.cells.now c.loop-j.j c.index-cells-j.result (omega (arith, c.loop-j-test.true, c.requires.cells)) c.index-cells-j.is in
-    (search rules, (read-small 127 638 c.args.sys.now c.loop-j.j _ (omega arith) c.requires.soft.systematic s, read-small 511 511 c.args.cells.now c.loop-j.j _ (omega arith) c.requires.soft.extrinsic k))
+    (search rules, (read-small g.row.N 127 638 c.args.sys.now c.loop-j.j _ (omega arith) c.loop-j-test.true c.requires.soft.systematic s, read-small g.row.N 511 511 c.args.cells.now c.loop-j.j _ (omega arith) (omega (arith, c.loop-j-test.true, c.requires.cells)) c.requires.soft.extrinsic k))
 
 pub forward-requires : goal.forward-requires
 forward-requires g c =
@@ -44,12 +44,12 @@ forward-requires g c =
     (search rules, (search rules, (subst (λ (m : List (List ℤ)). AreRelative g.row.N m) (sym kept) (record {
       shape = h.shape;
       relative = λ t lt.
-          forward-relative _ _ j _ (c.requires.start.border t lt) (λ i below. lane-narrow t c.args.sys.now c.args.par.now c.args.cells.now c.requires.soft i) (h.row t lt);
+          forward-relative _ _ j _ (c.requires.start.border t lt) (λ i below. lane-narrow g.row.N t c.args.sys.now c.args.par.now c.args.cells.now lt c.requires.soft i) (h.row t lt);
     }),
     (sum-small g.row.N c.index-sys-j.result c.index-cells-j.result c.add.new.out
-     (read-small 127 127 c.args.sys.now j _ (omega arith) c.requires.soft.systematic s) (read-small 511 511 c.args.cells.now j _ (omega arith) c.requires.soft.extrinsic k)
-     c.add.ensures.vector.long c.add.ensures.lanes,
-     read-small 127 127 c.args.par.now j _ (omega arith) c.requires.soft.parity p))))
+     (read-small g.row.N 127 127 c.args.sys.now j _ (omega arith) c.loop-j-test.true c.requires.soft.systematic s) (read-small g.row.N 511 511 c.args.cells.now j _ (omega arith) (omega (arith, c.loop-j-test.true, c.requires.cells)) c.requires.soft.extrinsic k)
+     c.add.ensures.lanes,
+     read-small g.row.N 127 127 c.args.par.now j _ (omega arith) (omega (arith, c.loop-j-test.true, c.requires.parities)) c.requires.soft.parity p))))
 
 pub loop-j-preserved : goal.loop-j-preserved
 loop-j-preserved g c =
@@ -66,7 +66,7 @@ loop-j-preserved g c =
       shape = c.forward.ensures.shape;
       row = λ t lt.
           forward-row (column t c.args.m.now) (lane_gain t sys par cells) j (column t c.loop-j.m) (column t c.forward.new.after) (at c.add.new.out t) (at c.index-par-j.result t) (h.row t lt)
-          (lane-earns t sys par cells j (at c.add.new.out t) (at c.index-par-j.result t) c.requires.soft c.loop-j-test.true in_par in_cells
+          (lane-earns g.row.N t sys par cells j (at c.add.new.out t) (at c.index-par-j.result t) lt c.requires.soft c.loop-j-test.true in_par in_cells
           (c.add.ensures.lanes t lt ∙ (ap (λ (xs : List ℤ). at xs t +ℤ at c.index-cells-j.result t) s ∙ ap (λ (xs : List ℤ). at (row_at sys j) t +ℤ at xs t) k))
           (ap (λ (xs : List ℤ). at xs t) p))
           (c.forward.ensures.lanes t lt ∙ ap (λ (m : List (List ℤ)). relative (forward (number_for (column t m)) (step_gain (at c.add.new.out t) (at c.index-par-j.result t)))) kept);
