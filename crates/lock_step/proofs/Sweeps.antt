@@ -1,18 +1,18 @@
 -- What stands after each position of the sweeps.
-use Rattle.std.proofs.Common.{◌≡◌, ◌≢◌, ℕ, suc, ◌+◌, ◌-◌, ◌<◌, ◌≤◌, List, [], length, map, set, get_or, ℤ, pos, ◌+ℤ◌, refl, sym, ap, ◌∙◌, subst, inl, inr, arith}
-use Rattle.std.specs.Prelude.{int_lt}
+use Rattle.std.proofs.Common.{◌≡◌, ◌≢◌, ℕ, suc, ◌+◌, ◌-◌, ◌<◌, ◌≤◌, List, [], length, map, set, get_or, ℤ, pos, ◌+ℤ◌, ◌*ℤ◌, refl, sym, ap, ◌∙◌, subst, inl, inr, arith}
+use Rattle.std.specs.Prelude.{int_lt, int_div}
 use Rattle.std.specs.List.{range_with_len}
 use Rattle.std.proofs.lemmas.Bool.{cases_lt}
-use Rattle.std.proofs.lemmas.Int.{ints}
+use Rattle.std.proofs.lemmas.Int.{ints, clamps}
 use Rattle.std.proofs.lemmas.List.{get_or-set_same, get_or-set_other, get_or_read, get_or_past, length-set, length-map}
-use Rattle.std.proofs.lemmas.List.FromFn.{fill_by_all}
+use Rattle.std.proofs.lemmas.List.FromFn.{fill_by_all, get_or-map-range_with_len}
 use Rattle.std.proofs.lemmas.Simd.{get_or-zip2, length-zip2}
-use Rattle.lte_bits.specs.Softs.{IsWithin}
+use Rattle.lte_bits.specs.Softs.{IsWithin, clamped}
 use Rattle.lte_bits.specs.declared.bit.Bit.{Bit}
 use Rattle.sender_model.specs.ConstituentCoder.{State, parity}
 use Rattle.receiver_model.specs.Borders.{Border, IsBorder, number_for, at, if_zero}
 use Rattle.receiver_model.specs.Paths.{Window, Gain, gain, width}
-use Rattle.receiver_model.specs.Windows.{Extrinsic, cell_at, zero_cell, new_cell, new_cells, forward_left, backward_left}
+use Rattle.receiver_model.specs.Windows.{Extrinsic, extrinsic, cell_at, zero_cell, new_cell, new_cells, forward_left, backward_left}
 use Rattle.window_decode.specs.Ranges.{IsSoft}
 use Rattle.window_decode.specs.Metrics.{IsForwardRow, IsBackwardRow, IsForward, IsBackward}
 use Rattle.window_decode.proofs.JoinedPaths.{forward-left, backward-left}
@@ -111,25 +111,50 @@ pub cell-set : (t : ℕ) (cells sums : List (List ℤ)) (j : ℕ) (cell sum : Li
 cell-set t cells sums j cell sum v lc ls e =
     same_cell _ _ _ _ (ap (λ (xs : List ℤ). at xs t) (get_or-set_same cells j cell [] lc)) (ap (λ (xs : List ℤ). int_lt (at xs t) (pos 0)) (get_or-set_same sums j sum [] ls)) ∙ e
 
--- all cells of a lane
-pub decided-all : (w : Window) (t : ℕ) (cells sums : List (List ℤ)) (n : ℕ) → width w ≡ n → length cells ≡ n → length sums ≡ n → ((k : ℕ) → k < n → cell_of t cells sums k ≡ new_cell w k)
-    → decided_cells (column t cells) (column t sums) ≡ new_cells w
-unfolding new_cells
-decided-all w t cells sums n same lc ls h =
-    subst (λ m. decided_cells (column t cells) (column t sums) ≡ map (new_cell w) (range_with_len 0 m)) (sym same)
-    (fill_by_all (new_cell w) (decided_cells (column t cells) (column t sums)) n zero_cell long (λ k lt. place k lt ∙ h k lt))
+-- the cells of a lane
+abbrev make : ℤ → ℤ → Extrinsic
+make v s = record { value = v; one = int_lt s (pos 0) }
+
+decided_at : (t : ℕ) (cells sums : List (List ℤ)) (n : ℕ) → length cells ≡ n → length sums ≡ n
+    → (length (decided_cells (column t cells) (column t sums)) ≡ n) × ((k : ℕ) → k < n → cell_at (decided_cells (column t cells) (column t sums)) k ≡ cell_of t cells sums k)
+decided_at t cells sums n lc ls = (long, place)
   where
     lanes : (rows : List (List ℤ)) → length (column t rows) ≡ length rows
     lanes rows = length-map rows (λ (row : List ℤ). at row t)
 
     long : length (decided_cells (column t cells) (column t sums)) ≡ n
-    long = length-zip2 (λ (v s : ℤ). let c : Extrinsic = record { value = v; one = int_lt s (pos 0) } in c) (column t cells) (column t sums) (lanes cells ∙ (lc ∙ sym (lanes sums ∙ ls))) ∙ (lanes cells ∙ lc)
+    long = length-zip2 make (column t cells) (column t sums) (lanes cells ∙ (lc ∙ sym (lanes sums ∙ ls))) ∙ (lanes cells ∙ lc)
 
     place : (k : ℕ) → k < n → cell_at (decided_cells (column t cells) (column t sums)) k ≡ cell_of t cells sums k
     place k lt =
-        get_or-zip2 (λ (v s : ℤ). let c : Extrinsic = record { value = v; one = int_lt s (pos 0) } in c) (column t cells) (column t sums) k (pos 0) (pos 0) zero_cell
+        get_or-zip2 make (column t cells) (column t sums) k (pos 0) (pos 0) zero_cell
         (let e = lanes cells in omega (arith, lt, lc, e)) (let e = lanes sums in omega (arith, lt, ls, e))
         ∙ same_cell _ _ _ _ (at-column cells t k (omega (arith, lt, lc))) (ap (λ z. int_lt z (pos 0)) (at-column sums t k (omega (arith, lt, ls))))
+
+-- all cells of a lane
+pub decided-all : (w : Window) (t : ℕ) (cells sums : List (List ℤ)) (n : ℕ) → width w ≡ n → length cells ≡ n → length sums ≡ n → ((k : ℕ) → k < n → cell_of t cells sums k ≡ new_cell w k)
+    → decided_cells (column t cells) (column t sums) ≡ new_cells w
+unfolding new_cells
+decided-all w t cells sums n same lc ls h =
+    let d = decided_at t cells sums n lc ls in
+    subst (λ m. decided_cells (column t cells) (column t sums) ≡ map (new_cell w) (range_with_len 0 m)) (sym same)
+    (fill_by_all (new_cell w) (decided_cells (column t cells) (column t sums)) n zero_cell d.0 (λ k lt. d.1 k lt ∙ h k lt))
+
+new_cell_at : (w : Window) (k : ℕ) → k < width w → cell_at (new_cells w) k ≡ new_cell w k
+unfolding new_cells
+new_cell_at w k lt = get_or-map-range_with_len (new_cell w) 0 (width w) k k zero_cell lt (let e : 0 + k ≡ k = omega arith in e)
+
+-- new cells are clamped
+pub new-within : (n len : ℕ) (w : ℕ → Window) (cells sums : List (List ℤ)) → length cells ≡ len → length sums ≡ len → ((t : ℕ) → width (w t) ≡ len)
+    → ((t : ℕ) → t < n → decided_cells (column t cells) (column t sums) ≡ new_cells (w t)) → AreWithin n 511 cells
+new-within n len w cells sums lc ls same h = λ j t inside lt.
+    let below : j < len = omega (arith, inside, lc) in
+    let is : cell_of t cells sums j ≡ new_cell (w t) j =
+    sym ((decided_at t cells sums len lc ls).1 j below) ∙ (ap (λ (cs : List Extrinsic). cell_at cs j) (h t lt) ∙ new_cell_at (w t) j (let e = same t in omega (arith, below, e))) in
+    within-same 511 _ _ (ap (λ (c : Extrinsic). c.value) is) (clamped-within (int_div (pos 3 *ℤ extrinsic (w t) j) (pos 4)))
+  where
+    clamped-within : (y : ℤ) → IsWithin 511 (clamped 511 y)
+    clamped-within y = (omega (arith, ints, clamps), omega (arith, ints, clamps))
 
 -- ---- the ends
 

@@ -4,7 +4,7 @@ ghost use Rattle.receiver_model.specs.Borders.{at, number_for, relative};
 ghost use Rattle.receiver_model.specs.Windows.{new_cells, forward_left, backward_left};
 ghost use Rattle.window_decode.specs.Recursions.{step_gain, backward, cell_through};
 ghost use Rattle.window_decode.specs.Metrics.{IsForwardRow, IsBackwardRow};
-ghost use Rattle.lock_step.specs.Lanes.{column, border_at, lane_window, window_at, decided_cells, AreSoft, IsLaneCount};
+ghost use Rattle.lock_step.specs.Lanes.{column, border_at, lane_window, window_at, decided_cells, AreWithin, AreSoft, IsLaneCount};
 ghost use Rattle.lock_step.specs.Vectors.{IsSmall, AreMetrics, AreRelative, AreBorders};
 ghost use Rattle.lock_step.specs.Vectors.{lane_gain, metrics_at, AreForwardRows};
 
@@ -130,6 +130,7 @@ pub fn run_rows<const N: usize>(
     requires soft { AreSoft N sys.now par.now cells.old }
     ensures cells { (t : ℕ) → t < N → decided_cells (column t cells.new) (column t sums.new)
         ≡ new_cells (window_at t from.now to.now sys.now par.now cells.old) }
+    ensures within { AreWithin N 511 cells.new }
     ensures forward { (t : ℕ) → t < N → border_at ahead.new t
         ≡ forward_left (window_at t from.now to.now sys.now par.now cells.old) }
     ensures backward { (t : ℕ) → t < N → border_at back.new t

@@ -5,7 +5,7 @@ use Rattle.window_decode.proofs.WindowSteps.{forward-relative}
 use Rattle.window_decode.proofs.WindowSweep.{forward_row-border, backward_row-border}
 use Rattle.lock_step.specs.Lanes.{column, border_at, lane_window, window_at}
 use Rattle.lock_step.specs.Vectors.{AreBorders, lane_gain, AreForwardRows}
-use Rattle.lock_step.proofs.Sweeps.{lane-narrow, borders_from, width-column, forward-end, backward-end}
+use Rattle.lock_step.proofs.Sweeps.{lane-narrow, borders_from, width-column, new-within, forward-end, backward-end}
 use Rattle.lock_step.proofs.rows.run_rows.Goals as goal
 
 pub sweep_forward-requires : goal.sweep_forward-requires
@@ -46,6 +46,12 @@ returns-clause-cells g c = λ t lt.
     c.sweep_backward.ensures.cells t (border_at c.args.from.now t) lt
     (subst (λ (b : List ℤ). AreForwardRows t b sys par cells c.sweep_forward.new.rows (length sys)) (c.put_borders.ensures.lanes t lt) (c.sweep_forward.ensures.rows t lt))
     ∙ ap (λ (b : List ℤ). new_cells (lane_window t (border_at c.args.from.now t) b sys par cells)) (c.put_borders-2.ensures.lanes t lt)
+
+pub returns-clause-within : goal.returns-clause-within
+returns-clause-within g c =
+    let sys = c.args.sys.now in let par = c.args.par.now in let cells = c.args.cells.now in
+    new-within g.row.N (length sys) (λ t. window_at t c.args.from.now c.args.to.now sys par cells) c.sweep_backward.new.cells c.sweep_backward.new.sums
+    (c.sweep_backward.auto.cells ∙ c.requires.cells) (c.sweep_backward.auto.sums ∙ c.requires.sums) (λ t. sym (width-column cells t (length sys) c.requires.cells)) (returns-clause-cells g c)
 
 pub returns-clause-forward : goal.returns-clause-forward
 returns-clause-forward g c = λ t lt.
