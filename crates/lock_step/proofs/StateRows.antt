@@ -1,18 +1,17 @@
 -- Eight rows of N lanes as the metrics of N windows.
-use Rattle.std.proofs.Common.{◌≡◌, ℕ, ◌+◌, ◌*◌, ◌<◌, ◌≤◌, List, [], ◌∷◌, length, map, set, replicate, ℤ, pos, ◌+ℤ◌, ◌-ℤ◌, refl, sym, ap, ◌∙◌, subst, arith}
-use Rattle.std.proofs.lemmas.List.{get_or-map, get_or-replicate, length-map, length-replicate}
+use Rattle.std.proofs.Common.{◌≡◌, ℕ, ◌<◌, List, [], ◌∷◌, length, set, replicate, ℤ, pos, refl, sym, ap, ◌∙◌, subst, arith}
+use Rattle.std.proofs.lemmas.List.{get_or-map, get_or-replicate, length-replicate}
 use Rattle.std.proofs.lemmas.Int.{ints}
 use Rattle.lte_bits.specs.Softs.{IsWithin}
 use Rattle.lte_bits.specs.declared.bit.Bit.{Bit}
 use Rattle.lte_bits.specs.declared.bit.Bit.TheVariants.{Zero, One}
 use Rattle.sender_model.specs.ConstituentCoder.{State}
 use Rattle.receiver_model.specs.Borders.{state, state_number, number_for, at}
-use Rattle.window_decode.specs.Lanes.{IsRelative}
 use Rattle.window_decode.proofs.Within.{within-same}
 use Rattle.window_decode.proofs.EightStates.{by_eight}
 use Rattle.window_decode.proofs.LaneKernel.{relative-numbers}
 use Rattle.lock_step.specs.Lanes.{row_at, column}
-use Rattle.lock_step.specs.Vectors.{IsVector, AreMetrics, AreRelative}
+use Rattle.lock_step.specs.Vectors.{IsVector, AreRelative}
 use Rattle.lock_step.proofs.Vectors.{vector_from, vector_passed, vector-still}
 use Rattle.window_decode.proofs.LaneNumbers.{passed}
 

@@ -1,22 +1,20 @@
 -- What stands after each position of the sweeps.
-use Rattle.std.proofs.Common.{◌≡◌, ◌≢◌, ℕ, suc, ◌+◌, ◌-◌, ◌<◌, ◌≤◌, List, [], length, map, set, get_or, ℤ, pos, ◌+ℤ◌, ◌*ℤ◌, refl, sym, ap, ◌∙◌, subst, inl, inr, arith}
+use Rattle.std.proofs.Common.{◌≡◌, ◌≢◌, ℕ, suc, ◌+◌, ◌<◌, ◌≤◌, List, [], length, map, set, get_or, ℤ, pos, ◌+ℤ◌, ◌*ℤ◌, sym, ap, ◌∙◌, subst, inl, inr, arith}
 use Rattle.std.specs.Prelude.{int_lt, int_div}
 use Rattle.std.specs.List.{range_with_len}
 use Rattle.std.proofs.lemmas.Bool.{cases_lt}
 use Rattle.std.proofs.lemmas.Int.{ints, clamps}
-use Rattle.std.proofs.lemmas.List.{get_or-set_same, get_or-set_other, get_or_read, get_or_past, length-set, length-map}
+use Rattle.std.proofs.lemmas.List.{get_or-set_same, get_or-set_other, get_or_read, get_or_past, length-map}
 use Rattle.std.proofs.lemmas.List.FromFn.{fill_by_all, get_or-map-range_with_len}
 use Rattle.std.proofs.lemmas.Simd.{get_or-zip2, length-zip2}
 use Rattle.lte_bits.specs.Softs.{IsWithin, clamped}
-use Rattle.lte_bits.specs.declared.bit.Bit.{Bit}
-use Rattle.sender_model.specs.ConstituentCoder.{State, parity}
+use Rattle.sender_model.specs.ConstituentCoder.{parity}
 use Rattle.receiver_model.specs.Borders.{Border, IsBorder, number_for, at, if_zero}
-use Rattle.receiver_model.specs.Paths.{Window, Gain, gain, width}
+use Rattle.receiver_model.specs.Paths.{Window, gain, width}
 use Rattle.receiver_model.specs.Windows.{Extrinsic, extrinsic, cell_at, zero_cell, new_cell, new_cells, forward_left, backward_left}
 use Rattle.window_decode.specs.Ranges.{IsSoft}
 use Rattle.window_decode.specs.Metrics.{IsForwardRow, IsBackwardRow, IsForward, IsBackward}
 use Rattle.window_decode.proofs.JoinedPaths.{forward-left, backward-left}
-use Rattle.window_decode.specs.Recursions.{step_gain}
 use Rattle.window_decode.proofs.Within.{within-same, within-sum, within-more}
 use Rattle.window_decode.proofs.Spread.{IsNarrow}
 use Rattle.window_decode.proofs.WindowSteps.{Earns}

@@ -7,7 +7,7 @@ use Rattle.window_decode.specs.Lanes.{IsRelative}
 use Rattle.window_decode.specs.Recursions.{through}
 use Rattle.receiver_model.specs.Borders.{IsBorder}
 use Rattle.receiver_model.specs.Paths.{Gain, gain}
-use Rattle.receiver_model.specs.Windows.{Extrinsic, new_cell}
+use Rattle.receiver_model.specs.Windows.{Extrinsic}
 use Rattle.window_decode.specs.Metrics.{IsForwardRow}
 use Rattle.lock_step.specs.Lanes.{row_at, column, lane_window}
 

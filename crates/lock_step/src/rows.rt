@@ -60,11 +60,11 @@ fn step_back<const N: usize>(
     ensures shape { AreMetrics N m.new }
     ensures metrics { (t : ℕ) → t < N → column t m.new
         ≡ relative (backward (number_for (column t m.old))
-            (step_gain (at sys.now t +ℤ at cell.old t) (at par.now t))) }
+        (step_gain (at sys.now t +ℤ at cell.old t) (at par.now t))) }
     ensures cells { (t : ℕ) → t < N
         → record { value = at cell.new t; one = int_lt (at sum.new t) (pos 0) }
-            ≡ cell_through (column t before.now) (column t m.old)
-                (at sys.now t) (at par.now t) (at cell.old t) }
+        ≡ cell_through (column t before.now) (column t m.old)
+        (at sys.now t) (at par.now t) (at cell.old t) }
 {
     let mut x = [0; N];
     add(sys, cell, &mut x);
@@ -96,7 +96,7 @@ fn sweep_backward<const N: usize>(
     ensures cells { (t : ℕ) (start : List ℤ) → t < N
         → AreForwardRows t start sys.now par.now cells.old rows.now (length sys.now)
         → decided_cells (column t cells.new) (column t sums.new)
-            ≡ new_cells (lane_window t start (column t m.old) sys.now par.now cells.old) }
+        ≡ new_cells (lane_window t start (column t m.old) sys.now par.now cells.old) }
 {
     let width = sys.len();
     for i in 0..width {

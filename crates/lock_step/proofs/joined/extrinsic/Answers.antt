@@ -1,4 +1,4 @@
-use Rattle.std.proofs.Common.{ℕ, arith, rules}
+use Rattle.std.proofs.Common.{arith, rules}
 use Rattle.lte_bits.specs.declared.bit.Bit.TheVariants.{Zero, One}
 use Rattle.receiver_model.specs.Borders.{at}
 use Rattle.window_decode.specs.Recursions.{through}

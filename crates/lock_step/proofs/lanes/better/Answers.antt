@@ -22,10 +22,13 @@ larger-requires g c =
     let a = same-lanes n 6391 _ _ c.loaded.ensures c.requires.first.0 in
     let x = same-lanes n 6391 _ _ c.loaded-2.ensures c.requires.first.1 in
     let b = same-lanes n 6391 _ _ c.loaded-3.ensures c.requires.second.0 in
-    let y = same-lanes n 6391 _ _ c.loaded-4.ensures c.requires.second.1 in
-    (search rules,
-     (any_passed n 12782 _ _ (omega arith) (sum-lanes n 6391 6391 _ _ _ _ _ (omega arith) a x c.sum.ensures.vector.long c.sum.ensures.lanes),
-      any_passed n 12782 _ _ (omega arith) (sum-lanes n 6391 6391 _ _ _ _ _ (omega arith) b y c.sum-2.ensures.vector.long c.sum-2.ensures.lanes)))
+    let y = same-lanes n 6391 _ _ c.loaded-4.ensures c.requires.second.1 in (
+      search rules,
+      (
+        any_passed n 12782 _ _ (omega arith) (sum-lanes n 6391 6391 _ _ _ _ _ (omega arith) a x c.sum.ensures.vector.long c.sum.ensures.lanes),
+        any_passed n 12782 _ _ (omega arith) (sum-lanes n 6391 6391 _ _ _ _ _ (omega arith) b y c.sum-2.ensures.vector.long c.sum-2.ensures.lanes),
+      ),
+    )
 
 pub returns-clause-vector : goal.returns-clause-vector
 returns-clause-vector g c =

@@ -1,4 +1,4 @@
-use Rattle.std.proofs.Common.{◌≡◌, ℕ, ◌<◌, List, length, ℤ, sym, ap, ◌∙◌, subst, arith, rules}
+use Rattle.std.proofs.Common.{List, length, ℤ, sym, ap, ◌∙◌, subst, rules}
 use Rattle.receiver_model.specs.Windows.{new_cells}
 use Rattle.window_decode.specs.Metrics.{IsForwardRow, IsBackwardRow}
 use Rattle.window_decode.proofs.WindowSteps.{forward-relative}
@@ -9,36 +9,89 @@ use Rattle.lock_step.proofs.Sweeps.{lane-narrow, borders_from, width-column, new
 use Rattle.lock_step.proofs.rows.run_rows.Goals as goal
 
 pub sweep_forward-requires : goal.sweep_forward-requires
-sweep_forward-requires g c =
-    (search rules, (search rules, (search rules, (c.requires.parities, (c.requires.cells, (c.requires.soft,
-     borders_from g.row.N c.put_borders.new.m c.args.from.now c.put_borders.ensures.shape c.put_borders.ensures.lanes c.put_borders.ensures.borders))))))
+sweep_forward-requires g c = (
+  search rules,
+  (
+    search rules,
+    (
+      search rules,
+      (
+        c.requires.parities,
+        (
+          c.requires.cells,
+          (
+            c.requires.soft,
+            borders_from g.row.N c.put_borders.new.m c.args.from.now c.put_borders.ensures.shape c.put_borders.ensures.lanes c.put_borders.ensures.borders,
+          ),
+        ),
+      ),
+    ),
+  ),
+)
 
 pub take_borders-requires : goal.take_borders-requires
-take_borders-requires g c =
-    (search rules, (search rules, (c.requires.ahead, record {
-      shape = c.sweep_forward.ensures.shape;
-      border = λ t lt.
-          forward_row-border _ _ (length c.args.sys.now) _ c.requires.least (λ i below. lane-narrow g.row.N t c.args.sys.now c.args.par.now c.args.cells.now lt c.requires.soft i) (c.sweep_forward.ensures.last t lt);
-    })))
+take_borders-requires g c = (
+  search rules,
+  (
+    search rules,
+    (
+      c.requires.ahead,
+      record {
+        shape = c.sweep_forward.ensures.shape;
+        border = λ t lt.
+            forward_row-border _ _ (length c.args.sys.now) _ c.requires.least (λ i below. lane-narrow g.row.N t c.args.sys.now c.args.par.now c.args.cells.now lt c.requires.soft i) (c.sweep_forward.ensures.last t lt);
+      },
+    ),
+  ),
+)
 
 pub sweep_backward-requires : goal.sweep_backward-requires
 sweep_backward-requires g c =
-    let start : AreBorders g.row.N c.put_borders.new.m = borders_from g.row.N c.put_borders.new.m c.args.from.now c.put_borders.ensures.shape c.put_borders.ensures.lanes c.put_borders.ensures.borders in
-    (search rules, (search rules, (search rules, (c.requires.parities, (c.requires.cells, (c.requires.sums, (c.requires.soft,
-     (λ j below. record {
-       shape = c.sweep_forward.ensures.shapes j below;
-       relative = λ t lt.
-           forward-relative _ _ j _ (start.border t lt) (λ i _. lane-narrow g.row.N t c.args.sys.now c.args.par.now c.args.cells.now lt c.requires.soft i) (c.sweep_forward.ensures.rows t lt j below);
-     },
-     borders_from g.row.N c.put_borders-2.new.m c.args.to.now c.put_borders-2.ensures.shape c.put_borders-2.ensures.lanes c.put_borders-2.ensures.borders))))))))
+    let start : AreBorders g.row.N c.put_borders.new.m = borders_from g.row.N c.put_borders.new.m c.args.from.now c.put_borders.ensures.shape c.put_borders.ensures.lanes c.put_borders.ensures.borders in (
+      search rules,
+      (
+        search rules,
+        (
+          search rules,
+          (
+            c.requires.parities,
+            (
+              c.requires.cells,
+              (
+                c.requires.sums,
+                (
+                  c.requires.soft,
+                  (
+                    λ j below. record {
+                      shape = c.sweep_forward.ensures.shapes j below;
+                      relative = λ t lt.
+                          forward-relative _ _ j _ (start.border t lt) (λ i _. lane-narrow g.row.N t c.args.sys.now c.args.par.now c.args.cells.now lt c.requires.soft i) (c.sweep_forward.ensures.rows t lt j below);
+                    },
+                    borders_from g.row.N c.put_borders-2.new.m c.args.to.now c.put_borders-2.ensures.shape c.put_borders-2.ensures.lanes c.put_borders-2.ensures.borders,
+                  ),
+                ),
+              ),
+            ),
+          ),
+        ),
+      ),
+    )
 
 pub take_borders-requires-2 : goal.take_borders-requires-2
-take_borders-requires-2 g c =
-    (search rules, (search rules, (c.requires.back, record {
-      shape = c.sweep_backward.ensures.shape;
-      border = λ t lt.
-          backward_row-border _ _ (length c.args.sys.now) _ c.requires.least (λ i below. lane-narrow g.row.N t c.args.sys.now c.args.par.now c.args.cells.now lt c.requires.soft i) (c.sweep_backward.ensures.first t lt);
-    })))
+take_borders-requires-2 g c = (
+  search rules,
+  (
+    search rules,
+    (
+      c.requires.back,
+      record {
+        shape = c.sweep_backward.ensures.shape;
+        border = λ t lt.
+            backward_row-border _ _ (length c.args.sys.now) _ c.requires.least (λ i below. lane-narrow g.row.N t c.args.sys.now c.args.par.now c.args.cells.now lt c.requires.soft i) (c.sweep_backward.ensures.first t lt);
+      },
+    ),
+  ),
+)
 
 pub returns-clause-cells : goal.returns-clause-cells
 returns-clause-cells g c = λ t lt.

@@ -1,13 +1,13 @@
-use Rattle.std.proofs.Common.{◌≡◌, ℕ, suc, ◌<◌, ◌≤◌, ◌+◌, ◌-◌, List, [], length, ℤ, ◌+ℤ◌, refl, sym, ap, ◌∙◌, subst, arith, rules}
+use Rattle.std.proofs.Common.{◌≡◌, ℕ, suc, ◌<◌, ◌+◌, ◌-◌, List, length, ℤ, ◌+ℤ◌, refl, sym, ap, ◌∙◌, subst, arith, rules}
 use Rattle.std.proofs.lemmas.List.{length-set, length-map}
-use Rattle.receiver_model.specs.Borders.{Border, at}
-use Rattle.receiver_model.specs.Paths.{Window, width}
-use Rattle.receiver_model.specs.Windows.{Extrinsic, new_cell}
+use Rattle.receiver_model.specs.Borders.{at}
+use Rattle.receiver_model.specs.Paths.{Window}
+use Rattle.receiver_model.specs.Windows.{new_cell}
 use Rattle.window_decode.specs.Recursions.{cell_through}
 use Rattle.window_decode.proofs.WindowSteps.{cell-best, backward_first, backward-row, backward-relative}
 use Rattle.window_decode.proofs.WindowSweep.{backward_at}
 use Rattle.lock_step.specs.Lanes.{row_at, column, lane_window}
-use Rattle.lock_step.specs.Vectors.{AreRelative, IsSmall, lane_gain, metrics_at, AreForwardRows, cell_of}
+use Rattle.lock_step.specs.Vectors.{AreRelative, lane_gain, metrics_at}
 use Rattle.lock_step.proofs.StateRows.{at-column}
 use Rattle.lock_step.proofs.Sweeps.{lane-narrow, lane-earns, row-read, metrics-read, read-small, kept-more, renewed-more, cell-set, decided-all}
 use Rattle.lock_step.proofs.rows.sweep_backward.Goals as goal
@@ -33,14 +33,28 @@ step_back-requires g c =
     let place : j + suc i ≡ n = omega (arith, c.loop-i-test.true) in
     let s = row-read sys j c.index-sys-j.result (omega (arith, place)) c.index-sys-j.is in
     let p = row-read par j c.index-par-j.result (omega (arith, place, c.requires.parities)) c.index-par-j.is in
-    let r = metrics-read c.args.rows.now j c.index-rows-j.result (omega (arith, place, c.requires.room)) c.index-rows-j.is in
-    (search rules, (search rules, (subst (λ (m : List (List ℤ)). AreRelative g.row.N m) (sym r) (c.requires.rows j (omega (arith, place))),
-     (record {
-       shape = h.shape;
-       relative = λ t lt. backward-relative _ _ (n - i) i _ (c.requires.end.border t lt) (λ k below. lane-narrow g.row.N t sys par cells lt c.requires.soft k) (h.row t lt);
-     },
-     (read-small g.row.N 127 127 sys j _ (omega arith) (omega (arith, place)) c.requires.soft.systematic s, (read-small g.row.N 127 127 par j _ (omega arith) (omega (arith, place, c.requires.parities)) c.requires.soft.parity p,
-      read-small g.row.N 511 511 cells j _ (omega arith) (omega (arith, place, c.requires.cells)) c.requires.soft.extrinsic (h.kept j (omega (arith, place)))))))))
+    let r = metrics-read c.args.rows.now j c.index-rows-j.result (omega (arith, place, c.requires.room)) c.index-rows-j.is in (
+      search rules,
+      (
+        search rules,
+        (
+          subst (λ (m : List (List ℤ)). AreRelative g.row.N m) (sym r) (c.requires.rows j (omega (arith, place))),
+          (
+            record {
+              shape = h.shape;
+              relative = λ t lt. backward-relative _ _ (n - i) i _ (c.requires.end.border t lt) (λ k below. lane-narrow g.row.N t sys par cells lt c.requires.soft k) (h.row t lt);
+            },
+            (
+              read-small g.row.N 127 127 sys j _ (omega arith) (omega (arith, place)) c.requires.soft.systematic s,
+              (
+                read-small g.row.N 127 127 par j _ (omega arith) (omega (arith, place, c.requires.parities)) c.requires.soft.parity p,
+                read-small g.row.N 511 511 cells j _ (omega arith) (omega (arith, place, c.requires.cells)) c.requires.soft.extrinsic (h.kept j (omega (arith, place))),
+              ),
+            ),
+          ),
+        ),
+      ),
+    )
 
 pub loop-i-preserved : goal.loop-i-preserved
 loop-i-preserved g c =

@@ -1,11 +1,11 @@
-use Rattle.std.proofs.Common.{◌≡◌, ℕ, ◌<◌, ◌+◌, List, [], length, ℤ, ◌+ℤ◌, refl, sym, ap, ◌∙◌, subst, arith, rules}
+use Rattle.std.proofs.Common.{◌<◌, List, [], length, ℤ, ◌+ℤ◌, refl, sym, ap, ◌∙◌, subst, arith, rules}
 use Rattle.std.proofs.lemmas.List.{get_or-set_same, length-set}
 use Rattle.receiver_model.specs.Borders.{at, number_for, relative}
 use Rattle.window_decode.specs.Recursions.{step_gain, forward}
 use Rattle.window_decode.specs.Metrics.{IsForwardRow}
 use Rattle.window_decode.proofs.WindowSteps.{forward_first, forward-row, forward-relative}
 use Rattle.lock_step.specs.Lanes.{row_at, column}
-use Rattle.lock_step.specs.Vectors.{AreMetrics, AreRelative, lane_gain, metrics_at}
+use Rattle.lock_step.specs.Vectors.{AreMetrics, AreRelative, lane_gain}
 use Rattle.lock_step.proofs.Vectors.{sum-small}
 use Rattle.lock_step.proofs.Sweeps.{lane-narrow, lane-earns, row-read, read-small, set-more}
 use Rattle.lock_step.proofs.rows.sweep_forward.Goals as goal
@@ -21,12 +21,17 @@ loop-j-init g c = record {
 
 pub keep-requires : goal.keep-requires
 keep-requires g c =
-    let h = c.loop-j.invariant in
-    (search rules, (search rules, record {
-      shape = h.shape;
-      relative = λ t lt.
-          forward-relative _ _ c.loop-j.j _ (c.requires.start.border t lt) (λ i below. lane-narrow g.row.N t c.args.sys.now c.args.par.now c.args.cells.now lt c.requires.soft i) (h.row t lt);
-    }))
+    let h = c.loop-j.invariant in (
+      search rules,
+      (
+        search rules,
+        record {
+          shape = h.shape;
+          relative = λ t lt.
+              forward-relative _ _ c.loop-j.j _ (c.requires.start.border t lt) (λ i below. lane-narrow g.row.N t c.args.sys.now c.args.par.now c.args.cells.now lt c.requires.soft i) (h.row t lt);
+        },
+      ),
+    )
 
 pub add-requires : goal.add-requires
 add-requires g c =
@@ -40,16 +45,25 @@ forward-requires g c =
     let s = row-read c.args.sys.now j c.index-sys-j.result c.loop-j-test.true c.index-sys-j.is in
     let k = row-read c.args.cells.now j c.index-cells-j.result (omega (arith, c.loop-j-test.true, c.requires.cells)) c.index-cells-j.is in
     let p = row-read c.args.par.now j c.index-par-j.result (omega (arith, c.loop-j-test.true, c.requires.parities)) c.index-par-j.is in
-    let kept = get_or-set_same c.loop-j.rows j c.keep.new.row [] (omega (arith, c.loop-j-test.true, c.requires.room, h.room)) ∙ c.keep.ensures in
-    (search rules, (search rules, (subst (λ (m : List (List ℤ)). AreRelative g.row.N m) (sym kept) (record {
-      shape = h.shape;
-      relative = λ t lt.
-          forward-relative _ _ j _ (c.requires.start.border t lt) (λ i below. lane-narrow g.row.N t c.args.sys.now c.args.par.now c.args.cells.now lt c.requires.soft i) (h.row t lt);
-    }),
-    (sum-small g.row.N c.index-sys-j.result c.index-cells-j.result c.add.new.out
-     (read-small g.row.N 127 127 c.args.sys.now j _ (omega arith) c.loop-j-test.true c.requires.soft.systematic s) (read-small g.row.N 511 511 c.args.cells.now j _ (omega arith) (omega (arith, c.loop-j-test.true, c.requires.cells)) c.requires.soft.extrinsic k)
-     c.add.ensures.lanes,
-     read-small g.row.N 127 127 c.args.par.now j _ (omega arith) (omega (arith, c.loop-j-test.true, c.requires.parities)) c.requires.soft.parity p))))
+    let kept = get_or-set_same c.loop-j.rows j c.keep.new.row [] (omega (arith, c.loop-j-test.true, c.requires.room, h.room)) ∙ c.keep.ensures in (
+      search rules,
+      (
+        search rules,
+        (
+          subst (λ (m : List (List ℤ)). AreRelative g.row.N m) (sym kept) (record {
+            shape = h.shape;
+            relative = λ t lt.
+                forward-relative _ _ j _ (c.requires.start.border t lt) (λ i below. lane-narrow g.row.N t c.args.sys.now c.args.par.now c.args.cells.now lt c.requires.soft i) (h.row t lt);
+          }),
+          (
+            sum-small g.row.N c.index-sys-j.result c.index-cells-j.result c.add.new.out
+                (read-small g.row.N 127 127 c.args.sys.now j _ (omega arith) c.loop-j-test.true c.requires.soft.systematic s) (read-small g.row.N 511 511 c.args.cells.now j _ (omega arith) (omega (arith, c.loop-j-test.true, c.requires.cells)) c.requires.soft.extrinsic k)
+                c.add.ensures.lanes,
+            read-small g.row.N 127 127 c.args.par.now j _ (omega arith) (omega (arith, c.loop-j-test.true, c.requires.parities)) c.requires.soft.parity p,
+          ),
+        ),
+      ),
+    )
 
 pub loop-j-preserved : goal.loop-j-preserved
 loop-j-preserved g c =
