@@ -73,8 +73,8 @@ zero-number w n j t = elim (cases_lt j w) [
     | inr le ↦ ap (λ (xs : List ℤ). at xs t) (get_or_past (replicate w (replicate n (pos 0))) j [] (omega (arith, length-replicate w (replicate n (pos 0)), le)))
   ]
 
-pub zero-within : (n w : ℕ) (rows : List (List ℤ)) → rows ≡ replicate w (replicate n (pos 0)) → AreWithin 511 rows
-zero-within n w rows e j t =
+pub zero-within : (n w : ℕ) (rows : List (List ℤ)) → rows ≡ replicate w (replicate n (pos 0)) → AreWithin n 511 rows
+zero-within n w rows e j t lj lt =
     subst (IsWithin 511) (sym (ap (λ (xs : List (List ℤ)). number_in xs j t) e ∙ zero-number w n j t)) (omega (arith, ints), omega (arith, ints))
 
 pub zero-cells : (n w : ℕ) (values sums : List (List ℤ)) → values ≡ replicate w (replicate n (pos 0)) → sums ≡ replicate w (replicate n (pos 0))

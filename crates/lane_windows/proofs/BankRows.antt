@@ -81,7 +81,7 @@ cell-of_rows n w values sums b r e lb lr =
     ap (λ (k : ℕ). cell_at (cells_by_place n (length values) values sums) (b * k + r)) (sym e)
     ∙ cell-in_bank n (length values) values sums b r lb (omega (arith, e, lr))
 
-pub banks-of_rows : (n : ℕ) (values sums vs ss : List (List ℤ)) → AreBanks n values sums → length vs ≡ length values → length ss ≡ length values → AreWithin 511 vs → AreBanks n vs ss
+pub banks-of_rows : (n : ℕ) (values sums vs ss : List (List ℤ)) → AreBanks n values sums → length vs ≡ length values → length ss ≡ length values → AreWithin n 511 vs → AreBanks n vs ss
 banks-of_rows n values sums vs ss banks ev es within = record {
   lanes = banks.lanes;
   sums_long = es ∙ sym ev;

@@ -37,24 +37,20 @@ pub number-in_other : (rows : List (List ℤ)) (r s b : ℕ) (row : List ℤ) �
 number-in_other rows r s b row ne = ap (λ (xs : List ℤ). at xs b) (get_or-set_other rows r s row [] ne)
 
 -- and all stay within
-pub within-set : (n : ℕ) (rows : List (List ℤ)) (r : ℕ) (row : List ℤ) → r < length rows → AreWithin n rows → ((b : ℕ) → IsWithin n (at row b)) → AreWithin n (set rows r row)
-within-set n rows r row lt all here j t =
+pub within-set : (m n : ℕ) (rows : List (List ℤ)) (r : ℕ) (row : List ℤ) → r < length rows → AreWithin m n rows → ((b : ℕ) → b < m → IsWithin n (at row b)) → AreWithin m n (set rows r row)
+within-set m n rows r row lt all here j t lj lm =
     elim (cases_eq j r) [
-      | inl e ↦ subst (λ (k : ℕ). IsWithin n (number_in (set rows r row) k t)) (sym e) (subst (IsWithin n) (sym (number-in_same rows r t row lt)) (here t))
-      | inr ne ↦ subst (IsWithin n) (sym (number-in_other rows r j t row ne)) (all j t)
+      | inl e ↦ subst (λ (k : ℕ). IsWithin n (number_in (set rows r row) k t)) (sym e) (subst (IsWithin n) (sym (number-in_same rows r t row lt)) (here t lm))
+      | inr ne ↦ subst (IsWithin n) (sym (number-in_other rows r j t row ne)) (all j t (omega (arith, length-set rows r row, lj)) lm)
     ]
 
--- past the end of the rows, too
-pub within-no_row : (n : ℕ) (rows : List (List ℤ)) (j t : ℕ) → length rows ≤ j → IsWithin n (number_in rows j t)
-within-no_row n rows j t le = subst (λ (xs : List ℤ). IsWithin n (at xs t)) (sym (get_or_past rows j [] le)) (omega (arith, ints), omega (arith, ints))
-
 -- a number is replaced
-pub within-set_at : (n : ℕ) (xs : List ℤ) (i : ℕ) (x : ℤ) → ((b : ℕ) → IsWithin n (at xs b)) → IsWithin n x → (b : ℕ) → IsWithin n (at (set xs i x) b)
-within-set_at n xs i x all here b =
+pub within-set_at : (m n : ℕ) (xs : List ℤ) (i : ℕ) (x : ℤ) → ((b : ℕ) → b < m → IsWithin n (at xs b)) → IsWithin n x → (b : ℕ) → b < m → IsWithin n (at (set xs i x) b)
+within-set_at m n xs i x all here b lb =
     elim (cases_eq b i) [
       | inl e ↦ elim (cases_lt i (length xs)) [
           | inl lt ↦ subst (λ (k : ℕ). IsWithin n (at (set xs i x) k)) (sym e) (subst (IsWithin n) (sym (get_or-set_same xs i x (pos 0) lt)) here)
           | inr le ↦ within-past n (set xs i x) b (omega (arith, length-set xs i x, le, e))
         ]
-      | inr ne ↦ subst (IsWithin n) (sym (get_or-set_other xs i b x (pos 0) ne)) (all b)
+      | inr ne ↦ subst (IsWithin n) (sym (get_or-set_other xs i b x (pos 0) ne)) (all b lb)
     ]

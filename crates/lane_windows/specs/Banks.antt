@@ -29,7 +29,7 @@ pub record AreBanks (n : ℕ) (values sums : List (List ℤ)) : Type 0 where
   pub sums_long : length sums ≡ length values
   pub least : 8 ≤ length values
   pub most : length values ≤ 768
-  pub within : AreWithin 511 values
+  pub within : AreWithin n 511 values
 
 -- the decided bit of a place, by its sum: 0 at the first places, which are fillers
 abbrev pub bit_at_place : (fill i : ℕ) → ℤ → Bit

@@ -20,7 +20,8 @@ pub struct Crossings<const N: usize> {
 fn bring_row<const N: usize>(from: &[i16; N], banks: &[u8; N], to: &mut [i16; N])
     requires { (t : ℕ) → t < N → slice_index banks.now t < N }
     ensures brought { (t : ℕ) → t < N → at to.new t ≡ at from.now (slice_index banks.now t) }
-    ensures kept { (n : ℕ) → ((b : ℕ) → IsWithin n (at from.now b)) → (t : ℕ) → IsWithin n (at to.new t) }
+    ensures kept { (n : ℕ) → ((b : ℕ) → b < N → IsWithin n (at from.now b))
+        → (t : ℕ) → t < N → IsWithin n (at to.new t) }
 {
     for t in 0..N {
         to[t] = from[usize::from(banks[t])];
@@ -43,8 +44,8 @@ fn put_row_back<const N: usize>(from: &[i16; N], banks: &[u8; N], to: &mut [i16;
     requires apart { (t u : ℕ) → t < N → u < N → slice_index banks.now t ≡ slice_index banks.now u → t ≡ u }
     ensures put { (t : ℕ) → t < N → at to.new (slice_index banks.now t) ≡ at from.now t }
     ensures others { (b : ℕ) → ((t : ℕ) → t < N → slice_index banks.now t ≡ b → ⊥) → at to.new b ≡ at to.old b }
-    ensures kept { (n : ℕ) → ((b : ℕ) → IsWithin n (at from.now b)) → ((b : ℕ) → IsWithin n (at to.old b))
-        → (b : ℕ) → IsWithin n (at to.new b) }
+    ensures kept { (n : ℕ) → ((b : ℕ) → b < N → IsWithin n (at from.now b))
+        → ((b : ℕ) → b < N → IsWithin n (at to.old b)) → (b : ℕ) → b < N → IsWithin n (at to.new b) }
 {
     for t in 0..N {
         put_number(from, t, to, usize::from(banks[t]));
@@ -83,7 +84,7 @@ impl<const N: usize> Crossings<N> {
         requires table { (place : ℕ → ℕ) × IsTable N (length to.old) place self.now.rows.items self.now.banks.items }
         ensures brought { (j t : ℕ) → j < length to.old → t < N → number_in to.new j t
             ≡ number_in from.now (slice_index self.now.rows.items j) (slice_index (slice_index_or self.now.banks.items j []) t) }
-        ensures kept { (n : ℕ) → AreWithin n from.now → AreWithin n to.new }
+        ensures kept { (n : ℕ) → AreWithin N n from.now → AreWithin N n to.new }
     {
         for j in 0..to.len() {
             let row = usize::from(self.rows[j]);
@@ -102,7 +103,7 @@ impl<const N: usize> Crossings<N> {
         ensures put { (j t : ℕ) → j < length from.now → t < N
             → number_in to.new (slice_index self.now.rows.items j) (slice_index (slice_index_or self.now.banks.items j []) t)
             ≡ number_in from.now j t }
-        ensures kept { (n : ℕ) → AreWithin n from.now → AreWithin n to.old → AreWithin n to.new }
+        ensures kept { (n : ℕ) → AreWithin N n from.now → AreWithin N n to.old → AreWithin N n to.new }
     {
         for j in 0..from.len() {
             let row = usize::from(self.rows[j]);

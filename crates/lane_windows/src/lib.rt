@@ -8,7 +8,6 @@ pub mod cells;
 pub mod steps;
 pub mod crossings;
 pub mod places;
-pub mod kernel;
 pub mod rows;
 pub mod running;
 pub mod work;

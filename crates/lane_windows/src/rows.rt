@@ -24,7 +24,7 @@ pub fn lay_out<const N: usize>(values: &[Soft], rows: &mut [[i16; N]])
     requires { N * length rows.old ≡ length values.now }
     ensures columns { (t : ℕ) → t < N
         → column t rows.new ≡ values_of_window (length rows.old) values.now t }
-    ensures within { AreWithin 127 rows.new }
+    ensures within { AreWithin N 127 rows.new }
 {
     let width = rows.len();
     for j in 0..width {
@@ -38,7 +38,7 @@ pub fn lay_front<const N: usize>(values: &[Soft], rows: &mut [[i16; N]], width: 
     requires room { width ≤ length rows.old }
     ensures columns { (t : ℕ) → t < N
         → column t (take width rows.new) ≡ values_of_window width values.now t }
-    ensures within { AreWithin 127 (take width rows.new) }
+    ensures within { AreWithin N 127 (take width rows.new) }
 {
     lay_out(values, &mut rows[..width]);
 }

@@ -12,8 +12,8 @@ use crate::places::follow;
 use crate::rows::lay_front;
 use crate::work::{Engine, LaneWork};
 use cell_shares::Order;
-use crate::kernel::run_rows;
 use lock_step::LaneWork as Kernel;
+use lock_step::run_rows;
 use lte_bits::Soft;
 use window_decode::Border;
 
@@ -32,7 +32,7 @@ pub fn run_straight<const N: usize>(
     requires room { length sys.now ≤ kernel.old }
     requires systematic { length sys.now ≡ length banks.old / N }
     requires parity { length par.now ≡ length banks.old / N }
-    requires soft { AreWithin 127 sys.now × AreWithin 127 par.now }
+    requires soft { AreWithin N 127 sys.now × AreWithin N 127 par.now }
     requires from { length from.now ≡ N }
     requires to { length to.now ≡ N }
     requires ahead { length ahead.old ≡ N }
@@ -74,7 +74,7 @@ fn run_in_room<const N: usize>(
     requires sums { length sys.now ≤ length sums.old }
     requires systematic { length sys.now ≡ length banks.old / N }
     requires parity { length par.now ≡ length banks.old / N }
-    requires soft { AreWithin 127 sys.now × AreWithin 127 par.now }
+    requires soft { AreWithin N 127 sys.now × AreWithin N 127 par.now }
     requires from { length from.now ≡ N }
     requires to { length to.now ≡ N }
     requires ahead { length ahead.old ≡ N }
@@ -123,7 +123,7 @@ pub fn run_crossed<const N: usize>(
     requires room { length sys.now ≤ engine.old.kernel }
     requires systematic { length sys.now ≡ length banks.old / N }
     requires parity { length par.now ≡ length banks.old / N }
-    requires soft { AreWithin 127 sys.now × AreWithin 127 par.now }
+    requires soft { AreWithin N 127 sys.now × AreWithin N 127 par.now }
     requires from { length from.now ≡ N }
     requires to { length to.now ≡ N }
     requires ahead { length ahead.old ≡ N }
@@ -173,7 +173,7 @@ fn run_in_order<const N: usize>(
     requires room { length sys.now ≤ engine.old.kernel }
     requires systematic { length sys.now ≡ length banks.old / N }
     requires parity { length par.now ≡ length banks.old / N }
-    requires soft { AreWithin 127 sys.now × AreWithin 127 par.now }
+    requires soft { AreWithin N 127 sys.now × AreWithin N 127 par.now }
     requires from { length from.now ≡ N }
     requires to { length to.now ≡ N }
     requires ahead { length ahead.old ≡ N }

@@ -5,9 +5,5 @@ use Rattle.lane_windows.proofs.Columns.{within-past}
 use Rattle.lane_windows.proofs.crossings.bring_row.Goals as goal
 
 pub returns-clause-kept : goal.returns-clause-kept
-returns-clause-kept g c = λ n all t.
-    let inv = c.loop-t.invariant in
-    elim (cases_lt t g.row.N) [
-      | inl lt ↦ subst (IsWithin n) (sym (inv.done t (omega (arith, c.loop-t-test.false, lt)))) (all (slice_index_or c.args.banks.now t 0))
-      | inr le ↦ within-past n c.loop-t.to t (omega (arith, inv.long, le))
-    ]
+returns-clause-kept g c = λ n all t lt.
+    subst (IsWithin n) (sym (c.loop-t.invariant.done t (omega (arith, c.loop-t-test.false, lt)))) (all (slice_index_or c.args.banks.now t 0) (c.requires t lt))

@@ -21,5 +21,5 @@ loop-t-preserved g c =
             | inr ne ↦ get_or-set_other l.to bank (get_or c.args.banks.now k 0) x (pos 0) (λ e. ne (c.requires.apart k l.t (omega (arith, lk, lt)) lt e)) ∙ inv.put k (omega (arith, lk, ne))
           ];
       others = λ b free. ap (λ (xs : List ℤ). at xs b) new ∙ (get_or-set_other l.to bank b x (pos 0) (λ e. free l.t lt (sym e)) ∙ inv.others b free);
-      kept = λ m all before b. subst (λ (xs : List ℤ). IsWithin m (at xs b)) (sym new) (within-set_at m l.to bank x (inv.kept m all before) (all l.t) b);
+      kept = λ m all before b lb. subst (λ (xs : List ℤ). IsWithin m (at xs b)) (sym new) (within-set_at n m l.to bank x (inv.kept m all before) (all l.t lt) b lb);
     }

@@ -8,5 +8,5 @@ invariant-loop-t g l = record {
   long : length l.to ≡ g.row.N;
   put : (k : ℕ) → k < l.t → at l.to (slice_index_or l.banks k 0) ≡ at l.from k;
   others : (b : ℕ) → ((t : ℕ) → t < g.row.N → slice_index_or l.banks t 0 ≡ b → ⊥) → at l.to b ≡ at l.fn.to b;
-  kept : (n : ℕ) → ((b : ℕ) → IsWithin n (at l.from b)) → ((b : ℕ) → IsWithin n (at l.fn.to b)) → (b : ℕ) → IsWithin n (at l.to b);
+  kept : (n : ℕ) → ((b : ℕ) → b < g.row.N → IsWithin n (at l.from b)) → ((b : ℕ) → b < g.row.N → IsWithin n (at l.fn.to b)) → (b : ℕ) → b < g.row.N → IsWithin n (at l.to b);
 }

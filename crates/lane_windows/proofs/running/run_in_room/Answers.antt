@@ -37,9 +37,9 @@ run_rows-requires g c =
     let values : length c.bring.new.to ≡ w = c.bring.auto.to ∙ length-take-le w c.args.values.now room in
     let sums : length (take w c.args.sums.now) ≡ w = length-take-le w c.args.sums.now room2 in
     let least : 8 ≤ w = omega (arith, ww, c.requires.systematic, inv.least) in
-    let within : AreWithin 511 c.bring.new.to = c.bring.ensures.kept 511 (subst (AreWithin 511) (sym c.as_slice.ensures.value) inv.within) in
+    let within : AreWithin n 511 c.bring.new.to = c.bring.ensures.kept 511 (subst (AreWithin n 511) (sym c.as_slice.ensures.value) inv.within) in
     (omega arith, (fits-twice n inv.lanes, (inv.lanes, (least, (c.requires.room, (c.requires.parity ∙ sym c.requires.systematic, (values, (sums,
-    (c.requires.from, (c.requires.to, (c.requires.ahead, (c.requires.back, (c.requires.soft.0, (c.requires.soft.1, within))))))))))))))
+    (c.requires.from, (c.requires.to, (c.requires.ahead, (c.requires.back, record { systematic = c.requires.soft.0; parity = c.requires.soft.1; extrinsic = within }))))))))))))
 
 pub put_back-requires : goal.put_back-requires
 put_back-requires g c =
@@ -70,8 +70,8 @@ invariant_of-banks g c =
     let ls : length c.put_back-2.new.to ≡ length b.sums.items = c.put_back-2.auto.to ∙ ap length c.as_mut_slice-2.ensures.value in
     let ev = written b.values.len c.put_back.new.to b.values.items (lv ∙ sym b.values.ok.0) in
     let es = written b.sums.len c.put_back-2.new.to b.sums.items (ls ∙ sym b.sums.ok.0) in
-    let within : AreWithin 511 c.put_back.new.to = c.put_back.ensures.kept 511 c.run_rows.ensures.within (subst (AreWithin 511) (sym c.as_mut_slice.ensures.value) inv.within) in
-    banks-of_rows n b.values.items b.sums.items _ _ inv (ap length ev ∙ lv) (ap length es ∙ (ls ∙ inv.sums_long)) (subst (AreWithin 511) (sym ev) within)
+    let within : AreWithin n 511 c.put_back.new.to = c.put_back.ensures.kept 511 c.run_rows.ensures.within (subst (AreWithin n 511) (sym c.as_mut_slice.ensures.value) inv.within) in
+    banks-of_rows n b.values.items b.sums.items _ _ inv (ap length ev ∙ lv) (ap length es ∙ (ls ∙ inv.sums_long)) (subst (AreWithin n 511) (sym ev) within)
 
 pub returns-clause-ran : goal.returns-clause-ran
 returns-clause-ran g c = λ place table.

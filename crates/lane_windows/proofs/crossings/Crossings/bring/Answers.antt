@@ -9,7 +9,7 @@ use Rattle.lane_windows.specs.Banks.{number_in}
 use Rattle.lane_windows.proofs.CrossingSteps.{bank_at, read-bank, bring-more}
 use Rattle.lane_windows.proofs.BankCells.{fits-twice, fits-once}
 use Rattle.lane_windows.proofs.BankRows.{read-number}
-use Rattle.lane_windows.proofs.Columns.{number-in_same, number-in_other, within-no_row}
+use Rattle.lane_windows.proofs.Columns.{number-in_same, number-in_other}
 use Rattle.lane_windows.proofs.crossings.Crossings.bring.Goals as goal
 
 pub bring_row-requires : goal.bring_row-requires
@@ -34,21 +34,16 @@ loop-j-preserved g c =
     let read : source ≡ get_or c.args.from.now (slice_index s.rows.items l.j) source = c.index-from-row.is ∙ ap (λ (r : ℕ). get_or c.args.from.now r source) row in
     let brought : (t : ℕ) → t < n → at c.bring_row.new.to t ≡ at source (bank_at s.banks.items l.j t) =
     λ t lt. c.bring_row.ensures.brought t lt ∙ ap (at source) (read-bank s.banks.items l.j t c.index-in-loop-j.result.now lb c.index-in-loop-j.ensures) in
-    let from-kept : (m : ℕ) → AreWithin m c.args.from.now → (b : ℕ) → IsWithin m (at source b) =
-    λ m all b. subst (IsWithin m) (sym (read-number c.args.from.now (slice_index s.rows.items l.j) b source (omega (arith, c.requires.from, c.requires.table.1.row l.j lj)) read)) (all (slice_index s.rows.items l.j) b) in
+    let from-kept : (m : ℕ) → AreWithin n m c.args.from.now → (b : ℕ) → b < n → IsWithin m (at source b) =
+    λ m all b lm. subst (IsWithin m) (sym (read-number c.args.from.now (slice_index s.rows.items l.j) b source (omega (arith, c.requires.from, c.requires.table.1.row l.j lj)) read)) (all (slice_index s.rows.items l.j) b (omega (arith, c.requires.from, c.requires.table.1.row l.j lj)) lm) in
     record {
       done = bring-more n w c.requires.table.0 s.rows.items s.banks.items c.requires.table.1 c.args.from.now l.to l.j source c.bring_row.new.to lj l.auto.to c.requires.from read brought inv.done;
-      kept = λ m all i t li. elim (cases_eq i l.j) [
+      kept = λ m all i t li lt. elim (cases_eq i l.j) [
           | inl e ↦ subst (λ (k : ℕ). IsWithin m (number_in (slice_set l.to l.j c.bring_row.new.to) k t)) (sym e)
-            (subst (IsWithin m) (sym (number-in_same l.to l.j t c.bring_row.new.to (omega (arith, l.auto.to, lj)))) (c.bring_row.ensures.kept m (from-kept m all) t))
-          | inr ne ↦ subst (IsWithin m) (sym (number-in_other l.to l.j i t c.bring_row.new.to ne)) (inv.kept m all i t (omega (arith, li, ne)))
+            (subst (IsWithin m) (sym (number-in_same l.to l.j t c.bring_row.new.to (omega (arith, l.auto.to, lj)))) (c.bring_row.ensures.kept m (from-kept m all) t lt))
+          | inr ne ↦ subst (IsWithin m) (sym (number-in_other l.to l.j i t c.bring_row.new.to ne)) (inv.kept m all i t (omega (arith, li, ne)) lt)
         ];
     }
 
 pub returns-clause-kept : goal.returns-clause-kept
-returns-clause-kept g c = λ m all j t.
-    let l = c.loop-j in
-    elim (cases_lt j (length l.to)) [
-      | inl lt ↦ l.invariant.kept m all j t (omega (arith, c.loop-j-test.false, l.auto.to, lt))
-      | inr le ↦ within-no_row m l.to j t le
-    ]
+returns-clause-kept g c = λ m all j t lj lt. c.loop-j.invariant.kept m all j t (omega (arith, c.loop-j-test.false, lj)) lt

@@ -9,5 +9,5 @@ use Rattle.lane_windows.proofs.crossings.Crossings.bring.Given as goal
 abbrev pub invariant-loop-j : goal.invariant-loop-j
 invariant-loop-j g l = record {
   done : (i t : ℕ) → i < l.j → t < g.row.N → number_in l.to i t ≡ number_in l.from (slice_index l.self.rows.items i) (bank_at l.self.banks.items i t);
-  kept : (n : ℕ) → AreWithin n l.from → (i t : ℕ) → i < l.j → IsWithin n (number_in l.to i t);
+  kept : (n : ℕ) → AreWithin g.row.N n l.from → (i t : ℕ) → i < l.j → t < g.row.N → IsWithin n (number_in l.to i t);
 }

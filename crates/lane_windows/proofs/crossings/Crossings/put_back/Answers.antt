@@ -49,13 +49,13 @@ loop-j-preserved g c =
     λ t lt. ap (at c.put_row_back.new.to) (sym (bank t)) ∙ (c.put_row_back.ensures.put t lt ∙ read-number c.args.from.now l.j t c.index-from-j.result lj c.index-from-j.is) in
     let others : (b : ℕ) → ((t : ℕ) → t < n → bank_at s.banks.items l.j t ≡ b → ⊥) → at c.put_row_back.new.to b ≡ at old b =
     λ b free. c.put_row_back.ensures.others b (λ t lt e. free t lt (sym (bank t) ∙ e)) ∙ ap (λ (k : ℕ). at (get_or l.to k []) b) row in
-    let new-kept : (m : ℕ) → AreWithin m c.args.from.now → AreWithin m l.to → (b : ℕ) → IsWithin m (at c.put_row_back.new.to b) =
+    let new-kept : (m : ℕ) → AreWithin n m c.args.from.now → AreWithin n m l.to → (b : ℕ) → b < n → IsWithin m (at c.put_row_back.new.to b) =
     λ m all before. c.put_row_back.ensures.kept m
-    (λ b. subst (IsWithin m) (sym (read-number c.args.from.now l.j b c.index-from-j.result lj c.index-from-j.is)) (all l.j b))
-    (λ b. before c.from-row.result b) in
+    (λ b lb. subst (IsWithin m) (sym (read-number c.args.from.now l.j b c.index-from-j.result lj c.index-from-j.is)) (all l.j b lj lb))
+    (λ b lb. before c.from-row.result b (omega (arith, row, inside)) lb) in
     record {
       done = λ i t li lt. ap (λ (k : ℕ). number_in (slice_set l.to k c.put_row_back.new.to) (slice_index s.rows.items i) (bank_at s.banks.items i t)) row
           ∙ put-more n w c.requires.table.0 s.rows.items s.banks.items c.requires.table.1 c.requires.table.2 c.args.from.now l.to l.j old c.put_row_back.new.to lj (l.auto.to ∙ c.requires.to)
           (get_or_default l.to r [] old inside) put others inv.done i t li lt;
-      kept = λ m all before. within-set m l.to c.from-row.result c.put_row_back.new.to (omega (arith, row, inside)) (inv.kept m all before) (new-kept m all (inv.kept m all before));
+      kept = λ m all before. within-set n m l.to c.from-row.result c.put_row_back.new.to (omega (arith, row, inside)) (inv.kept m all before) (new-kept m all (inv.kept m all before));
     }

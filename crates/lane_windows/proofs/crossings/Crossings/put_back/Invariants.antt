@@ -8,5 +8,5 @@ use Rattle.lane_windows.proofs.crossings.Crossings.put_back.Given as goal
 abbrev pub invariant-loop-j : goal.invariant-loop-j
 invariant-loop-j g l = record {
   done : (i t : ℕ) → i < l.j → t < g.row.N → number_in l.to (slice_index l.self.rows.items i) (bank_at l.self.banks.items i t) ≡ number_in l.from i t;
-  kept : (n : ℕ) → AreWithin n l.from → AreWithin n l.fn.to → AreWithin n l.to;
+  kept : (n : ℕ) → AreWithin g.row.N n l.from → AreWithin g.row.N n l.fn.to → AreWithin g.row.N n l.to;
 }
