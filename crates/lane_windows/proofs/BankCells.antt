@@ -49,6 +49,11 @@ lanes-few n (inl e) = omega (arith, e)
 lanes-few n (inr (inl e)) = omega (arith, e)
 lanes-few n (inr (inr e)) = omega (arith, e)
 
+pub lanes-least : (n : ℕ) → IsLaneCount n → 8 ≤ n
+lanes-least n (inl e) = omega (arith, e)
+lanes-least n (inr (inl e)) = omega (arith, e)
+lanes-least n (inr (inr e)) = omega (arith, e)
+
 -- rows of a few bytes a lane fit the memory
 pub fits-twice : (n : ℕ) → IsLaneCount n → n * 2 < 9223372036854775808
 fits-twice n lanes = let few = lanes-few n lanes in omega (arith, few)

@@ -8,6 +8,8 @@ use Rattle.std.proofs.lemmas.Nat.{div_below, mod-mul-add, div-add-mod', same_fro
 use Rattle.qpp_table.specs.declared.interleaver.Qpp.{Qpp}
 use Rattle.qpp_table.specs.Qpp.{size_in, value_at}
 use Rattle.qpp_table.specs.QppLaws.{value-below, values_differ, value-kept}
+use Rattle.sender_model.specs.Interleaver.{place, row_of}
+use Rattle.sender_model.specs.InterleaverLaws.{pi_remainder}
 use Rattle.receiver_model.proofs.PlacesFilled.{KeepsApart, reached-all}
 use Rattle.cell_shares.specs.declared.order.Order.{Order}
 use Rattle.cell_shares.specs.declared.order.Order.TheVariants.{Natural, Interleaved}
@@ -80,3 +82,10 @@ module _ (order : Order) (n w j : ℕ) (e : IsOrderOf (n * w) order) (lj : j < w
 -- different positions stand at different places
 pub order-apart : (order : Order) (n w : ℕ) → IsOrderOf (n * w) order → AreApart n w (place_in order)
 order-apart order n w e i j li lj same = places_differ order (n * w) i j e li lj same
+
+-- the same for the places of a code block
+pub place-one_row : (k n w t j : ℕ) → k ≡ n * w → place k (t * w + j) % w ≡ place k j % w
+place-one_row k n w zero j e = ap (λ (i : ℕ). place k i % w) (let s : 0 * w + j ≡ j = omega arith in s)
+place-one_row k n w (suc t) j e =
+    ap (λ (i : ℕ). place k i % w) (let s : suc t * w + j ≡ t * w + j + w = omega arith in s)
+    ∙ (pi_remainder k (row_of k).1 (row_of k).2 w (t * w + j) (divides n w k e) ∙ place-one_row k n w t j e)

@@ -44,6 +44,14 @@ pub same_table : (n w steps : ℕ) (place : ℕ → ℕ) {rows more : List ℕ} 
 same_table n w steps place {rows} {more} {banks} {others} er eb table =
     subst (λ (xs : List ℕ). IsTableTo n w steps place xs banks) (sym er) (subst (λ (xs : List (List ℕ)). IsTableTo n w steps place more xs) (sym eb) table)
 
+-- a table by other names of the places
+pub table-by : (n w : ℕ) (p q : ℕ → ℕ) (rows : List ℕ) (banks : List (List ℕ)) → ((i : ℕ) → i < n * w → p i ≡ q i) → IsTable n w p rows banks → IsTable n w q rows banks
+table-by n w p q rows banks same table = record {
+  row = table.row;
+  bank = table.bank;
+  stands = λ j t lj lt. table.stands j t lj lt ∙ same (t * w + j) (place-inside n w t j lt lj);
+}
+
 -- the crossing of one more step
 pub table-more : (n w j : ℕ) (place : ℕ → ℕ) (rows : List ℕ) (banks : List (List ℕ)) (row : ℕ) (bank : List ℕ)
     → j < length rows → j < length banks → IsTableTo n w j place rows banks → row < w

@@ -3,4 +3,5 @@ pub mod BankRows
 pub mod Columns
 pub mod CrossingLaws
 pub mod CrossingSteps
+pub mod LaneHalves
 pub mod LaneRuns

@@ -1,4 +1,5 @@
 pub mod Banks
 pub mod Borders
 pub mod Crossings
+pub mod Halves
 pub mod Lanes

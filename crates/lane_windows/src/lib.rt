@@ -5,8 +5,11 @@
 pub mod banks;
 pub mod borders;
 pub mod cells;
+pub mod soft_rows;
 pub mod steps;
 pub mod crossings;
+pub mod halves;
+pub mod lane_views;
 pub mod places;
 pub mod rows;
 pub mod running;
@@ -16,5 +19,6 @@ pub mod zeros;
 pub use banks::Banks;
 pub use cell_shares::Order;
 pub use steps::crossbar;
+pub use running::run_lock_step;
 pub use work::LaneWork;
 
