@@ -3,3 +3,4 @@ pub mod Borders
 pub mod Crossings
 pub mod Halves
 pub mod Lanes
+pub mod Progress

@@ -51,9 +51,16 @@ fn end_of(left: &[Left], tail: Border, t: usize) -> Border
     }
 }
 
-/// Takes the borders that windows left: each window starts with the forward one of the window before, the first
+/// Takes the borders that so many windows left: each window starts with the forward one of the window before, the first
 /// with the known border; it ends with the backward one of the next window, the last with the tail's.
-pub fn take_left(left: &[Left], tail: Border, from: &mut [Border], to: &mut [Border])
+pub fn take_left(
+    windows: usize,
+    left: &[Left],
+    tail: Border,
+    from: &mut [Border],
+    to: &mut [Border],
+)
+    requires left { length left.now ≡ windows }
     requires from { length from.old ≡ length left.now }
     requires to { length to.old ≡ length left.now }
     ensures from { (t : ℕ) → t < length left.now
@@ -62,7 +69,7 @@ pub fn take_left(left: &[Left], tail: Border, from: &mut [Border], to: &mut [Bor
         → border_at to.new t ≡ if t + 1 == length left.now then tail else (left_by left.now (t + 1)).backward }
 {
     let mut start = Border::known();
-    for t in 0..left.len() {
+    for t in 0..windows {
         from[t] = start;
         to[t] = end_of(left, tail, t);
         let this = left[t];

@@ -36,7 +36,8 @@ pub fn decode_half<const N: usize>(
     ensures left { left.new
         ≡ (after views.now.views.streams.now views.now.views.shape h (start_of banks.old left.old)).left }
 {
-    take_left(left, views.views.tail(h), from, to);
+    let windows = views.views.windows();
+    take_left(windows, left, views.views.tail(h), from, to);
     views.run(h, engine, from, to, ahead, back, banks);
     leave(ahead, back, left);
 }
