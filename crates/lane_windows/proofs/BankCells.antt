@@ -68,15 +68,15 @@ fits-four_times n lanes = let few = lanes-few n lanes in omega (arith, few)
 
 zero-at : (n t : ℕ) → at (replicate n (pos 0)) t ≡ pos 0
 zero-at n t = elim (cases_lt t n) [
-    | inl lt ↦ get_or-replicate n t (pos 0) (pos 0) lt
-    | inr le ↦ get_or_past (replicate n (pos 0)) t (pos 0) (omega (arith, length-replicate n (pos 0), le))
-  ]
+  | inl lt ↦ get_or-replicate n t (pos 0) (pos 0) lt
+  | inr le ↦ get_or_past (replicate n (pos 0)) t (pos 0) (omega (arith, length-replicate n (pos 0), le))
+]
 
 zero-number : (w n j t : ℕ) → number_in (replicate w (replicate n (pos 0))) j t ≡ pos 0
 zero-number w n j t = elim (cases_lt j w) [
-    | inl lt ↦ ap (λ (xs : List ℤ). at xs t) (get_or-replicate w j (replicate n (pos 0)) [] lt) ∙ zero-at n t
-    | inr le ↦ ap (λ (xs : List ℤ). at xs t) (get_or_past (replicate w (replicate n (pos 0))) j [] (omega (arith, length-replicate w (replicate n (pos 0)), le)))
-  ]
+  | inl lt ↦ ap (λ (xs : List ℤ). at xs t) (get_or-replicate w j (replicate n (pos 0)) [] lt) ∙ zero-at n t
+  | inr le ↦ ap (λ (xs : List ℤ). at xs t) (get_or_past (replicate w (replicate n (pos 0))) j [] (omega (arith, length-replicate w (replicate n (pos 0)), le)))
+]
 
 pub zero-within : (n w : ℕ) (rows : List (List ℤ)) → rows ≡ replicate w (replicate n (pos 0)) → AreWithin n 511 rows
 zero-within n w rows e j t lj lt =

@@ -63,16 +63,16 @@ module _ (n : ℕ) (values sums : List (List ℤ)) (cells : List Extrinsic) (ban
 
     pub cell-kept : (i : ℕ) → i % (length cells / n) ≢ r → cell_at (cells_by_place n (length (set values r nv)) (set values r nv) (set sums r ns)) i ≡ cell_at cells i
     cell-kept i ne = elim (cases_lt i (length cells)) [
-        | inl li ↦ (
-            let w = length-set values r nv in
-            let far : i % length values ≢ r = λ e. ne (ap (λ (k : ℕ). i % k) width-of_view ∙ e) in
-            cell-by_place n (length (set values r nv)) (set values r nv) (set sums r ns) i (subst (λ (k : ℕ). i < k) (length-of_view ∙ ap (λ (k : ℕ). n * k) (sym w)) li)
-            ∙ (ap (λ (k : ℕ). cell_in (set values r nv) (set sums r ns) (i % k) (i / k)) w
-            ∙ (ap (λ (x : ℤ). cell_of x (number_in (set sums r ns) (i % length values) (i / length values))) (number-in_other values r (i % length values) (i / length values) nv far)
-            ∙ (ap (cell_of (number_in values (i % length values) (i / length values))) (number-in_other sums r (i % length values) (i / length values) ns far)
-            ∙ cell-at_place i li))))
-        | inr le ↦ get_or_past _ i zero_cell (omega (arith, length-replaced, le)) ∙ sym (get_or_past cells i zero_cell le)
-      ]
+      | inl li ↦ (
+          let w = length-set values r nv in
+          let far : i % length values ≢ r = λ e. ne (ap (λ (k : ℕ). i % k) width-of_view ∙ e) in
+          cell-by_place n (length (set values r nv)) (set values r nv) (set sums r ns) i (subst (λ (k : ℕ). i < k) (length-of_view ∙ ap (λ (k : ℕ). n * k) (sym w)) li)
+          ∙ (ap (λ (k : ℕ). cell_in (set values r nv) (set sums r ns) (i % k) (i / k)) w
+          ∙ (ap (λ (x : ℤ). cell_of x (number_in (set sums r ns) (i % length values) (i / length values))) (number-in_other values r (i % length values) (i / length values) nv far)
+          ∙ (ap (cell_of (number_in values (i % length values) (i / length values))) (number-in_other sums r (i % length values) (i / length values) ns far)
+          ∙ cell-at_place i li))))
+      | inr le ↦ get_or_past _ i zero_cell (omega (arith, length-replaced, le)) ∙ sym (get_or_past cells i zero_cell le)
+    ]
 
 -- a cell of banks whose rows were all replaced
 pub cell-of_rows : (n w : ℕ) (values sums : List (List ℤ)) (b r : ℕ) → length values ≡ w → b < n → r < w

@@ -49,8 +49,8 @@ pub within-set_at : (m n : ℕ) (xs : List ℤ) (i : ℕ) (x : ℤ) → ((b : �
 within-set_at m n xs i x all here b lb =
     elim (cases_eq b i) [
       | inl e ↦ elim (cases_lt i (length xs)) [
-          | inl lt ↦ subst (λ (k : ℕ). IsWithin n (at (set xs i x) k)) (sym e) (subst (IsWithin n) (sym (get_or-set_same xs i x (pos 0) lt)) here)
-          | inr le ↦ within-past n (set xs i x) b (omega (arith, length-set xs i x, le, e))
-        ]
+        | inl lt ↦ subst (λ (k : ℕ). IsWithin n (at (set xs i x) k)) (sym e) (subst (IsWithin n) (sym (get_or-set_same xs i x (pos 0) lt)) here)
+        | inr le ↦ within-past n (set xs i x) b (omega (arith, length-set xs i x, le, e))
+      ]
       | inr ne ↦ subst (IsWithin n) (sym (get_or-set_other xs i b x (pos 0) ne)) (all b lb)
     ]

@@ -59,22 +59,22 @@ pub table-more : (n w j : ℕ) (place : ℕ → ℕ) (rows : List ℕ) (banks : 
     → IsTableTo n w (j + 1) place (set rows j row) (set banks j bank)
 table-more n w j place rows banks row bank lr lb table below here stands = record {
   row = λ i li. elim (cases_eq i j) [
-      | inl e ↦ subst (λ (x : ℕ). x < w) (sym (ap (slice_index (set rows j row)) e ∙ get_or-set_same rows j row 0 lr)) below
-      | inr ne ↦ subst (λ (x : ℕ). x < w) (sym (get_or-set_other rows j i row 0 ne)) (table.row i (omega (arith, li, ne)))
-    ];
+    | inl e ↦ subst (λ (x : ℕ). x < w) (sym (ap (slice_index (set rows j row)) e ∙ get_or-set_same rows j row 0 lr)) below
+    | inr ne ↦ subst (λ (x : ℕ). x < w) (sym (get_or-set_other rows j i row 0 ne)) (table.row i (omega (arith, li, ne)))
+  ];
   bank = λ i t li lt. elim (cases_eq i j) [
-      | inl e ↦ subst (λ (x : ℕ). x < n) (sym (bank-here i t e)) (here t lt)
-      | inr ne ↦ subst (λ (x : ℕ). x < n) (sym (bank-other i t ne)) (table.bank i t (omega (arith, li, ne)) lt)
-    ];
+    | inl e ↦ subst (λ (x : ℕ). x < n) (sym (bank-here i t e)) (here t lt)
+    | inr ne ↦ subst (λ (x : ℕ). x < n) (sym (bank-other i t ne)) (table.bank i t (omega (arith, li, ne)) lt)
+  ];
   stands = λ i t li lt. elim (cases_eq i j) [
-      | inl e ↦
+    | inl e ↦
         ap (λ (b : ℕ). b * w + slice_index (set rows j row) i) (bank-here i t e)
         ∙ (ap (λ (r : ℕ). slice_index bank t * w + r) (ap (slice_index (set rows j row)) e ∙ get_or-set_same rows j row 0 lr)
         ∙ (stands t lt ∙ ap (λ (k : ℕ). place_of place w t k) (sym e)))
-      | inr ne ↦
+    | inr ne ↦
         ap (λ (b : ℕ). b * w + slice_index (set rows j row) i) (bank-other i t ne)
         ∙ (ap (λ (r : ℕ). bank_at banks i t * w + r) (get_or-set_other rows j i row 0 ne) ∙ table.stands i t (omega (arith, li, ne)) lt)
-    ];
+  ];
 }
   where
     bank-here : (i t : ℕ) → i ≡ j → bank_at (set banks j bank) i t ≡ slice_index bank t
@@ -109,16 +109,16 @@ module _ (n w : ℕ) (place : ℕ → ℕ) (rows : List ℕ) (banks : List (List
       let inside : slice_index rows j < length to = omega (arith, long, table.row j lj) in
       elim (cases_eq i j) [
         | inl e ↦ subst (λ (k : ℕ). number_in (set to (slice_index rows j) new) (slice_index rows k) (bank_at banks k t) ≡ number_in from k t) (sym e)
-          (number-in_same to (slice_index rows j) (bank_at banks j t) new inside ∙ put t lt)
+            (number-in_same to (slice_index rows j) (bank_at banks j t) new inside ∙ put t lt)
         | inr ne ↦ (
             let before : i < j = omega (arith, li, ne) in
             elim (cases_eq (slice_index rows i) (slice_index rows j)) [
               | inl er ↦
-                ap (λ (r : ℕ). number_in (set to (slice_index rows j) new) r (bank_at banks i t)) er
-                ∙ (number-in_same to (slice_index rows j) (bank_at banks i t) new inside
-                ∙ (others (bank_at banks i t) (λ u lu e. banks_elsewhere apart i j t u (omega (arith, before, lj)) lj lt lu er ne e)
-                ∙ (read-number to (slice_index rows j) (bank_at banks i t) old inside read
-                ∙ (ap (λ (r : ℕ). number_in to r (bank_at banks i t)) (sym er) ∙ done i t before lt))))
+                  ap (λ (r : ℕ). number_in (set to (slice_index rows j) new) r (bank_at banks i t)) er
+                  ∙ (number-in_same to (slice_index rows j) (bank_at banks i t) new inside
+                  ∙ (others (bank_at banks i t) (λ u lu e. banks_elsewhere apart i j t u (omega (arith, before, lj)) lj lt lu er ne e)
+                  ∙ (read-number to (slice_index rows j) (bank_at banks i t) old inside read
+                  ∙ (ap (λ (r : ℕ). number_in to r (bank_at banks i t)) (sym er) ∙ done i t before lt))))
               | inr nr ↦ number-in_other to (slice_index rows j) (slice_index rows i) (bank_at banks i t) new nr ∙ done i t before lt
             ])
       ]
@@ -132,6 +132,6 @@ module _ (n w : ℕ) (place : ℕ → ℕ) (rows : List ℕ) (banks : List (List
   bring-more from to j source new lj long full read brought done i t li lt =
       elim (cases_eq i j) [
         | inl e ↦ subst (λ (k : ℕ). number_in (set to j new) k t ≡ number_in from (slice_index rows k) (bank_at banks k t)) (sym e)
-          (number-in_same to j t new (omega (arith, long, lj)) ∙ (brought t lt ∙ read-number from (slice_index rows j) (bank_at banks j t) source (omega (arith, full, table.row j lj)) read))
+            (number-in_same to j t new (omega (arith, long, lj)) ∙ (brought t lt ∙ read-number from (slice_index rows j) (bank_at banks j t) source (omega (arith, full, table.row j lj)) read))
         | inr ne ↦ number-in_other to j i t new ne ∙ done i t (omega (arith, li, ne)) lt
       ]

@@ -1,6 +1,7 @@
 -- Halves of a code block whose windows run in lock step.
 use Rattle.std.proofs.Common.{◌≡◌, ℕ, ◌+◌, ◌*◌, ◌/◌, ◌%◌, ◌<◌, ◌≤◌, ◌==◌, ℤ, pos, Bool, true, false, cond, List, [], length, get_or, map, refl, sym, ap, ◌∙◌, subst, arith}
 use Rattle.std.specs.List.{range_with_len}
+use Rattle.std.proofs.Math.Nat.{mul-le-mul_left}
 use Rattle.std.proofs.lemmas.List.FromFn.{fill_by_all, length-map-range_with_len, get_or-map-range_with_len}
 use Rattle.std.proofs.lemmas.Nat.{div_below, mod_below, div-add-mod'}
 use Rattle.lte_bits.specs.declared.block.SoftStreams.{SoftStreams}
@@ -115,3 +116,10 @@ module _ (soft : SoftStreams) (shape : Shape) (h : ℕ) (old : List Extrinsic) (
 pub rows-read : (n : ℕ) (soft : SoftStreams) (shape : Shape) (h : ℕ) (sys par s p : List (List ℤ)) → s ≡ sys → p ≡ par → AreRowsOf n soft shape h sys par → AreRowsOf n soft shape h s p
 rows-read n soft shape h sys par s p es ep rows =
     subst (λ (xs : List (List ℤ)). AreRowsOf n soft shape h xs p) (sym es) (subst (λ (xs : List (List ℤ)). AreRowsOf n soft shape h sys xs) (sym ep) rows)
+
+-- windows of a code block that are 8 or more
+pub narrow : (n w k : ℕ) → n * w ≡ k → 8 ≤ n → k ≤ 6144 → w ≤ 768
+narrow n w k e least most = let le : w * 8 ≤ w * n = mul-le-mul_left w least in let c : w * n ≡ n * w = omega arith in omega (arith, le, c, e, most)
+
+pub covers : (shape : Shape) (n w : ℕ) → AreWhole shape → shape.windows ≡ n → w ≡ window_width shape → n * w ≡ shape.k
+covers shape n w whole en ew = ap (λ (x : ℕ). n * x) ew ∙ (ap (λ (x : ℕ). x * window_width shape) (sym en) ∙ whole.whole)

@@ -9,8 +9,6 @@ ghost use Rattle.lock_step.specs.Lanes.{IsLaneCount};
 pub mod banks;
 pub mod borders;
 pub mod cells;
-pub mod soft_rows;
-pub mod steps;
 pub mod crossings;
 pub mod decoder;
 pub mod halves;
@@ -18,20 +16,21 @@ pub mod lane_views;
 pub mod places;
 pub mod rows;
 pub mod running;
+pub mod soft_rows;
+pub mod steps;
 pub mod work;
 pub mod zeros;
 
 pub use banks::Banks;
 pub use cell_shares::Order;
-pub use steps::crossbar;
-pub use running::run_lock_step;
-pub use work::LaneWork;
-
 use decoder::LaneDecoder;
 use lte_bits::{NoMemory, SoftStreams};
+pub use running::run_lock_step;
 use serial_decode::block::decode_halves;
 use std::alloc::Global;
+pub use steps::crossbar;
 use window_decode::{CodeResult, Shape};
+pub use work::LaneWork;
 
 /// Decodes a code block in N windows at once: the result of the first iteration whose check holds, or else of
 /// the last that the shape allows. N is 8, 16 or 32, and the windows of the shape. The streams have length

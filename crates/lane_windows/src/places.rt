@@ -5,8 +5,8 @@ ghost use Rattle.cell_shares.specs.Orders.{place_in, IsOrderOf};
 ghost use Rattle.lock_step.specs.Lanes.{IsLaneCount};
 ghost use Rattle.lane_windows.specs.Crossings.{IsTable};
 
-use crate::steps::crossbar;
 use crate::crossings::Crossings;
+use crate::steps::crossbar;
 use cell_shares::Order;
 use lte_bits::NoMemory;
 use std::alloc::Global;

@@ -12,8 +12,7 @@ use crate::places::follow;
 use crate::rows::lay_front;
 use crate::work::{Engine, LaneWork};
 use cell_shares::Order;
-use lock_step::LaneWork as Kernel;
-use lock_step::run_rows;
+use lock_step::{LaneWork as Kernel, run_rows};
 use lte_bits::Soft;
 use window_decode::Border;
 
@@ -87,23 +86,13 @@ fn run_in_room<const N: usize>(
     ensures ran { (place : ℕ → ℕ)
         → IsTable N (length sys.now) place crossings.now.rows.items crossings.now.banks.items
         → HaveRun N (length banks.old / N) place from.now to.now sys.now par.now
-            banks.old banks.new ahead.new back.new }
+        banks.old banks.new ahead.new back.new }
 {
     let width = sys.len();
     let values = &mut values[..width];
     let sums = &mut sums[..width];
     crossings.bring(banks.values.as_slice(), values);
-    run_rows(
-        kernel,
-        from,
-        to,
-        sys,
-        par,
-        values,
-        sums,
-        ahead,
-        back,
-    );
+    run_rows(kernel, from, to, sys, par, values, sums, ahead, back);
     crossings.put_back(values, banks.values.as_mut_slice());
     crossings.put_back(sums, banks.sums.as_mut_slice());
 }
@@ -136,7 +125,7 @@ pub fn run_crossed<const N: usize>(
     ensures ran { (place : ℕ → ℕ)
         → IsTable N (length sys.now) place crossings.now.rows.items crossings.now.banks.items
         → HaveRun N (length banks.old / N) place from.now to.now sys.now par.now
-            banks.old banks.new ahead.new back.new }
+        banks.old banks.new ahead.new back.new }
 {
     run_in_room(
         &mut engine.kernel,
@@ -187,21 +176,10 @@ fn run_in_order<const N: usize>(
         banks.old banks.new ahead.new back.new }
 {
     match order {
-        Order::Natural => run_straight(
-            &mut engine.kernel,
-            sys,
-            par,
-            from,
-            to,
-            ahead,
-            back,
-            banks,
-        ),
+        Order::Natural => run_straight(&mut engine.kernel, sys, par, from, to, ahead, back, banks),
         Order::Interleaved(_) => {
             follow(crossings, order, sys.len());
-            run_crossed(
-                engine, crossings, sys, par, from, to, ahead, back, banks,
-            );
+            run_crossed(engine, crossings, sys, par, from, to, ahead, back, banks);
         }
     }
 }

@@ -12,13 +12,13 @@ loop-i-preserved c =
     let bank : l._i / w ≡ l.bank = ap (λ (k : ℕ). k / w) (sym inv.place) ∙ div-mul-add l.bank w l.row inv.inside in
     record {
       place = elim c.if-row-width.branch [
-          | then-row-width v ↦ (ap (λ (k : ℕ). k * w + c.if-row-width.row) v.bank-is ∙ (ap (λ (k : ℕ). (l.bank + 1) * w + k) v.row-is ∙ next-place w l.bank l.row l._i inv.place v.if-row-width.true))
-          | else-row-width v ↦ (ap (λ (k : ℕ). k * w + c.if-row-width.row) v.bank-is ∙ (ap (λ (k : ℕ). l.bank * w + k) v.row-is ∙ (let s : l.bank * w + (l.row + 1) ≡ l._i + 1 = omega (arith, inv.place) in s)))
-        ];
+        | then-row-width v ↦ (ap (λ (k : ℕ). k * w + c.if-row-width.row) v.bank-is ∙ (ap (λ (k : ℕ). (l.bank + 1) * w + k) v.row-is ∙ next-place w l.bank l.row l._i inv.place v.if-row-width.true))
+        | else-row-width v ↦ (ap (λ (k : ℕ). k * w + c.if-row-width.row) v.bank-is ∙ (ap (λ (k : ℕ). l.bank * w + k) v.row-is ∙ (let s : l.bank * w + (l.row + 1) ≡ l._i + 1 = omega (arith, inv.place) in s)))
+      ];
       inside = elim c.if-row-width.branch [
-          | then-row-width v ↦ omega (arith, v.row-is, inv.inside)
-          | else-row-width v ↦ omega (arith, v.row-is, v.if-row-width.false, inv.inside)
-        ];
+        | then-row-width v ↦ omega (arith, v.row-is, inv.inside)
+        | else-row-width v ↦ omega (arith, v.row-is, v.if-row-width.false, inv.inside)
+      ];
       made =
           c.in_ok-push.ensures.items
           ∙ (ap (λ (xs : List ℕ). xs ++ l.bank ∷ []) inv.made

@@ -14,9 +14,49 @@ pub run_crossed-requires : goal.run_crossed-requires
 run_crossed-requires g c =
     let n = g.row.N in let r = c.requires in let w : ℕ = length c.args.sys.now in let f = c.follow.ensures in
     let rows : w ≤ length c.follow.new.crossings.rows.items = omega (arith, f.rows, r.rows) in
-    let banks : w ≤ length c.follow.new.crossings.banks.items = omega (arith, f.banks, r.banks) in
-    (omega arith, (omega arith, (fits-twice n r.lanes, (omega arith, (r.room, (r.systematic, (r.parity, (r.soft, (r.from, (r.to, (r.ahead, (r.back, (rows, (banks,
-    (place_in c.args.order.now, f.table, order-apart c.args.order.now n w r.order)))))))))))))))
+    let banks : w ≤ length c.follow.new.crossings.banks.items = omega (arith, f.banks, r.banks) in (
+      omega arith,
+      (
+        omega arith,
+        (
+          fits-twice n r.lanes,
+          (
+            omega arith,
+            (
+              r.room,
+              (
+                r.systematic,
+                (
+                  r.parity,
+                  (
+                    r.soft,
+                    (
+                      r.from,
+                      (
+                        r.to,
+                        (
+                          r.ahead,
+                          (
+                            r.back,
+                            (
+                              rows,
+                              (
+                                banks,
+                                (place_in c.args.order.now, f.table, order-apart c.args.order.now n w r.order),
+                              ),
+                            ),
+                          ),
+                        ),
+                      ),
+                    ),
+                  ),
+                ),
+              ),
+            ),
+          ),
+        ),
+      ),
+    )
 
 pub run_straight-requires : goal.run_straight-requires
 run_straight-requires g c =

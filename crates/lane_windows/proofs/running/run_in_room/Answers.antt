@@ -37,9 +37,31 @@ run_rows-requires g c =
     let values : length c.bring.new.to ≡ w = c.bring.auto.to ∙ length-take-le w c.args.values.now room in
     let sums : length (take w c.args.sums.now) ≡ w = length-take-le w c.args.sums.now room2 in
     let least : 8 ≤ w = omega (arith, ww, c.requires.systematic, inv.least) in
-    let within : AreWithin n 511 c.bring.new.to = c.bring.ensures.kept 511 (subst (AreWithin n 511) (sym c.as_slice.ensures.value) inv.within) in
-    (omega arith, (fits-twice n inv.lanes, (inv.lanes, (least, (c.requires.room, (c.requires.parity ∙ sym c.requires.systematic, (values, (sums,
-    (c.requires.from, (c.requires.to, (c.requires.ahead, (c.requires.back, record { systematic = c.requires.soft.0; parity = c.requires.soft.1; extrinsic = within }))))))))))))
+    let within : AreWithin n 511 c.bring.new.to = c.bring.ensures.kept 511 (subst (AreWithin n 511) (sym c.as_slice.ensures.value) inv.within) in (
+      omega arith,
+      (
+        fits-twice n inv.lanes,
+        (
+          inv.lanes,
+          (
+            least,
+            (
+              c.requires.room,
+              (
+                c.requires.parity ∙ sym c.requires.systematic,
+                (
+                  values,
+                  (
+                    sums,
+                    (c.requires.from, (c.requires.to, (c.requires.ahead, (c.requires.back, record { systematic = c.requires.soft.0; parity = c.requires.soft.1; extrinsic = within })))),
+                  ),
+                ),
+              ),
+            ),
+          ),
+        ),
+      ),
+    )
 
 pub put_back-requires : goal.put_back-requires
 put_back-requires g c =

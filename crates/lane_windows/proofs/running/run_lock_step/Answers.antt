@@ -40,9 +40,43 @@ run_in_order-requires g c =
     let rows : length (take w c.as_slice.result.now) ≤ length b.crossings.rows.items = omega (arith, ws, room, c.work.invariant.2) in
     let banks : length (take w c.as_slice.result.now) ≤ length b.crossings.banks.items = omega (arith, ws, room, c.work.invariant.3) in
     let soft-s : AreWithin n 127 (take w c.as_slice.result.now) = subst (λ (xs : List (List ℤ)). AreWithin n 127 (take w xs)) (sym es) c.lay_front.ensures.within in
-    let soft-p : AreWithin n 127 (take w c.as_slice-2.result.now) = subst (λ (xs : List (List ℤ)). AreWithin n 127 (take w xs)) (sym ep) c.lay_front-2.ensures.within in
-    (omega arith, (omega arith, (fits-twice n x.lanes, (omega arith, (x.lanes, (order, (least, (most, (fits, (ws ∙ x.value, (wp ∙ x.value, ((soft-s, soft-p),
-    (r.from, (r.to, (r.ahead, (r.back, (rows, banks)))))))))))))))))
+    let soft-p : AreWithin n 127 (take w c.as_slice-2.result.now) = subst (λ (xs : List (List ℤ)). AreWithin n 127 (take w xs)) (sym ep) c.lay_front-2.ensures.within in (
+      omega arith,
+      (
+        omega arith,
+        (
+          fits-twice n x.lanes,
+          (
+            omega arith,
+            (
+              x.lanes,
+              (
+                order,
+                (
+                  least,
+                  (
+                    most,
+                    (
+                      fits,
+                      (
+                        ws ∙ x.value,
+                        (
+                          wp ∙ x.value,
+                          (
+                            (soft-s, soft-p),
+                            (r.from, (r.to, (r.ahead, (r.back, (rows, banks))))),
+                          ),
+                        ),
+                      ),
+                    ),
+                  ),
+                ),
+              ),
+            ),
+          ),
+        ),
+      ),
+    )
 
 pub invariant_of-work : goal.invariant_of-work
 invariant_of-work g c =

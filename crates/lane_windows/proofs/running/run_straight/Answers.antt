@@ -16,9 +16,31 @@ run_rows-requires g c =
     let values : length c.as_mut_slice.result.now ≡ length c.args.sys.now = ap length c.as_mut_slice.ensures.value ∙ (sym w ∙ sym c.requires.systematic) in
     let sums : length c.as_mut_slice-2.result.now ≡ length c.args.sys.now = ap length c.as_mut_slice-2.ensures.value ∙ (inv.sums_long ∙ (sym w ∙ sym c.requires.systematic)) in
     let least : 8 ≤ length c.args.sys.now = omega (arith, w, c.requires.systematic, inv.least) in
-    let within : AreWithin n 511 c.as_mut_slice.result.now = subst (AreWithin n 511) (sym c.as_mut_slice.ensures.value) inv.within in
-    (omega arith, (fits-twice n inv.lanes, (inv.lanes, (least, (c.requires.room, (c.requires.parity ∙ sym c.requires.systematic, (values, (sums,
-    (c.requires.from, (c.requires.to, (c.requires.ahead, (c.requires.back, record { systematic = c.requires.soft.0; parity = c.requires.soft.1; extrinsic = within }))))))))))))
+    let within : AreWithin n 511 c.as_mut_slice.result.now = subst (AreWithin n 511) (sym c.as_mut_slice.ensures.value) inv.within in (
+      omega arith,
+      (
+        fits-twice n inv.lanes,
+        (
+          inv.lanes,
+          (
+            least,
+            (
+              c.requires.room,
+              (
+                c.requires.parity ∙ sym c.requires.systematic,
+                (
+                  values,
+                  (
+                    sums,
+                    (c.requires.from, (c.requires.to, (c.requires.ahead, (c.requires.back, record { systematic = c.requires.soft.0; parity = c.requires.soft.1; extrinsic = within })))),
+                  ),
+                ),
+              ),
+            ),
+          ),
+        ),
+      ),
+    )
 
 pub invariant_of-banks : goal.invariant_of-banks
 invariant_of-banks g c =

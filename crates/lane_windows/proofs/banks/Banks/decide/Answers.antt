@@ -17,9 +17,10 @@ pub lane_bit-requires : goal.lane_bit-requires
 lane_bit-requires g c =
     let b = c.self.inside in let l = c.loop-i in
     let w : c.len-width.result ≡ length b.values.items = c.len-width.ensures ∙ (b.sums.ok.0 ∙ c.self.invariant.sums_long) in
-    let long = length-of_view g.row.N b.values.items b.sums.items c.args.self.now c.self.invariant c.self.view_is in
-    (fits-twice g.row.N c.self.invariant.lanes,
-    bank-in g.row.N c.len-width.result l.bank l.row l.i (length c.args.bits.now) (length c.args.self.now) l.invariant.place l.invariant.inside c.loop-i-test.true c.requires.long (long ∙ ap (λ (k : ℕ). g.row.N * k) (sym w)))
+    let long = length-of_view g.row.N b.values.items b.sums.items c.args.self.now c.self.invariant c.self.view_is in (
+      fits-twice g.row.N c.self.invariant.lanes,
+      bank-in g.row.N c.len-width.result l.bank l.row l.i (length c.args.bits.now) (length c.args.self.now) l.invariant.place l.invariant.inside c.loop-i-test.true c.requires.long (long ∙ ap (λ (k : ℕ). g.row.N * k) (sym w)),
+    )
 
 pub loop-i-preserved : goal.loop-i-preserved
 loop-i-preserved g c =
@@ -38,13 +39,13 @@ loop-i-preserved g c =
     ∙ bit-at c.args.fill l.i c.args.self.now (number_in b.values.items l.row l.bank) (number_in b.sums.items l.row l.bank) (omega (arith, c.loop-i-test.true, c.requires.long)) cell) in
     record {
       place = elim c.if-row-width.branch [
-          | then-row-width v ↦ (ap (λ (k : ℕ). k * c.len-width.result + c.if-row-width.row) v.bank-is ∙ (ap (λ (k : ℕ). (l.bank + 1) * c.len-width.result + k) v.row-is ∙ next-place c.len-width.result l.bank l.row l.i inv.place v.if-row-width.true))
-          | else-row-width v ↦ (ap (λ (k : ℕ). k * c.len-width.result + c.if-row-width.row) v.bank-is ∙ (ap (λ (k : ℕ). l.bank * c.len-width.result + k) v.row-is ∙ (let s : l.bank * c.len-width.result + (l.row + 1) ≡ l.i + 1 = omega (arith, inv.place) in s)))
-        ];
+        | then-row-width v ↦ (ap (λ (k : ℕ). k * c.len-width.result + c.if-row-width.row) v.bank-is ∙ (ap (λ (k : ℕ). (l.bank + 1) * c.len-width.result + k) v.row-is ∙ next-place c.len-width.result l.bank l.row l.i inv.place v.if-row-width.true))
+        | else-row-width v ↦ (ap (λ (k : ℕ). k * c.len-width.result + c.if-row-width.row) v.bank-is ∙ (ap (λ (k : ℕ). l.bank * c.len-width.result + k) v.row-is ∙ (let s : l.bank * c.len-width.result + (l.row + 1) ≡ l.i + 1 = omega (arith, inv.place) in s)))
+      ];
       inside = elim c.if-row-width.branch [
-          | then-row-width v ↦ omega (arith, v.row-is, inv.inside)
-          | else-row-width v ↦ omega (arith, v.row-is, v.if-row-width.false, inv.inside)
-        ];
+        | then-row-width v ↦ omega (arith, v.row-is, inv.inside)
+        | else-row-width v ↦ omega (arith, v.row-is, v.if-row-width.false, inv.inside)
+      ];
       done = below_more _ _
           (λ k h. let ne : k ≢ l.i = omega arith in rw get_or-set_other (inv.done k h))
           (let lt : l.i < length l.bits = omega (arith, l.auto.bits, c.loop-i-test.true) in rw get_or-set_same bit);

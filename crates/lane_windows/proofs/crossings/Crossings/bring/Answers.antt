@@ -39,10 +39,10 @@ loop-j-preserved g c =
     record {
       done = bring-more n w c.requires.table.0 s.rows.items s.banks.items c.requires.table.1 c.args.from.now l.to l.j source c.bring_row.new.to lj l.auto.to c.requires.from read brought inv.done;
       kept = λ m all i t li lt. elim (cases_eq i l.j) [
-          | inl e ↦ subst (λ (k : ℕ). IsWithin m (number_in (slice_set l.to l.j c.bring_row.new.to) k t)) (sym e)
+        | inl e ↦ subst (λ (k : ℕ). IsWithin m (number_in (slice_set l.to l.j c.bring_row.new.to) k t)) (sym e)
             (subst (IsWithin m) (sym (number-in_same l.to l.j t c.bring_row.new.to (omega (arith, l.auto.to, lj)))) (c.bring_row.ensures.kept m (from-kept m all) t lt))
-          | inr ne ↦ subst (IsWithin m) (sym (number-in_other l.to l.j i t c.bring_row.new.to ne)) (inv.kept m all i t (omega (arith, li, ne)) lt)
-        ];
+        | inr ne ↦ subst (IsWithin m) (sym (number-in_other l.to l.j i t c.bring_row.new.to ne)) (inv.kept m all i t (omega (arith, li, ne)) lt)
+      ];
     }
 
 pub returns-clause-kept : goal.returns-clause-kept

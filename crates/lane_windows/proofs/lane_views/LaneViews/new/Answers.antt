@@ -12,10 +12,8 @@ use Rattle.lane_windows.specs.Crossings.{IsTable}
 use Rattle.lane_windows.proofs.BankCells.{lanes-least, lanes-few, place-inside, lanes-some}
 use Rattle.lane_windows.proofs.CrossingLaws.{place-one_row}
 use Rattle.lane_windows.proofs.CrossingSteps.{table-by}
+use Rattle.lane_windows.proofs.LaneHalves.{narrow, covers}
 use Rattle.lane_windows.proofs.lane_views.LaneViews.new.Goals as goal
-
-narrow : (n w k : ℕ) → n * w ≡ k → 8 ≤ n → k ≤ 6144 → w ≤ 768
-narrow n w k e least most = let le : w * 8 ≤ w * n = mul-le-mul_left w least in let c : w * n ≡ n * w = omega arith in omega (arith, le, c, e, most)
 
 -- the places of the second order
 module _ (shape : Shape) (places : List ℕ) (whole : AreWhole shape) (is : places ≡ map (order shape.k 1) (range_with_len 0 shape.k)) where
@@ -24,9 +22,6 @@ module _ (shape : Shape) (places : List ℕ) (whole : AreWhole shape) (is : plac
 
   place-under : (i : ℕ) → i < shape.k → slice_index places i < shape.k
   place-under i lt = subst (λ (p : ℕ). p < shape.k) (sym (place-at i lt)) (order-below shape.k 1 i whole.size lt)
-
-covers : (shape : Shape) (n w : ℕ) → AreWhole shape → shape.windows ≡ n → w ≡ window_width shape → n * w ≡ shape.k
-covers shape n w whole en ew = ap (λ (x : ℕ). n * x) ew ∙ (ap (λ (x : ℕ). x * window_width shape) (sym en) ∙ whole.whole)
 
 pub crossings_of-requires : goal.crossings_of-requires
 crossings_of-requires g c =
@@ -42,10 +37,10 @@ crossings_of-requires g c =
     λ i li. (let b = place-under shape places whole c.places.ensures i (omega (arith, li, e)) in omega (arith, b, e)) in
     let one_row : (t j : ℕ) → t < n → j < w → slice_index places (t * w + j) % w ≡ slice_index places j % w =
     λ t j lt lj. (
-      let inside = place-inside n w t j lt lj in let first = place-inside n w 0 j (lanes-some n lanes) lj in
-      let z : 0 * w + j ≡ j = omega arith in
-      ap (λ (p : ℕ). p % w) (place-at shape places whole c.places.ensures (t * w + j) (omega (arith, inside, e)))
-      ∙ (place-one_row shape.k n w t j (sym e) ∙ ap (λ (p : ℕ). p % w) (sym (place-at shape places whole c.places.ensures j (omega (arith, first, z, e)))))) in
+    let inside = place-inside n w t j lt lj in let first = place-inside n w 0 j (lanes-some n lanes) lj in
+    let z : 0 * w + j ≡ j = omega arith in
+    ap (λ (p : ℕ). p % w) (place-at shape places whole c.places.ensures (t * w + j) (omega (arith, inside, e)))
+    ∙ (place-one_row shape.k n w t j (sym e) ∙ ap (λ (p : ℕ). p % w) (sym (place-at shape places whole c.places.ensures j (omega (arith, first, z, e)))))) in
     (omega arith, (lanes, (least, (most, (long, (below, one_row))))))
 
 pub invariant_of-result : goal.invariant_of-result

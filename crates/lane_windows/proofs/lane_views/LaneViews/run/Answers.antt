@@ -31,10 +31,53 @@ run_crossed-requires g c =
     let soft-s : AreWithin n 127 c.as_slice-else-h-eq0.result.now = subst (AreWithin n 127) (sym c.as_slice-else-h-eq0.ensures.value) rows.systematic_soft in
     let soft-p : AreWithin n 127 c.as_slice-else-h-eq0-2.result.now = subst (AreWithin n 127) (sym c.as_slice-else-h-eq0-2.ensures.value) rows.parity_soft in
     let steps : length c.as_slice-else-h-eq0.result.now ≤ length x.rows.items = omega (arith, ls, v.steps) in
-    let bank_steps : length c.as_slice-else-h-eq0.result.now ≤ length x.banks.items = omega (arith, ls, v.bank_steps) in
-    (omega arith, (omega arith, (fits, (omega arith, (room, (ls ∙ sym w, (lp ∙ sym w, ((soft-s, soft-p), (r.from, (r.to, (r.ahead, (r.back, (steps, (bank_steps,
-    (place v.views.shape.k, subst (λ (k : ℕ). IsTable n k (place v.views.shape.k) x.rows.items x.banks.items) (sym ls) v.table,
-    subst (λ (k : ℕ). AreApart n k (place v.views.shape.k)) (sym ls) v.apart)))))))))))))))
+    let bank_steps : length c.as_slice-else-h-eq0.result.now ≤ length x.banks.items = omega (arith, ls, v.bank_steps) in (
+      omega arith,
+      (
+        omega arith,
+        (
+          fits,
+          (
+            omega arith,
+            (
+              room,
+              (
+                ls ∙ sym w,
+                (
+                  lp ∙ sym w,
+                  (
+                    (soft-s, soft-p),
+                    (
+                      r.from,
+                      (
+                        r.to,
+                        (
+                          r.ahead,
+                          (
+                            r.back,
+                            (
+                              steps,
+                              (
+                                bank_steps,
+                                (
+                                  place v.views.shape.k,
+                                  subst (λ (k : ℕ). IsTable n k (place v.views.shape.k) x.rows.items x.banks.items) (sym ls) v.table,
+                                  subst (λ (k : ℕ). AreApart n k (place v.views.shape.k)) (sym ls) v.apart,
+                                ),
+                              ),
+                            ),
+                          ),
+                        ),
+                      ),
+                    ),
+                  ),
+                ),
+              ),
+            ),
+          ),
+        ),
+      ),
+    )
 
 pub returns-then-h-eq0-clause-ran : goal.returns-then-h-eq0-clause-ran
 returns-then-h-eq0-clause-ran g c =
