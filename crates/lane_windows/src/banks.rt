@@ -6,7 +6,7 @@ ghost use Rattle.receiver_model.specs.Windows.{cell_at, zero_cell};
 ghost use Rattle.receiver_model.specs.Decoding.{decided_bits};
 ghost use Rattle.lock_step.specs.Lanes.{IsLaneCount};
 
-use crate::cells::{lane_bit, lane_cell, split};
+use crate::cells::{decide_row, lane_cell, split};
 use crate::zeros::zero_rows;
 use lte_bits::{Bit, List, NoMemory};
 use std::alloc::Global;
@@ -119,16 +119,8 @@ impl<const N: usize> Banks<N> {
         ensures { bits.new ≡ decided_bits fill self.now }
     {
         let width = self.sums.len();
-        let mut row = 0;
-        let mut bank = 0;
-        for (i, bit) in bits.iter_mut().enumerate() {
-            let sums = &self.sums[row];
-            *bit = lane_bit(fill, i, sums, bank);
-            row += 1;
-            if row == width {
-                row = 0;
-                bank += 1;
-            }
+        for r in 0..width {
+            decide_row(fill, &self.sums[r], width, r, bits);
         }
     }
 }

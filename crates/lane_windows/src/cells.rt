@@ -1,8 +1,10 @@
 //! Cells as numbers: a value, and a sum that is negative exactly where the decided bit is 1.
-ghost use Rattle.std.specs.Prelude.{◌≡◌, ℕ, ◌<◌, pos, int_lt};
+ghost use Rattle.std.specs.Prelude.{◌≡◌, ◌≢◌, ℕ, ◌+◌, ◌*◌, ◌%◌, ◌<◌, pos, int_lt, length, slice_index_or};
 ghost use Rattle.lte_bits.specs.Softs.{IsWithin};
+ghost use Rattle.lte_bits.specs.declared.bit.Bit.TheVariants.{Zero};
 ghost use Rattle.receiver_model.specs.Borders.{at};
 ghost use Rattle.receiver_model.specs.Windows.{cell_at};
+ghost use Rattle.lock_step.specs.Lanes.{IsLaneCount};
 ghost use Rattle.lane_windows.specs.Banks.{cell_of, bit_at_place};
 
 use lte_bits::Bit;
@@ -27,6 +29,28 @@ pub fn lane_bit<const N: usize>(fill: usize, i: usize, sums: &[i16; N], b: usize
     ensures { result ≡ bit_at_place fill i (at sums.now b) }
 {
     decided(i < fill, sums[b] < 0)
+}
+
+/// Leaves the decided bits of row `r`, of which each bank has `width`: 0 at the first `fill` places.
+pub fn decide_row<const N: usize>(
+    fill: usize,
+    sums: &[i16; N],
+    width: usize,
+    r: usize,
+    bits: &mut [Bit],
+)
+    requires lanes { IsLaneCount N }
+    requires row { r < width }
+    requires long { length bits.old ≡ N * width }
+    ensures row { (b : ℕ) → b < N → slice_index_or bits.new (b * width + r) Zero
+        ≡ bit_at_place fill (b * width + r) (at sums.now b) }
+    ensures others { (i : ℕ) → i % width ≢ r
+        → slice_index_or bits.new i Zero ≡ slice_index_or bits.old i Zero }
+{
+    for b in 0..N {
+        let place = b * width + r;
+        bits[place] = lane_bit(fill, place, sums, b);
+    }
 }
 
 /// A sum that decides a bit.

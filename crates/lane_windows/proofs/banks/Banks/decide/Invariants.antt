@@ -1,11 +1,8 @@
-use Rattle.std.proofs.Common.{◌≡◌, ℕ, ◌+◌, ◌*◌, ◌<◌, length, get_or}
+use Rattle.std.proofs.Common.{◌≡◌, ℕ, ◌+◌, ◌*◌, ◌<◌, get_or}
 use Rattle.lte_bits.specs.declared.bit.Bit.TheVariants.{Zero}
 use Rattle.receiver_model.specs.Decoding.{decided_bits}
 use Rattle.lane_windows.proofs.banks.Banks.decide.Given as goal
 
-abbrev pub invariant-loop-i : goal.invariant-loop-i
-invariant-loop-i g l = record {
-  place : l.bank * l.width + l.row ≡ l.i;
-  inside : l.row < l.width;
-  done : (k : ℕ) → k < l.i → get_or l.bits k Zero ≡ get_or (decided_bits l.fill l.self) k Zero;
-}
+abbrev pub invariant-loop-r : goal.invariant-loop-r
+invariant-loop-r g l = (s b : ℕ) → s < l.r → b < g.row.N
+    → get_or l.bits (b * l.width + s) Zero ≡ get_or (decided_bits l.fill l.self) (b * l.width + s) Zero
