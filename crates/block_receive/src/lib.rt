@@ -1,6 +1,7 @@
 //! The reception of a transport block: its transmissions, one after the other, and what they came to.
 #![tactic(auto)]
 
+mod alone;
 mod joining;
 mod receiving;
 mod shapes;
