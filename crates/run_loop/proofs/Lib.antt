@@ -1,8 +1,6 @@
 pub mod Rises
 mod Lines
-mod Reached
-mod Blocks
+mod Parts
 mod Endings
 pub mod Complete
-pub mod Headers
 pub mod Alone

@@ -1,4 +1,4 @@
-//! The loop that every command runs in: its work's rounds of blocks, one after the other, from a
+//! The loop that every command runs in: its work's header, then round by round, from a
 //! source to two sinks, how the run ends, and the line that tells a fault.
 #![tactic(auto)]
 
@@ -11,4 +11,4 @@ mod work;
 pub use driver::drive;
 pub use fault_line::tell;
 pub use status::{SinkName, Status};
-pub use work::{Block, Round, Stop, Work};
+pub use work::{Open, Part, Round, Stop, Work};
