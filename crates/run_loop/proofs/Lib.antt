@@ -4,3 +4,4 @@ mod Parts
 mod Endings
 pub mod Complete
 pub mod Alone
+pub mod Within

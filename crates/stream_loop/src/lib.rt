@@ -3,8 +3,8 @@
 #![tactic(auto)]
 
 mod handler;
-mod reading;
-mod running;
+mod rounds;
+mod stream;
 
 pub use handler::{Handled, Handler};
-pub use running::run_stream;
+pub use stream::Stream;

@@ -1,52 +1,48 @@
-//! The work of a command over a stream whose header was read.
+//! The rounds of a command over a stream whose header was read.
 ghost use Rattle.std.specs.Prelude.{◌≡◌, ◌≤◌, ◌<◌, ◌+◌, ◌-◌, true, IfOk};
 ghost use Rattle.coded_stream.specs.Header.{kind_code};
 ghost use Rattle.coded_stream.specs.Blocks.{IsBlock};
 ghost use Rattle.coded_stream.specs.Opening.{is_wanted};
 ghost use Rattle.coded_stream.specs.Shown.{header_of};
-ghost use Rattle.stream_loop.specs.Handling.{one_if};
-ghost use Rattle.stream_loop.specs.Rounds.{block_of, stop_of, IsEnding, IsAlone, IsGoing};
+ghost use Rattle.stream_loop.specs.Handling.{closing_text, one_if};
+ghost use Rattle.stream_loop.specs.Rounds.{block_of, status_of, IsEnding, IsAlone, IsGoing};
 
 use crate::handler::{Handled, Handler};
-use coded_stream::{Header, StreamReader, StreamStop};
-use edge_io::{Sink, SinkFault, Source};
+use coded_stream::{Header, StreamReader, StreamStop, length_word};
+use edge_io::Source;
 use lte_bits::{List, NoMemory};
-use run_loop::{Block, Round, Stop, Work};
+use run_loop::{Part, Round, Status, Stop, Work};
 use std::alloc::Global;
 
 /// A command, the reader of its stream, the room of a block's transmissions, and how many blocks
 /// failed.
 #[derive(Drop)]
-pub struct Reading<H: Handler> {
-    handler: H,
-    reader: StreamReader,
-    room: List<u8>,
-    failed: usize,
+pub struct StreamRounds<H: Handler> {
+    pub handler: H,
+    pub reader: StreamReader,
+    pub room: List<u8>,
+    pub failed: usize,
 }
 
-impl<H: Handler> Reading<H> {
-    pub fn new(alloc: Global, handler: H, reader: StreamReader) -> Self
-        ensures handler { result.handler ≡ handler }
-        ensures reader { result.reader ≡ reader }
-        ensures failed { result.failed ≡ 0 }
-    {
-        Reading {
-            handler,
-            reader,
-            room: List::from_vec(Vec::new(alloc)),
-            failed: 0,
-        }
+/// How a run ends where its reader stops.
+pub fn status_of(stop: StreamStop) -> Status
+    ensures { result ≡ status_of stop }
+{
+    match stop {
+        StreamStop::Bad { number, place } => Status::BadStream { number, place },
+        StreamStop::Fault => Status::ReadFault,
+        StreamStop::NoMemory => Status::NoMemory,
     }
 }
 
-/// How a round stops where the reader does.
-fn stop_of(stop: StreamStop) -> Stop
-    ensures { result ≡ stop_of stop }
+/// What closes `out`.
+fn closing<H: Handler>(alloc: Global, handler: &H, header: &Header) -> Result<Vec<u8>, NoMemory>
+    ensures { IfOk result (λ text. text.items
+        ≡ closing_text ((H.handling handler.now).header (header_of header.now))) }
 {
-    match stop {
-        StreamStop::Bad { number, place } => Stop::Bad { number, place },
-        StreamStop::Fault => Stop::Fault,
-        StreamStop::NoMemory => Stop::NoMemory,
+    match handler.header(header) {
+        Some(_) => Ok(length_word(alloc, 0)?),
+        None => Ok(Vec::new(alloc)),
     }
 }
 
@@ -54,14 +50,15 @@ fn stop_of(stop: StreamStop) -> Stop
 fn ending<H: Handler>(
     alloc: Global,
     handler: &H,
+    header: &Header,
     blocks: usize,
     failed: usize,
 ) -> Result<Stop, NoMemory>
     requires few { blocks ≤ 4096 }
     requires failed { failed ≤ blocks }
-    ensures { IfOk result (IsEnding (H.handling handler.now) blocks failed) }
+    ensures { IfOk result (IsEnding (H.handling handler.now) (header_of header.now) blocks failed) }
 {
-    let closing = handler.closing(alloc)?;
+    let closing = closing(alloc, handler, header)?;
     let last = handler.last(alloc, blocks, failed)?;
     Ok(Stop::End {
         closing,
@@ -80,15 +77,15 @@ fn of_handled(alloc: Global, handled: Handled, size: usize) -> Result<Round, NoM
     })) }
 {
     let Handled { text, line, .. } = handled;
-    let mut blocks = Vec::new(alloc);
-    blocks.push(Block {
+    let mut parts = Vec::new(alloc);
+    parts.push(Part {
         text,
         line,
         size,
         wants: size,
     })?;
     Ok(Round {
-        blocks,
+        parts,
         stop: Stop::Go,
     })
 }
@@ -102,7 +99,6 @@ fn going<H: Handler>(
     payload: usize,
     bytes: &[u8],
 ) -> Result<(Round, bool), NoMemory>
-    requires able { H.able handler.now }
     requires wanted { is_wanted (H.handling handler.now).want (kind_code header.now.kind) ≡ true }
     requires few { number < 4096 }
     requires accepted { IsBlock (header_of header.now) (block_of payload bytes.now) }
@@ -124,32 +120,26 @@ fn counted(before: usize, failed: bool) -> usize
     if failed { before + 1 } else { before }
 }
 
-impl<H: Handler> Work for Reading<H> {
+impl<H: Handler> Work for StreamRounds<H> {
     ghost use Rattle.coded_stream.specs.Stream.{most_blocks};
     ghost use Rattle.stream_loop.specs.Rounds.{answer_ahead, IsReady};
 
-    ghost opening = { λ s. (H.handling s.handler).opening s.reader.header };
-
     ghost answer = { λ s input. answer_ahead (H.handling s.handler) s.reader s.failed input };
 
-    ghost ready = { λ s. H.able s.handler × IsReady (H.handling s.handler) s.reader s.failed };
+    ghost ready = { λ s. IsReady (H.handling s.handler) s.reader s.failed };
 
     ghost budget = { λ s. most_blocks - s.reader.blocks };
-
-    fn open<D: Sink>(&self, out: &mut D) -> Result<(), SinkFault> {
-        self.handler.open(self.reader.header(), out)
-    }
 
     fn round<S: Source>(&mut self, alloc: Global, source: &mut S) -> Round {
         let number = self.reader.blocks();
         // What the end takes is had before its bytes are read.
-        let Ok(end) = ending(alloc, &self.handler, number, self.failed) else {
-            return Round::stopped(alloc, Stop::NoMemory);
+        let Ok(end) = ending(alloc, &self.handler, self.reader.header(), number, self.failed) else {
+            return Round::stopped(alloc, Stop::Fails(Status::NoMemory));
         };
         let payload = match self.reader.next_block(source, &mut self.room) {
             Ok(Some(payload)) => payload,
             Ok(None) => return Round::stopped(alloc, end),
-            Err(stop) => return Round::stopped(alloc, stop_of(stop)),
+            Err(stop) => return Round::stopped(alloc, Stop::Fails(status_of(stop))),
         };
         let header = self.reader.header();
         let bytes = self.room.as_slice();
@@ -158,7 +148,7 @@ impl<H: Handler> Work for Reading<H> {
                 self.failed = counted(self.failed, failed);
                 round
             }
-            Err(NoMemory) => Round::stopped(alloc, Stop::NoMemory),
+            Err(NoMemory) => Round::stopped(alloc, Stop::Fails(Status::NoMemory)),
         }
     }
 }
