@@ -10,32 +10,33 @@ ghost use Rattle.decode_command.specs.Receivers.{GivesOutcomes, TakesTransmissio
 use crate::lines::{block_line, last_line};
 use block_receive::Task;
 use coded_stream::{Header, Want};
-use edge_io::{Sink, SinkFault, write_all};
 use lte_bits::{NoMemory, Soft};
 use rate_match::Sends;
 use receiver_model::TbOutcome;
 use segmentation::plan;
 use std::alloc::Global;
-use stream_loop::{Handled, Handler};
-use stream_values::softs_of;
+use stream_loop::{Handled, Handler, softs_of};
 
 /// What the reception of a transport block comes to, or that there was no memory.
 pub type Received = Result<TbOutcome, NoMemory>;
 
-/// Who receives transport blocks, and with what effort: in at most so many windows, 1 to 64, and with at most
-/// so many iterations, 1 to 16.
+/// Who receives transport blocks, by up to how many workers, 1 to 16, and with what effort: in at
+/// most so many windows, 1 to 64, and with at most so many iterations, 1 to 16.
 #[derive(Drop)]
-pub struct Decoding<'a, F: Fn(Global, &Task, &Sends, &[Soft]) -> Received> {
+pub struct Decoding<'a, F: Fn(Global, &Task, usize, &Sends, &[Soft]) -> Received> {
     pub receive: &'a F,
+    pub workers: usize,
     pub windows: usize,
     pub limit: usize,
+    pub ghost some_workers: { 1 ≤ workers },
+    pub ghost few_workers: { workers ≤ 16 },
     pub ghost some_windows: { 1 ≤ windows },
     pub ghost few_windows: { windows ≤ 64 },
     pub ghost some_iterations: { 1 ≤ limit },
     pub ghost few_iterations: { limit ≤ 16 },
 }
 
-impl<'a, F: Fn(Global, &Task, &Sends, &[Soft]) -> Received> Decoding<'a, F> {
+impl<'a, F: Fn(Global, &Task, usize, &Sends, &[Soft]) -> Received> Decoding<'a, F> {
     /// What the transmissions of a block come to.
     fn outcome(
         &self,
@@ -59,7 +60,8 @@ impl<'a, F: Fn(Global, &Task, &Sends, &[Soft]) -> Received> Decoding<'a, F> {
             limit: self.limit,
         };
         let softs = softs_of(alloc, bytes)?;
-        (self.receive)(alloc, &task, &header.sends, softs.as_slice())
+        let (workers, sends) = (self.workers, &header.sends);
+        (self.receive)(alloc, &task, workers, sends, softs.as_slice())
     }
 }
 
@@ -82,7 +84,7 @@ fn handled(alloc: Global, number: usize, outcome: TbOutcome) -> Result<Handled, 
     })
 }
 
-impl<'a, F: Fn(Global, &Task, &Sends, &[Soft]) -> Received> Handler for Decoding<'a, F> {
+impl<'a, F: Fn(Global, &Task, usize, &Sends, &[Soft]) -> Received> Handler for Decoding<'a, F> {
     ghost use Rattle.decode_command.specs.Decoding.{decoding};
 
     ghost able = { λ s. TakesTransmissions (F.pre s.receive.now) × GivesOutcomes (F.post s.receive.now) };
@@ -93,8 +95,8 @@ impl<'a, F: Fn(Global, &Task, &Sends, &[Soft]) -> Received> Handler for Decoding
         Want::Soft
     }
 
-    fn open<S: Sink>(&self, _header: &Header, out: &mut S) -> Result<(), SinkFault> {
-        write_all(out, b"")
+    fn header(&self, _header: &Header) -> Option<Header> {
+        None
     }
 
     fn block(
@@ -107,10 +109,6 @@ impl<'a, F: Fn(Global, &Task, &Sends, &[Soft]) -> Received> Handler for Decoding
     ) -> Result<Handled, NoMemory> {
         let outcome = self.outcome(alloc, header, payload, bytes)?;
         handled(alloc, number, outcome)
-    }
-
-    fn closing(&self, alloc: Global) -> Result<Vec<u8>, NoMemory> {
-        Ok(Vec::new(alloc))
     }
 
     fn last(&self, alloc: Global, blocks: usize, failed: usize) -> Result<Vec<u8>, NoMemory> {

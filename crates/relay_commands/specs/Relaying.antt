@@ -6,7 +6,7 @@ use Rattle.coded_stream.specs.Header.{Header, header_text, word_text}
 use Rattle.coded_stream.specs.Blocks.{Block, transmission_size}
 use Rattle.coded_stream.specs.Text.{end_word}
 use Rattle.coded_stream.specs.declared.kind.Want.{Want}
-use Rattle.report_lines.specs.Lines.{blocks_line}
+use Rattle.run_loop.specs.Lines.{blocks_line}
 use Rattle.stream_loop.specs.Handling.{Handled, Handling}
 
 -- which streams a command takes, its header for theirs, and what it sends in place of each transmission, by the

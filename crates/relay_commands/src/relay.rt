@@ -11,7 +11,7 @@ use coded_stream::{Header, Kind, Want, length_word, transmission_size, write_hea
 use edge_io::{Sink, SinkFault};
 use lte_bits::NoMemory;
 use rate_match::Match;
-use report_lines::blocks_line;
+use run_loop::blocks_line;
 use std::alloc::Global;
 use stream_loop::{Handled, Handler};
 

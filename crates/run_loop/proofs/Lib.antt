@@ -1,5 +1,5 @@
 pub mod Rises
-mod Lines
+mod LineParts
 mod Parts
 mod Endings
 pub mod Complete

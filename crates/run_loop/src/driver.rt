@@ -22,6 +22,7 @@ pub fn drive<O: Open, S: Source, D: Sink, R: Sink>(
     out: &mut D,
     report: &mut R,
 ) -> Status
+    requires { O.able command }
     ensures { Ends (λ input. reading (O.answer command input))
         (edges S.Source D.Sink R.Sink source.old out.old report.old)
         (edges S.Source D.Sink R.Sink source.new out.new report.new) result }

@@ -94,6 +94,9 @@ pub trait Open {
     // Its answer to an input.
     ghost answer: { Self → List ℕ → Answer };
 
+    // Whether it may be opened.
+    ghost able: { Self → Type 0 } = { λ _. Unit {0} };
+
     /// Reads a header, if the command has one, and writes what `out` begins with. It takes no
     /// memory.
     fn open<S: Source, D: Sink>(
@@ -102,6 +105,7 @@ pub trait Open {
         source: &mut S,
         out: &mut D,
     ) -> Result<Self::Rounds, Status>
+        requires { able self }
         ensures opens { (report : Option (List ℕ)) (reports : ℕ) → Opens (answer self) Self.Rounds.answer
             (told (S.left source.old) (D.held out.old) report (S.faults source.old) (D.faults out.old) reports)
             (told (S.left source.new) (D.held out.new) report (S.faults source.new) (D.faults out.new) reports)

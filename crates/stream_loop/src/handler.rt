@@ -29,6 +29,9 @@ pub trait Handler: Drop {
     // What it makes of a stream.
     ghost handling: { Self → Handling };
 
+    // What has to be known of it before it is handed a block.
+    ghost able: { Self → Type 0 } = { λ _. Unit {0} };
+
     /// Which streams it takes.
     fn want(&self) -> Want
         ensures { result ≡ (handling self.now).want };
@@ -48,6 +51,7 @@ pub trait Handler: Drop {
         payload: usize,
         bytes: &[u8],
     ) -> Result<Handled, NoMemory>
+        requires able { able self.now }
         requires wanted { is_wanted (handling self.now).want (kind_code header.now.kind) ≡ true }
         requires few { number < 4096 }
         requires accepted { IsBlock (header_of header.now) (block_of payload bytes.now) }

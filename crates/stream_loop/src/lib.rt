@@ -4,7 +4,9 @@
 
 mod handler;
 mod rounds;
+mod softs;
 mod stream;
 
 pub use handler::{Handled, Handler};
+pub use softs::{push_bytes, softs_of};
 pub use stream::Stream;

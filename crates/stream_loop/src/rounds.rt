@@ -99,6 +99,7 @@ fn going<H: Handler>(
     payload: usize,
     bytes: &[u8],
 ) -> Result<(Round, bool), NoMemory>
+    requires able { H.able handler.now }
     requires wanted { is_wanted (H.handling handler.now).want (kind_code header.now.kind) ≡ true }
     requires few { number < 4096 }
     requires accepted { IsBlock (header_of header.now) (block_of payload bytes.now) }
@@ -126,7 +127,7 @@ impl<H: Handler> Work for StreamRounds<H> {
 
     ghost answer = { λ s input. answer_ahead (H.handling s.handler) s.reader s.failed input };
 
-    ghost ready = { λ s. IsReady (H.handling s.handler) s.reader s.failed };
+    ghost ready = { λ s. H.able s.handler × IsReady (H.handling s.handler) s.reader s.failed };
 
     ghost budget = { λ s. most_blocks - s.reader.blocks };
 

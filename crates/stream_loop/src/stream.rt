@@ -17,9 +17,7 @@ use std::alloc::Global;
 /// ends as the definition of the command's answer says: `BadStream` where the stream is refused,
 /// `SomeFailed` where a block failed, and else `Done`, or by a fault, or for want of memory, which
 /// comes only behind an accepted header.
-pub struct Stream<H: Handler> {
-    pub handler: H,
-}
+pub struct Stream<H: Handler>(pub H);
 
 /// Writes what `out` begins with.
 fn write_opening<D: Sink>(header: Option<Header>, out: &mut D) -> Result<(), SinkFault>
@@ -41,7 +39,9 @@ impl<H: Handler> Open for Stream<H> {
 
     type Rounds = StreamRounds<H>;
 
-    ghost answer = { λ s input. stream_answer (H.handling s.handler) input };
+    ghost answer = { λ s input. stream_answer (H.handling s.0) input };
+
+    ghost able = { λ s. H.able s.0 };
 
     fn open<S: Source, D: Sink>(
         self,
@@ -49,7 +49,7 @@ impl<H: Handler> Open for Stream<H> {
         source: &mut S,
         out: &mut D,
     ) -> Result<StreamRounds<H>, Status> {
-        let Stream { handler } = self;
+        let Stream(handler) = self;
         let reader = match StreamReader::begin(source, handler.want()) {
             Ok(reader) => reader,
             Err(stop) => return Err(status_of(stop)),

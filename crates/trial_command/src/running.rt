@@ -10,7 +10,7 @@ use crate::counts::Counts;
 use crate::trial::Trial;
 use edge_io::{Sink, SinkFault, write_all};
 use lte_bits::NoMemory;
-use report_lines::{end_line, push_number};
+use run_loop::{end_line, push_number};
 use run_loop::{SinkName, Status};
 use soft_channel::payload;
 use std::alloc::Global;

@@ -3,7 +3,7 @@ use Rattle.std.specs.Prelude.{ℕ, ◌+◌, List, [], ◌∷◌, ◌++◌, lengt
 use Rattle.lte_bits.specs.Packing.{packed}
 use Rattle.sender_model.specs.CircularBuffer.{Match}
 use Rattle.sender_model.specs.Codeword.{codeword}
-use Rattle.report_lines.specs.Lines.{line_end}
+use Rattle.run_loop.specs.Lines.{line_end}
 use Rattle.run_loop.specs.Answer.{Part, Answer, finished, behind, refusal, closed}
 
 -- `end bits G`

@@ -6,7 +6,7 @@ use Rattle.rate_match.specs.declared.sends.Sending.{Sending}
 use Rattle.coded_stream.specs.Header.{Header, header_text, word_text}
 use Rattle.coded_stream.specs.declared.kind.Kind.TheVariants.{Hard}
 use Rattle.coded_stream.specs.declared.version.Version.{Version}
-use Rattle.report_lines.specs.Lines.{blocks_line}
+use Rattle.run_loop.specs.Lines.{blocks_line}
 use Rattle.run_loop.specs.Answer.{Part, Answer, finished, behind, opened, refusal, closed}
 
 abbrev pub hard_header : Version → (tb : ℕ) → List Sending → Header

@@ -8,7 +8,7 @@ use Rattle.run_loop.specs.Step.{parts_of}
 use Rattle.run_loop.specs.declared.work.Round.{Round}
 use Rattle.run_loop.specs.declared.work.Stop.{Stop}
 use Rattle.run_loop.specs.declared.work.Stop.TheVariants.{Go, End, Bad, Fault, NoMemory}
-use Rattle.report_lines.specs.Lines.{blocks_line}
+use Rattle.run_loop.specs.Lines.{blocks_line}
 use Rattle.turbo_run.specs.Encode.{block_part}
 
 -- the end behind so many blocks

@@ -7,7 +7,7 @@ use crate::reading::{Reading, read_up_to};
 use edge_io::{Sink, SinkFault, Source, write_all};
 use lte_bits::{List, NoMemory, pack};
 use rate_match::{Match, codeword};
-use report_lines::{end_line, push_number};
+use run_loop::{end_line, push_number};
 use run_loop::{Block, Round, Stop, Work};
 use std::alloc::Global;
 

@@ -9,7 +9,7 @@ use crate::reading::{Reading, read_up_to};
 use coded_stream::{Header, length_word, write_header};
 use edge_io::{ReadStop, Sink, SinkFault, Source, read_exactly};
 use lte_bits::NoMemory;
-use report_lines::blocks_line;
+use run_loop::blocks_line;
 use run_loop::{Round, Stop, Work};
 use std::alloc::Global;
 

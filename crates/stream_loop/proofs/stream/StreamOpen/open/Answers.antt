@@ -14,7 +14,7 @@ use Rattle.stream_loop.proofs.stream.StreamOpen.open.Goals as goal
 
 pub returns-in-Err-clause-opens : goal.returns-in-Err-clause-opens
 returns-in-Err-clause-opens g c report reports =
-    let w = g.H.Handler.handling c.args.self.handler in
+    let w = g.H.Handler.handling c.args.self.0 in
     let old = told (g.S.Source.left c.args.source.now) (g.D.Sink.held c.args.out.now) report (g.S.Source.faults c.args.source.now) (g.D.Sink.faults c.args.out.now) reports in
     let new = told (g.S.Source.left c.begin.new.source) (g.D.Sink.held c.args.out.now) report (g.S.Source.faults c.begin.new.source) (g.D.Sink.faults c.args.out.now) reports in
     let E : (input : List ℕ) → Status → Type 0 = λ input s. Ended (stream_answer w input) old new s in
@@ -27,7 +27,7 @@ returns-in-Err-clause-opens g c report reports =
 
 pub returns-in-Err-write_opening-clause-opens : goal.returns-in-Err-write_opening-clause-opens
 returns-in-Err-write_opening-clause-opens g c report reports =
-    let w = g.H.Handler.handling c.args.self.handler in
+    let w = g.H.Handler.handling c.args.self.0 in
     let old = told (g.S.Source.left c.args.source.now) (g.D.Sink.held c.args.out.now) report (g.S.Source.faults c.args.source.now) (g.D.Sink.faults c.args.out.now) reports in
     let new = told (g.S.Source.left c.begin.new.source) (g.D.Sink.held c.write_opening.new.out) report (g.S.Source.faults c.begin.new.source) (g.D.Sink.faults c.write_opening.new.out) reports in
     let err = c.in-Err-write_opening.ensures.err in
@@ -42,7 +42,7 @@ returns-in-Err-write_opening-clause-opens g c report reports =
 
 pub returns-clause-opens : goal.returns-clause-opens
 returns-clause-opens g c report reports =
-    let w = g.H.Handler.handling c.args.self.handler in
+    let w = g.H.Handler.handling c.args.self.0 in
     let old = told (g.S.Source.left c.args.source.now) (g.D.Sink.held c.args.out.now) report (g.S.Source.faults c.args.source.now) (g.D.Sink.faults c.args.out.now) reports in
     let new = told (g.S.Source.left c.begin.new.source) (g.D.Sink.held c.write_opening.new.out) report (g.S.Source.faults c.begin.new.source) (g.D.Sink.faults c.write_opening.new.out) reports in
     let H : Header → Type 0 = λ h. option_map header_of c.header-2.result ≡ w.header h in

@@ -1,6 +1,6 @@
 //! Lines of a report.
 ghost use Rattle.std.specs.Prelude.{◌≡◌, ◌++◌, IfOk, decimal};
-ghost use Rattle.report_lines.specs.Lines.{blocks_line, line_end};
+ghost use Rattle.run_loop.specs.Lines.{blocks_line, line_end};
 
 use itoa::Buffer;
 use lte_bits::NoMemory;

@@ -1,6 +1,6 @@
 //! Soft values of bytes, and back.
 ghost use Rattle.std.specs.Prelude.{◌≡◌, ◌++◌, IfOk};
-ghost use Rattle.stream_values.specs.SoftBytes.{soft_of, softs_of, byte_of, bytes_of};
+ghost use Rattle.stream_loop.specs.SoftBytes.{soft_of, softs_of, byte_of, bytes_of};
 
 use lte_bits::{List, NoMemory, Soft};
 use std::alloc::Global;
