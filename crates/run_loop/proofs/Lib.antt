@@ -5,3 +5,4 @@ mod Endings
 pub mod Complete
 pub mod Alone
 pub mod Within
+pub mod Opening

@@ -1,6 +1,7 @@
 -- Counts that rose, seen over a longer time.
-use Rattle.std.proofs.Common.{◌≡◌, ℕ, ◌≤◌, Err, inl, inr, refl, arith}
+use Rattle.std.proofs.Common.{◌≡◌, ℕ, ◌≤◌, List, Err, inl, inr, refl, arith}
 use Rattle.std.proofs.lemmas.Bool.{cases_lt}
+use Rattle.std.specs.declared.option.Option.{Option}
 use Rattle.edge_io.specs.Edge.{Rose}
 use Rattle.run_loop.specs.Edges.{Edges, Causes, IsLater}
 use Rattle.run_loop.specs.Puts.{HasSinkCause}
@@ -24,16 +25,16 @@ rose_until before mid now later more (inr last) =
     ]
 
 -- the causes stay causes while the report is written to
-pub causes_until : (before mid : Edges) (now : ℕ) (ending : Status) → before.reports ≤ mid.reports → mid.reports ≤ now →
-    Causes before mid ending → Causes before (record mid { reports = now }) ending
-causes_until before mid now (status.WriteFault Report) later more cause = rose_until before.reports mid.reports now later more cause
-causes_until before mid now (status.WriteFault Out) later more cause = cause
-causes_until before mid now status.Done later more cause = cause
-causes_until before mid now status.SomeFailed later more cause = cause
-causes_until before mid now (status.BadWords number place) later more cause = cause
-causes_until before mid now (status.BadStream number place) later more cause = cause
-causes_until before mid now status.ReadFault later more cause = cause
-causes_until before mid now status.NoMemory later more cause = cause
+pub causes_until : (before mid : Edges) (report : Option (List ℕ)) (now : ℕ) (ending : Status) → before.reports ≤ mid.reports → mid.reports ≤ now →
+    Causes before mid ending → Causes before (record mid { report = report; reports = now }) ending
+causes_until before mid report now (status.WriteFault Report) later more cause = rose_until before.reports mid.reports now later more cause
+causes_until before mid report now (status.WriteFault Out) later more cause = cause
+causes_until before mid report now status.Done later more cause = cause
+causes_until before mid report now status.SomeFailed later more cause = cause
+causes_until before mid report now (status.BadWords number place) later more cause = cause
+causes_until before mid report now (status.BadStream number place) later more cause = cause
+causes_until before mid report now status.ReadFault later more cause = cause
+causes_until before mid report now status.NoMemory later more cause = cause
 
 -- what a round failed by is a cause
 pub causes_failing : (before now : Edges) (mid : ℕ) (ending : Status) → before.reads ≤ mid → FailsBy mid now.reads (Fails ending) → Causes before now ending

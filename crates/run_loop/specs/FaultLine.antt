@@ -1,5 +1,5 @@
 -- The line that tells a fault, written once behind what the command left.
-use Rattle.std.specs.Prelude.{ℕ, List, [], ◌∷◌, take, codes, decimal, flat_map}
+use Rattle.std.specs.Prelude.{◌≡◌, ℕ, List, [], ◌∷◌, take, codes, decimal, flat_map}
 use Rattle.std.specs.declared.option.Option.{Option}
 use Rattle.edge_io.specs.Edge.{Adds, Rose}
 use Rattle.run_loop.specs.Edges.{Edges}
@@ -34,6 +34,8 @@ pub record AddsLine (old new : Option (List ℕ)) (line : List ℕ) (before now 
 
 -- what stands when a run ends: what the command left, and then the fault line
 pub record Finished (reply : Reply) (old new : Edges) (status : Status) : Type 0 where
-  pub left : Option (List ℕ)
-  pub ended : EndsReply reply old (record new { report = left }) status
-  pub line : AddsLine left new.report (fault_line status) old.reports new.reports
+  pub mid : Edges
+  pub ended : EndsReply reply old mid status
+  pub left : new.left ≡ mid.left
+  pub out : new.out ≡ mid.out
+  pub line : AddsLine mid.report new.report (fault_line status) old.reports new.reports

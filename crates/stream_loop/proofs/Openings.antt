@@ -17,6 +17,7 @@ use Rattle.run_loop.specs.Due.{Stopped}
 use Rattle.run_loop.specs.Edges.{Edges, Causes}
 use Rattle.run_loop.specs.Ended.{Ended, Stands}
 use Rattle.run_loop.specs.Step.{Reached}
+use Rattle.run_loop.proofs.Opening.{opened, unwritten}
 use Rattle.run_loop.specs.declared.status.SinkName.TheVariants.{Out}
 use Rattle.run_loop.specs.declared.status.Status.{Status}
 use Rattle.run_loop.specs.declared.status.Status.TheVariants as status
@@ -43,31 +44,21 @@ says_of w want r input rest wanted says begun =
     ∙ ap (λ (n : ℕ). behind P (body_answer w h n 0 (body h (most_blocks - n) r.place rest))) (sym begun.blocks)
 
 -- the header was accepted, and `out` begins as it should
-pub opened : (w : Handling) (want : Want) (r : Reading) (input : List ℕ) (old new : Edges) → want ≡ w.want → Begins (opening want input) old.left new.left (Ok r) → IsBegun want r →
+pub opened_stream : (w : Handling) (want : Want) (r : Reading) (input : List ℕ) (old new : Edges) → want ≡ w.want → Begins (opening want input) old.left new.left (Ok r) → IsBegun want r →
     Adds old.out new.out (opening_text (w.header r.header)) → Adds old.report new.report [] → Reached (stream_answer w input) (answer_ahead w r 0) old new
-opened w want r input old new wanted (bytes, rest, old_is, new_is, size, says) begun wrote none =
-    let T : Option (List ℕ) → Type 0 = λ o. Takes old.left o bytes in
-    record {
-      front = head_of w r.header ∷ [];
-      rest = rest;
-      some = omega arith;
-      left = new_is;
-      stands = record {
-        split = says_of w want r input rest wanted says begun;
-        took = (bytes, subst T (sym new_is) old_is, size ∙ begun.place ∙ omega arith);
-        out = rw (append-nil (opening_text (w.header r.header))) wrote;
-        report = none;
-      };
-    }
+opened_stream w want r input old new wanted (bytes, rest, old_is, new_is, size, says) begun wrote none =
+    let text = opening_text (w.header r.header) in
+    opened (stream_answer w input) (answer_ahead w r 0) text bytes rest old new old_is new_is
+    (says_of w want r input rest wanted says begun ∙ ap (λ (n : ℕ). behind (heading text n ∷ []) (answer_ahead w r 0 rest)) (sym (size ∙ begun.place)))
+    wrote none
 
 -- and where it couldn't be written
-pub unwritten : (w : Handling) (want : Want) (r : Reading) (input : List ℕ) (old new : Edges) (n : ℕ) → want ≡ w.want → Begins (opening want input) old.left new.left (Ok r) → IsBegun want r →
+pub unwritten_stream : (w : Handling) (want : Want) (r : Reading) (input : List ℕ) (old new : Edges) (n : ℕ) → want ≡ w.want → Begins (opening want input) old.left new.left (Ok r) → IsBegun want r →
     0 < length (opening_text (w.header r.header)) → Adds old.out new.out (take n (opening_text (w.header r.header))) → Adds old.report new.report [] →
     Ended (stream_answer w input) old new (status.WriteFault Out)
-unwritten w want r input old new n wanted (bytes, rest, old_is, new_is, size, says) begun some wrote none =
-    let A : Answer → Type 0 = λ a. Ended a old new (status.WriteFault Out) in
-    let after = answer_ahead w r 0 rest in
-    subst A (sym (says_of w want r input rest wanted says begun)) ([], head_of w r.header ∷ after.parts, n, refl, some, wrote, none)
+unwritten_stream w want r input old new n wanted (bytes, rest, old_is, new_is, size, says) begun some wrote none =
+    unwritten (stream_answer w input) (answer_ahead w r 0 rest) (opening_text (w.header r.header)) (length (header_text r.header)) n old new
+    (says_of w want r input rest wanted says begun) some wrote none
 
 -- the header was refused, or the source failed before it was known
 pub unopened : (w : Handling) (want : Want) (input : List ℕ) (old new : Edges) (stop : StreamStop) → want ≡ w.want → Begins (opening want input) old.left new.left (Err stop) →

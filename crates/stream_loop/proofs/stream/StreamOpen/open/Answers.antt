@@ -9,7 +9,7 @@ use Rattle.run_loop.specs.Edges.{Edges, told, Causes}
 use Rattle.run_loop.specs.Ended.{Ended}
 use Rattle.run_loop.specs.declared.status.Status.{Status}
 use Rattle.stream_loop.specs.Handling.{opening_text, stream_answer}
-use Rattle.stream_loop.proofs.Openings.{causes_of, opened, unopened, unwritten}
+use Rattle.stream_loop.proofs.Openings.{causes_of, opened_stream, unopened, unwritten_stream}
 use Rattle.stream_loop.proofs.stream.StreamOpen.open.Goals as goal
 
 pub returns-in-Err-clause-opens : goal.returns-in-Err-clause-opens
@@ -34,7 +34,7 @@ returns-in-Err-write_opening-clause-opens g c report reports =
     let H : Header → Type 0 = λ h. option_map header_of c.header-2.result ≡ w.header h in
     let same = ap opening_text (subst H c.header.ensures c.header-2.ensures) in
     record {
-      opens = λ input is. unwritten w c.want.result c.in-Ok.reader input old new err.0 c.want.ensures (c.in-Ok.ensures.begins input is) c.in-Ok.ensures.accepted
+      opens = λ input is. unwritten_stream w c.want.result c.in-Ok.reader input old new err.0 c.want.ensures (c.in-Ok.ensures.begins input is) c.in-Ok.ensures.accepted
           (subst (λ (t : List ℕ). 0 < length t) same c.in-Err-write_opening.ensures.some) (subst (λ (t : List ℕ). Adds old.out new.out (take err.0 t)) same err.1) (adds_none report);
       causes = c.in-Err-write_opening.ensures.cause.failed;
       later = record { reads = c.begin.ensures.later; outs = c.write_opening.ensures.cause.later; reports = omega arith };
@@ -48,7 +48,7 @@ returns-clause-opens g c report reports =
     let H : Header → Type 0 = λ h. option_map header_of c.header-2.result ≡ w.header h in
     let same = ap opening_text (subst H c.header.ensures c.header-2.ensures) in
     record {
-      opens = λ input is. opened w c.want.result c.in-Ok.reader input old new c.want.ensures (c.in-Ok.ensures.begins input is) c.in-Ok.ensures.accepted (subst (λ (t : List ℕ). Adds old.out new.out t) same c.in_default.ensures.ok) (adds_none report);
+      opens = λ input is. opened_stream w c.want.result c.in-Ok.reader input old new c.want.ensures (c.in-Ok.ensures.begins input is) c.in-Ok.ensures.accepted (subst (λ (t : List ℕ). Adds old.out new.out t) same c.in_default.ensures.ok) (adds_none report);
       causes = tt;
       later = record { reads = c.begin.ensures.later; outs = c.write_opening.ensures.cause.later; reports = omega arith };
     }

@@ -1,34 +1,22 @@
-//! The work of the command `codeword`.
+//! The command `codeword`.
 ghost use Rattle.std.specs.Prelude.{◌≡◌, ◌≤◌, [], IfOk, None, length};
 ghost use Rattle.turbo_run.specs.Codeword.{bits_line, codeword_text};
-ghost use Rattle.turbo_run.specs.Coding.{IsCoded, IsRoundOf};
+ghost use Rattle.turbo_run.specs.CodewordRound.{IsCoded, IsRoundOf};
 
-use crate::reading::{Reading, read_up_to};
-use edge_io::{Sink, SinkFault, Source, write_all};
+use crate::input::{Input, read_up_to};
+use edge_io::{Sink, Source};
 use lte_bits::{List, NoMemory, pack};
-use rate_match::{Match, codeword};
-use run_loop::{end_line, push_number};
-use run_loop::{Block, Round, Stop, Work};
+use rate_match::Match;
+use run_loop::{Open, Part, Round, Status, Stop, Work, end_line, push_number};
 use std::alloc::Global;
 
 /// The codeword of one transport block, over a full buffer: all in one round.
 #[derive(Debug, Drop)]
-pub struct Coding {
-    m: Match,
-    rv: u8,
-    ghost full: { m.limit ≡ None },
-    ghost version: { rv ≤ 3 },
-}
-
-impl Coding {
-    pub fn new(m: Match, rv: u8) -> Self
-        requires full { m.limit ≡ None }
-        requires version { rv ≤ 3 }
-        ensures m { result.m ≡ m }
-        ensures rv { result.rv ≡ rv }
-    {
-        Coding { m, rv }
-    }
+pub struct Codeword {
+    pub m: Match,
+    pub rv: u8,
+    pub ghost full: { m.limit ≡ None },
+    pub ghost version: { rv ≤ 3 },
 }
 
 /// The most bytes of a transport block.
@@ -43,7 +31,7 @@ fn codeword_text(alloc: Global, payload: &[u8], m: &Match, rv: u8) -> Result<Lis
     requires version { rv ≤ 3 }
     ensures { IfOk result (λ text. text ≡ codeword_text m.now rv payload.now) }
 {
-    let bits = codeword(alloc, payload, m, rv)?;
+    let bits = rate_match::codeword(alloc, payload, m, rv)?;
     pack(alloc, bits.as_slice())
 }
 
@@ -63,19 +51,19 @@ fn coded(alloc: Global, payload: &[u8], m: &Match, rv: u8) -> Result<Round, NoMe
     requires few { length payload.now ≤ 18722 }
     requires full { m.now.limit ≡ None }
     requires version { rv ≤ 3 }
-    ensures { IfOk result (λ round. IsCoded m.now rv payload.now round.blocks.items round.stop) }
+    ensures { IfOk result (λ round. IsCoded m.now rv payload.now round.parts.items round.stop) }
 {
     let text = codeword_text(alloc, payload, m, rv)?;
     let last = bits_line(alloc, m)?;
-    let mut blocks = Vec::new(alloc);
-    blocks.push(Block {
+    let mut parts = Vec::new(alloc);
+    parts.push(Part {
         text: text.into_vec(),
         line: Vec::new(alloc),
         size: payload.len(),
         wants: payload.len() + 1,
     })?;
     Ok(Round {
-        blocks,
+        parts,
         stop: Stop::End {
             closing: Vec::new(alloc),
             last,
@@ -86,10 +74,10 @@ fn coded(alloc: Global, payload: &[u8], m: &Match, rv: u8) -> Result<Round, NoMe
 
 /// A transport block whose length is refused at a byte.
 fn bad(alloc: Global, place: u64) -> Round
-    ensures blocks { result.blocks.items ≡ [] }
-    ensures stop { result.stop ≡ Stop.Bad 4 place }
+    ensures parts { result.parts.items ≡ [] }
+    ensures stop { result.stop ≡ Stop.Fails (Status.BadStream 4 place) }
 {
-    Round::stopped(alloc, Stop::Bad { number: 4, place })
+    Round::stopped(alloc, Stop::Fails(Status::BadStream { number: 4, place }))
 }
 
 /// The one round of an input that was read to its end.
@@ -104,30 +92,40 @@ fn of_input(alloc: Global, input: &[u8], m: &Match, rv: u8) -> Round
     }
     match coded(alloc, input, m, rv) {
         Ok(round) => round,
-        Err(NoMemory) => Round::stopped(alloc, Stop::NoMemory),
+        Err(NoMemory) => Round::stopped(alloc, Stop::Fails(Status::NoMemory)),
     }
 }
 
-impl Work for Coding {
-    ghost use Rattle.std.specs.Prelude.{[]};
+impl Open for Codeword {
     ghost use Rattle.turbo_run.specs.Codeword.{codeword_answer};
 
-    ghost opening = { λ _. [] };
+    type Rounds = Codeword;
 
     ghost answer = { λ s input. codeword_answer s.m s.rv input };
 
-    ghost budget = { λ _. 0 };
-
-    fn open<D: Sink>(&self, out: &mut D) -> Result<(), SinkFault> {
-        write_all(out, b"")
+    fn open<S: Source, D: Sink>(
+        self,
+        _alloc: Global,
+        _source: &mut S,
+        _out: &mut D,
+    ) -> Result<Codeword, Status> {
+        Ok(self)
     }
+}
+
+impl Work for Codeword {
+    ghost use Rattle.turbo_run.specs.Codeword.{block_answer};
+
+    ghost answer = { λ s input. block_answer s.m s.rv input };
+
+    ghost budget = { λ _. 0 };
 
     fn round<S: Source>(&mut self, alloc: Global, source: &mut S) -> Round {
         match read_up_to(alloc, source, MOST_BYTES + 1) {
-            Reading::Ended(input) => of_input(alloc, input.as_slice(), &self.m, self.rv),
-            Reading::Whole(_) => bad(alloc, MOST_BYTES as u64),
-            Reading::Fault => Round::stopped(alloc, Stop::Fault),
-            Reading::NoMemory => Round::stopped(alloc, Stop::NoMemory),
+            Input::Ended(input) => of_input(alloc, input.as_slice(), &self.m, self.rv),
+            Input::Whole(_) => bad(alloc, MOST_BYTES as u64),
+            Input::Fault => Round::stopped(alloc, Stop::Fails(Status::ReadFault)),
+            Input::NoMemory => Round::stopped(alloc, Stop::Fails(Status::NoMemory)),
         }
     }
 }

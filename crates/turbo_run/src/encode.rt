@@ -1,44 +1,35 @@
-//! The work of the command `encode`.
+//! The command `encode`.
 ghost use Rattle.std.specs.Prelude.{◌≡◌, ◌≤◌, ◌<◌, ◌+◌, ◌*◌, [], IfOk, length};
 ghost use Rattle.edge_io.specs.Edge.{Rose};
 ghost use Rattle.coded_stream.specs.Shown.{header_of};
-ghost use Rattle.turbo_run.specs.Encoding.{IsBehindAll, IsEnd, IsGoing, IsLast, IsOfBlock, IsShort};
+ghost use Rattle.turbo_run.specs.EncodeRounds.{IsBehindAll, IsEnd, IsGoing, IsLast, IsOfBlock, IsShort};
 
 use crate::blocks::block;
-use crate::reading::{Reading, read_up_to};
+use crate::input::{Input, read_up_to};
 use coded_stream::{Header, length_word, write_header};
 use edge_io::{ReadStop, Sink, SinkFault, Source, read_exactly};
 use lte_bits::NoMemory;
-use run_loop::blocks_line;
-use run_loop::{Round, Stop, Work};
+use run_loop::{Open, Round, SinkName, Status, Stop, Work, blocks_line};
 use std::alloc::Global;
 
 /// The most blocks of a stream.
 const MOST_BLOCKS: u32 = 4096;
 
-/// The blocks of an input, one in each round.
+/// The hard stream of an input's blocks.
 #[derive(Debug, Drop)]
-pub struct Encoding {
+pub struct Encode {
+    pub header: Header,
+}
+
+/// Its rounds, of one block each.
+#[derive(Debug, Drop)]
+pub struct EncodeRounds {
     header: Header,
     /// How many blocks were taken.
     count: u32,
     /// How many more may come.
     more: u32,
     ghost most: { more + count ≡ 4096 },
-}
-
-impl Encoding {
-    pub fn new(header: Header) -> Self
-        ensures header { result.header ≡ header }
-        ensures count { result.count ≡ 0 }
-        ensures more { result.more ≡ 4096 }
-    {
-        Encoding {
-            header,
-            count: 0,
-            more: MOST_BLOCKS,
-        }
-    }
 }
 
 /// The end behind so many blocks.
@@ -66,9 +57,9 @@ fn of_block(
     requires few { length payload.now ≤ header.now.tb }
     ensures { IfOk result (λ round. IsOfBlock (header_of header.now) payload.now wants stop round) }
 {
-    let mut blocks = Vec::new(alloc);
-    blocks.push(block(alloc, payload, header, wants)?)?;
-    Ok(Round { blocks, stop })
+    let mut parts = Vec::new(alloc);
+    parts.push(block(alloc, payload, header, wants)?)?;
+    Ok(Round { parts, stop })
 }
 
 /// The round of a whole block.
@@ -79,7 +70,7 @@ fn going(alloc: Global, header: &Header, payload: &[u8]) -> Round
 {
     match of_block(alloc, header, payload, payload.len(), Stop::Go) {
         Ok(round) => round,
-        Err(NoMemory) => Round::stopped(alloc, Stop::NoMemory),
+        Err(NoMemory) => Round::stopped(alloc, Stop::Fails(Status::NoMemory)),
     }
 }
 
@@ -103,12 +94,12 @@ fn last(alloc: Global, header: &Header, count: u32, payload: &[u8]) -> Round
     if payload.is_empty() {
         return match end(alloc, count) {
             Ok(stop) => Round::stopped(alloc, stop),
-            Err(NoMemory) => Round::stopped(alloc, Stop::NoMemory),
+            Err(NoMemory) => Round::stopped(alloc, Stop::Fails(Status::NoMemory)),
         };
     }
     match short(alloc, header, count, payload) {
         Ok(round) => round,
-        Err(NoMemory) => Round::stopped(alloc, Stop::NoMemory),
+        Err(NoMemory) => Round::stopped(alloc, Stop::Fails(Status::NoMemory)),
     }
 }
 
@@ -117,50 +108,70 @@ fn last(alloc: Global, header: &Header, count: u32, payload: &[u8]) -> Round
 fn behind_all<S: Source>(alloc: Global, header: &Header, source: &mut S) -> Round
     ensures bytes { IsBehindAll (header_of header.now) (S.left source.old) (S.left source.new) result }
     ensures later { S.faults source.old ≤ S.faults source.new }
-    ensures fault { result.stop ≡ Stop.Fault → Rose (S.faults source.old) (S.faults source.new) }
+    ensures fault { result.stop ≡ Stop.Fails Status.ReadFault → Rose (S.faults source.old) (S.faults source.new) }
 {
     match read_exactly(source, &mut [0u8; 1]) {
         Ok(()) => Round::stopped(
             alloc,
-            Stop::Bad {
+            Stop::Fails(Status::BadStream {
                 number: 8,
                 place: 4096 * header.tb as u64,
-            },
+            }),
         ),
         Err(stop) => match stop {
-            ReadStop::Fault => Round::stopped(alloc, Stop::Fault),
+            ReadStop::Fault => Round::stopped(alloc, Stop::Fails(Status::ReadFault)),
             ReadStop::Ended { .. } => last(alloc, header, MOST_BLOCKS, &[]),
         },
     }
 }
 
-impl Work for Encoding {
-    ghost use Rattle.coded_stream.specs.Header.{header_text};
-    ghost use Rattle.turbo_run.specs.Encode.{blocks_answer};
+impl Open for Encode {
+    ghost use Rattle.turbo_run.specs.Encode.{encode_answer};
 
-    ghost opening = { λ s. header_text (header_of s.header) };
+    type Rounds = EncodeRounds;
+
+    ghost answer = { λ s input. encode_answer (header_of s.header) input };
+
+    fn open<S: Source, D: Sink>(
+        self,
+        _alloc: Global,
+        _source: &mut S,
+        out: &mut D,
+    ) -> Result<EncodeRounds, Status> {
+        let Encode { header } = self;
+        if let Err(SinkFault) = write_header(out, &header) {
+            return Err(Status::WriteFault {
+                sink: SinkName::Out,
+            });
+        }
+        Ok(EncodeRounds {
+            header,
+            count: 0,
+            more: MOST_BLOCKS,
+        })
+    }
+}
+
+impl Work for EncodeRounds {
+    ghost use Rattle.turbo_run.specs.Encode.{blocks_answer};
 
     ghost answer = { λ s input. blocks_answer (header_of s.header) s.more s.count input };
 
     ghost budget = { λ s. s.more };
-
-    fn open<D: Sink>(&self, out: &mut D) -> Result<(), SinkFault> {
-        write_header(out, &self.header)
-    }
 
     fn round<S: Source>(&mut self, alloc: Global, source: &mut S) -> Round {
         if self.more == 0 {
             return behind_all(alloc, &self.header, source);
         }
         match read_up_to(alloc, source, self.header.tb) {
-            Reading::Whole(payload) => {
+            Input::Whole(payload) => {
                 self.more -= 1;
                 self.count += 1;
                 going(alloc, &self.header, payload.as_slice())
             }
-            Reading::Ended(payload) => last(alloc, &self.header, self.count, payload.as_slice()),
-            Reading::Fault => Round::stopped(alloc, Stop::Fault),
-            Reading::NoMemory => Round::stopped(alloc, Stop::NoMemory),
+            Input::Ended(payload) => last(alloc, &self.header, self.count, payload.as_slice()),
+            Input::Fault => Round::stopped(alloc, Stop::Fails(Status::ReadFault)),
+            Input::NoMemory => Round::stopped(alloc, Stop::Fails(Status::NoMemory)),
         }
     }
 }
