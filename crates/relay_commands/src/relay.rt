@@ -88,8 +88,7 @@ impl<T: Transmitter> Relay<T> {
             let (own, after) = divided(header.kind, &m, rest);
             rest = after;
             let turn = Turn { block, number };
-            self.0
-                .push(alloc, &mut text, header, turn, &m, own)?;
+            self.0.push(alloc, &mut text, header, turn, &m, own)?;
         }
         Ok(text)
     }

@@ -1,5 +1,5 @@
 -- A round without parts.
-use Rattle.std.proofs.Common.{◌≡◌, ℕ, List, [], refl, sym, ap, subst}
+use Rattle.std.proofs.Common.{◌≡◌, ℕ, List, [], sym, ap, subst}
 use Rattle.std.specs.declared.option.Option.{Option}
 use Rattle.edge_io.proofs.Known.{takes_none}
 use Rattle.run_loop.specs.Answer.{Answer, behind, size_of}

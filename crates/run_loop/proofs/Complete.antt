@@ -1,5 +1,5 @@
 -- Where no count rose, a run ends as its answer says.
-use Rattle.std.proofs.Common.{ℕ, sym, ◌∙◌, ap}
+use Rattle.std.proofs.Common.{◌∙◌, ap}
 use Rattle.run_loop.specs.Answer.{Answer}
 use Rattle.run_loop.specs.Edges.{Edges, Causes, IsQuiet}
 use Rattle.run_loop.specs.Reply.{Reply, reading, unread, EndsReply, ending_of_reply, IsEndingOf}

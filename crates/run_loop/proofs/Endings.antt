@@ -1,9 +1,9 @@
 -- Each way in which a run ends, once a round's parts were written.
-use Rattle.std.proofs.Common.{◌≡◌, ℕ, ◌+◌, ◌<◌, List, [], ◌∷◌, ◌++◌, length, take, Bool, true, false, Some, Ok, Err, refl, ap, sym, subst, ◌∙◌, append_assoc, ◌⊎◌, inl, inr, arith}
+use Rattle.std.proofs.Common.{◌≡◌, ℕ, ◌+◌, ◌<◌, List, [], ◌∷◌, ◌++◌, length, take, Bool, true, false, Some, Ok, Err, ap, sym, subst, ◌∙◌, append_assoc, ◌⊎◌, inl, inr, arith}
 use Rattle.std.proofs.lemmas.List.{append-nil, length-append}
 use Rattle.std.specs.declared.option.Option.{Option}
 use Rattle.std.specs.Global.{Vec}
-use Rattle.edge_io.specs.Edge.{Adds, Takes}
+use Rattle.edge_io.specs.Edge.{Adds}
 use Rattle.edge_io.proofs.Known.{takes_then, adds_then}
 use Rattle.run_loop.specs.Answer.{Part, Answer, behind, texts, lines, size_of}
 use Rattle.run_loop.specs.Due.{Stopped}

@@ -1,5 +1,5 @@
 -- Counts that rose, seen over a longer time.
-use Rattle.std.proofs.Common.{◌≡◌, ℕ, ◌≤◌, List, Err, inl, inr, refl, arith}
+use Rattle.std.proofs.Common.{ℕ, ◌≤◌, List, Err, inl, inr, refl, arith}
 use Rattle.std.proofs.lemmas.Bool.{cases_lt}
 use Rattle.std.specs.declared.option.Option.{Option}
 use Rattle.edge_io.specs.Edge.{Rose}

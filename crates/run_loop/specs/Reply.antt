@@ -1,5 +1,5 @@
 -- What a command answers to an input as a whole, and how it ends then.
-use Rattle.std.specs.Prelude.{◌≡◌, ℕ, ◌≤◌, List, take, Some}
+use Rattle.std.specs.Prelude.{◌≡◌, ℕ, List, take, Some}
 use Rattle.edge_io.specs.Edge.{Adds}
 use Rattle.run_loop.specs.Answer.{Answer, Ending, finished, some_failed, bad}
 use Rattle.run_loop.specs.Edges.{Edges, Causes, IsLater}

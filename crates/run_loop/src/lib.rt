@@ -11,7 +11,7 @@ mod status;
 mod work;
 
 pub use driver::drive;
-pub use fault_line::tell;
+pub use fault_line::write_fault_line;
 pub use lines::{blocks_line, end_line, push_number};
 pub use status::{SinkName, Status};
 pub use work::{Open, Part, Round, Stop, Work};

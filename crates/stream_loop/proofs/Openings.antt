@@ -1,9 +1,8 @@
 -- How a stream begins.
-use Rattle.std.proofs.Common.{◌≡◌, ℕ, ◌-◌, ◌<◌, List, [], ◌∷◌, length, take, Some, None, Ok, Err, refl, ap, sym, subst, ◌∙◌, arith}
-use Rattle.std.proofs.lemmas.List.{append-nil}
+use Rattle.std.proofs.Common.{◌≡◌, ℕ, ◌-◌, ◌<◌, List, [], ◌∷◌, length, take, Ok, Err, refl, ap, sym, subst, ◌∙◌}
 use Rattle.std.specs.declared.option.Option.{Option}
 use Rattle.edge_io.specs.Edge.{Adds, Rose, Takes}
-use Rattle.edge_io.proofs.Known.{takes_none, adds_none}
+use Rattle.edge_io.proofs.Known.{takes_none}
 use Rattle.coded_stream.specs.Header.{Header, header_text}
 use Rattle.coded_stream.specs.Opening.{Opening, opens, refuses, opening}
 use Rattle.coded_stream.specs.Body.{body}
@@ -12,14 +11,13 @@ use Rattle.coded_stream.specs.Steps.{Reading, Begins, IsBegun, opening_due}
 use Rattle.coded_stream.specs.declared.kind.Want.{Want}
 use Rattle.coded_stream.specs.declared.stop.StreamStop.{StreamStop}
 use Rattle.coded_stream.specs.declared.stop.StreamStop.TheVariants as reader
-use Rattle.run_loop.specs.Answer.{Answer, Part, behind, heading, refusal}
+use Rattle.run_loop.specs.Answer.{Part, behind, heading, refusal}
 use Rattle.run_loop.specs.Due.{Stopped}
 use Rattle.run_loop.specs.Edges.{Edges, Causes}
-use Rattle.run_loop.specs.Ended.{Ended, Stands}
+use Rattle.run_loop.specs.Ended.{Ended}
 use Rattle.run_loop.specs.Step.{Reached}
 use Rattle.run_loop.proofs.Opening.{opened, unwritten}
 use Rattle.run_loop.specs.declared.status.SinkName.TheVariants.{Out}
-use Rattle.run_loop.specs.declared.status.Status.{Status}
 use Rattle.run_loop.specs.declared.status.Status.TheVariants as status
 use Rattle.stream_loop.specs.Handling.{Handling, body_answer, opening_answer, opening_text, stream_answer}
 use Rattle.stream_loop.specs.Rounds.{answer_ahead, status_of}

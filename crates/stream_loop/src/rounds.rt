@@ -134,7 +134,13 @@ impl<H: Handler> Work for StreamRounds<H> {
     fn round<S: Source>(&mut self, alloc: Global, source: &mut S) -> Round {
         let number = self.reader.blocks();
         // What the end takes is had before its bytes are read.
-        let Ok(end) = ending(alloc, &self.handler, self.reader.header(), number, self.failed) else {
+        let Ok(end) = ending(
+            alloc,
+            &self.handler,
+            self.reader.header(),
+            number,
+            self.failed,
+        ) else {
             return Round::stopped(alloc, Stop::Fails(Status::NoMemory));
         };
         let payload = match self.reader.next_block(source, &mut self.room) {

@@ -60,8 +60,7 @@ step_of_going h k count input payload old new round is some all took told =
     elim is [
       | inl starved ↦ (
           let P : Answer → Type 0 = λ a. IsWithin a (length payload) in
-          step_alone (blocks_answer h (suc k) count input) (blocks_answer h k (count + 1)) old new round (Fails NoMemory) starved.0 starved.1
-          (
+          step_alone (blocks_answer h (suc k) count input) (blocks_answer h k (count + 1)) old new round (Fails NoMemory) starved.0 starved.1 (
             payload,
             took,
             subst P (sym answer)

@@ -50,12 +50,7 @@ fn block_text(alloc: Global, payload: &[u8], header: &Header) -> Result<Vec<u8>,
 }
 
 /// The block of a payload, which is known whole once so many bytes have come.
-pub fn block(
-    alloc: Global,
-    payload: &[u8],
-    header: &Header,
-    wants: usize,
-) -> Result<Part, NoMemory>
+pub fn block(alloc: Global, payload: &[u8], header: &Header, wants: usize) -> Result<Part, NoMemory>
     requires some { 1 ≤ length payload.now }
     requires few { length payload.now ≤ header.now.tb }
     ensures { IfOk result (λ part. part_of part ≡ block_part (header_of header.now) payload.now wants) }

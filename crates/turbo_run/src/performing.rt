@@ -22,7 +22,12 @@ use trial_command::{Trial, run_trial};
 
 /// Does a command, without the line that tells a fault. Where blocks of a stream are decoded, `receive`
 /// does it.
-pub fn perform<F: Fn(Global, &Task, usize, &Sends, &[Soft]) -> Received, S: Source, D: Sink, R: Sink>(
+pub fn perform<
+    F: Fn(Global, &Task, usize, &Sends, &[Soft]) -> Received,
+    S: Source,
+    D: Sink,
+    R: Sink,
+>(
     alloc: Global,
     command: Command,
     receive: &F,
@@ -106,7 +111,13 @@ pub fn perform<F: Fn(Global, &Task, usize, &Sends, &[Soft]) -> Received, S: Sour
         }
         Command::Points { amp, noise, seed } => {
             let channel = Channel { amp, noise, seed };
-            drive(alloc, Stream(Relay(Points { channel })), source, out, report)
+            drive(
+                alloc,
+                Stream(Relay(Points { channel })),
+                source,
+                out,
+                report,
+            )
         }
     }
 }

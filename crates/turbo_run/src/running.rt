@@ -15,7 +15,7 @@ use decode_command::Received;
 use edge_io::{Sink, Source};
 use lte_bits::Soft;
 use rate_match::Sends;
-use run_loop::{Status, tell};
+use run_loop::{Status, write_fault_line};
 use std::alloc::Global;
 use std::sync::Wait;
 use std::thread::Threads;
@@ -39,7 +39,7 @@ fn run_by<F: Fn(Global, &Task, usize, &Sends, &[Soft]) -> Received, S: Source, D
     match read_words(words) {
         Ok(command) => {
             let status = perform(alloc, command, receive, source, out, report);
-            tell(report, status);
+            write_fault_line(report, status);
             status
         }
         Err(refusal) => {
@@ -47,7 +47,7 @@ fn run_by<F: Fn(Global, &Task, usize, &Sends, &[Soft]) -> Received, S: Source, D
                 number: refusal.number,
                 place: refusal.place,
             };
-            tell(report, status);
+            write_fault_line(report, status);
             status
         }
     }
@@ -65,12 +65,7 @@ pub fn run_alone<S: Source, D: Sink, R: Sink>(
         (edges S.Source D.Sink R.Sink source.old out.old report.old)
         (edges S.Source D.Sink R.Sink source.new out.new report.new) result }
 {
-    let receive = |alloc: Global,
-                   task: &Task,
-                   workers: usize,
-                   sends: &Sends,
-                   softs: &[Soft]|
-     -> Received
+    let receive = |alloc: Global, task: &Task, workers: usize, sends: &Sends, softs: &[Soft]| -> Received
         requires { AreReceived task.now workers sends.now softs.now }
         ensures { IfOk result (λ o. o ≡ outcome (plan_in task.now) (effort_in task.now)
             (receptions sends.now softs.now)) }
@@ -93,12 +88,7 @@ pub fn run_gated<H: Threads + Wait + Sync, S: Source, D: Sink, R: Sink, G: Gate 
         (edges S.Source D.Sink R.Sink source.old out.old report.old)
         (edges S.Source D.Sink R.Sink source.new out.new report.new) result }
 {
-    let receive = |alloc: Global,
-                   task: &Task,
-                   workers: usize,
-                   sends: &Sends,
-                   softs: &[Soft]|
-     -> Received
+    let receive = |alloc: Global, task: &Task, workers: usize, sends: &Sends, softs: &[Soft]| -> Received
         requires { AreReceived task.now workers sends.now softs.now }
         ensures { IfOk result (λ o. o ≡ outcome (plan_in task.now) (effort_in task.now)
             (receptions sends.now softs.now)) }

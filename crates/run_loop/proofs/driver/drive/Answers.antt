@@ -1,13 +1,7 @@
-use Rattle.std.proofs.Common.{◌≡◌, ◌≤◌, ℕ, List, ◌++◌, Some, subst, inl, inr, arith}
-use Rattle.run_loop.specs.Answer.{Answer}
-use Rattle.run_loop.specs.Edges.{edges, Edges, IsLater}
+use Rattle.std.proofs.Common.{◌≡◌, ℕ, List, Some, subst, inl, inr, arith}
+use Rattle.run_loop.specs.Edges.{edges}
 use Rattle.run_loop.specs.Puts.{HasSinkCause}
-use Rattle.run_loop.specs.Reply.{reading, Ends}
-use Rattle.run_loop.specs.Step.{FailsBy, ending_of}
-use Rattle.run_loop.specs.declared.status.Status.{Status}
-use Rattle.run_loop.specs.declared.status.Status.TheVariants as status
-use Rattle.run_loop.specs.declared.status.SinkName.TheVariants.{Out, Report}
-use Rattle.run_loop.specs.declared.work.Stop.{Stop}
+use Rattle.run_loop.specs.Step.{FailsBy}
 use Rattle.run_loop.proofs.Endings.{wrote, went_on, failed, blocked, done, ends_done, unclosed}
 use Rattle.run_loop.proofs.Rises.{causes_failing, causes_writing, later_then}
 use Rattle.run_loop.proofs.driver.drive.Goals.{then-failed, else-failed}

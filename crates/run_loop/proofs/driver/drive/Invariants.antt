@@ -1,4 +1,4 @@
-use Rattle.std.proofs.Common.{◌≡◌, ◌≤◌, ℕ, List, Some}
+use Rattle.std.proofs.Common.{◌≡◌, ℕ, List, Some}
 use Rattle.run_loop.specs.Edges.{edges, IsLater}
 use Rattle.run_loop.specs.Step.{Reached}
 use Rattle.run_loop.proofs.driver.drive.Given as goal

@@ -9,6 +9,6 @@ returns-in-Ok g c =
     let old = edges g.S.Source g.D.Sink g.R.Sink c.args.source.now c.args.out.now c.args.report.now in
     let mid = edges g.S.Source g.D.Sink g.R.Sink done.new.source done.new.out done.new.report in
     record {
-      runs = runs_as _ c.in-Ok.command c.args.source.now done.new.source c.args.out.now done.new.out old mid (g.R.Sink.held c.tell.new.report) (g.R.Sink.faults c.tell.new.report) done.result
-          (sym c.in-Ok.ensures.command) done.ensures.ends done.ensures.alone c.tell.ensures.later c.tell.ensures.told;
+      runs = runs_as _ c.in-Ok.command c.args.source.now done.new.source c.args.out.now done.new.out old mid (g.R.Sink.held c.write_fault_line.new.report) (g.R.Sink.faults c.write_fault_line.new.report) done.result
+          (sym c.in-Ok.ensures.command) done.ensures.ends done.ensures.alone c.write_fault_line.ensures.later c.write_fault_line.ensures.told;
     }

@@ -1,11 +1,10 @@
-use Rattle.std.proofs.Common.{◌≡◌, ℕ, ◌<◌, List, length, take, Err, Some, ap, sym, subst, arith}
+use Rattle.std.proofs.Common.{◌≡◌, ℕ, ◌<◌, List, length, take, Err, ap, sym, subst, arith}
 use Rattle.std.specs.Option.{option_map}
-use Rattle.std.specs.declared.option.Option.{Option}
 use Rattle.edge_io.specs.Edge.{Adds}
 use Rattle.edge_io.proofs.Known.{adds_none}
 use Rattle.coded_stream.specs.Header.{Header}
 use Rattle.coded_stream.specs.Shown.{header_of}
-use Rattle.run_loop.specs.Edges.{Edges, told, Causes}
+use Rattle.run_loop.specs.Edges.{told, Causes}
 use Rattle.run_loop.specs.Ended.{Ended}
 use Rattle.run_loop.specs.declared.status.Status.{Status}
 use Rattle.stream_loop.specs.Handling.{opening_text, stream_answer}

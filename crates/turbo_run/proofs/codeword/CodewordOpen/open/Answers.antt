@@ -1,4 +1,4 @@
-use Rattle.std.proofs.Common.{List, ℕ, [], refl, arith}
+use Rattle.std.proofs.Common.{[], refl, arith}
 use Rattle.edge_io.proofs.Known.{adds_none}
 use Rattle.run_loop.specs.Edges.{told}
 use Rattle.run_loop.proofs.Opening.{opened}

@@ -1,4 +1,4 @@
-use Rattle.run_loop.proofs.fault_line.tell.Goals as goal
+use Rattle.run_loop.proofs.fault_line.write_fault_line.Goals as goal
 
 pub returns-in-BadStream-clause-told : goal.returns-in-BadStream-clause-told
 returns-in-BadStream-clause-told g c = rw c.in-BadStream.is c.write_place-in-BadStream.ensures.told
