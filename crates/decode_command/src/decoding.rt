@@ -1,5 +1,6 @@
 //! What `decode` makes of a block.
 ghost use Rattle.std.specs.Prelude.{◌≡◌, ◌≤◌, ◌<◌, true, IfOk};
+ghost use Rattle.block_receive.specs.Effort.{effort_of};
 ghost use Rattle.coded_stream.specs.Blocks.{IsBlock};
 ghost use Rattle.coded_stream.specs.Shown.{header_of};
 ghost use Rattle.coded_stream.specs.declared.kind.Kind.TheVariants as kind;
@@ -8,7 +9,7 @@ ghost use Rattle.decode_command.specs.Decoding.{decoded, handled};
 ghost use Rattle.decode_command.specs.Receivers.{GivesOutcomes, TakesTransmissions};
 
 use crate::lines::{block_line, last_line};
-use block_receive::Task;
+use block_receive::{Effort, Task};
 use coded_stream::{Header, Want};
 use lte_bits::{NoMemory, Soft};
 use rate_match::Sends;
@@ -20,20 +21,14 @@ use stream_loop::{Handled, Handler, softs_of};
 /// What the reception of a transport block comes to, or that there was no memory.
 pub type Received = Result<TbOutcome, NoMemory>;
 
-/// Who receives transport blocks, by up to how many workers, 1 to 16, and with what effort: in at
-/// most so many windows, 1 to 64, and with at most so many iterations, 1 to 16.
+/// Who receives transport blocks, by up to how many workers, 1 to 16, and with what effort.
 #[derive(Drop)]
 pub struct Decoding<'a, F: Fn(Global, &Task, usize, &Sends, &[Soft]) -> Received> {
     pub receive: &'a F,
     pub workers: usize,
-    pub windows: usize,
-    pub limit: usize,
+    pub effort: Effort,
     pub ghost some_workers: { 1 ≤ workers },
     pub ghost few_workers: { workers ≤ 16 },
-    pub ghost some_windows: { 1 ≤ windows },
-    pub ghost few_windows: { windows ≤ 64 },
-    pub ghost some_iterations: { 1 ≤ limit },
-    pub ghost few_iterations: { limit ≤ 16 },
 }
 
 impl<'a, F: Fn(Global, &Task, usize, &Sends, &[Soft]) -> Received> Decoding<'a, F> {
@@ -49,15 +44,12 @@ impl<'a, F: Fn(Global, &Task, usize, &Sends, &[Soft]) -> Received> Decoding<'a, 
         requires gives { GivesOutcomes (F.post self.now.receive.now) }
         requires soft { header.now.kind ≡ kind.Soft }
         requires accepted { IsBlock (header_of header.now) (block_of payload bytes.now) }
-        ensures { IfOk result (λ o. o ≡ decoded (record {
-          windows = self.now.windows;
-          limit = self.now.limit;
-        }) (header_of header.now) (block_of payload bytes.now)) }
+        ensures { IfOk result (λ o. o ≡ decoded (effort_of self.now.effort)
+            (header_of header.now) (block_of payload bytes.now)) }
     {
         let task = Task {
             plan: plan(payload).unwrap(),
-            windows: self.windows,
-            limit: self.limit,
+            effort: self.effort,
         };
         let softs = softs_of(alloc, bytes)?;
         let (workers, sends) = (self.workers, &header.sends);
@@ -85,11 +77,12 @@ fn handled(alloc: Global, number: usize, outcome: TbOutcome) -> Result<Handled, 
 }
 
 impl<'a, F: Fn(Global, &Task, usize, &Sends, &[Soft]) -> Received> Handler for Decoding<'a, F> {
+    ghost use Rattle.block_receive.specs.Effort.{effort_of};
     ghost use Rattle.decode_command.specs.Decoding.{decoding};
 
     ghost able = { λ s. TakesTransmissions (F.pre s.receive.now) × GivesOutcomes (F.post s.receive.now) };
 
-    ghost handling = { λ s. decoding (record { windows = s.windows; limit = s.limit }) };
+    ghost handling = { λ s. decoding (effort_of s.effort) };
 
     fn want(&self) -> Want {
         Want::Soft

@@ -11,7 +11,7 @@ use Rattle.run_loop.specs.Edges.{Edges, IsLater}
 use Rattle.run_loop.specs.Ended.{Ended, IsWhole, Stands}
 use Rattle.run_loop.specs.Puts.{Puts, PutsEach}
 use Rattle.run_loop.specs.Reply.{reading, Ends}
-use Rattle.run_loop.specs.Step.{Reached, Steps, Stops, ending_of, parts_of}
+use Rattle.run_loop.specs.Step.{Reached, Steps, Stops, done, ending_of, parts_of}
 use Rattle.run_loop.specs.declared.work.Part as rust
 use Rattle.run_loop.specs.declared.work.Round.{Round}
 use Rattle.run_loop.specs.declared.work.Stop.{Stop}
@@ -95,11 +95,11 @@ closed_whole whole b front mid old between new closing last w none is_closing is
     subst P (sym w.split) (all.0, all.1, at_end)
 
 -- how it ends then
-pub done : (whole b : Answer) (after : List ℕ → Answer) (front : List Part) (mid : Option (List ℕ)) (old between new : Edges) (stop : Stop) (closing last : Vec ℕ) (fails : Bool) (text line : List ℕ) →
+pub closed_done : (whole b : Answer) (after : List ℕ → Answer) (front : List Part) (mid : Option (List ℕ)) (old between new : Edges) (stop : Stop) (closing last : Vec ℕ) (fails : Bool) (text line : List ℕ) →
     Stands whole front b mid old between → stop ≡ End closing last fails → Stops b after mid new.left stop → text ≡ closing.items → line ≡ last.items →
     Puts {T = Unit {0}} between.out new.out between.report new.report text line (Ok tt) →
     (whole.ending ≡ ending_of fails) × IsWhole whole old new
-done whole b after front mid old between new stop closing last fails text line w is at closes ends put =
+closed_done whole b after front mid old between new stop closing last fails text line w is at closes ends put =
     let end : Stops b after mid new.left (End closing last fails) = subst (λ (k : Stop). Stops b after mid new.left k) is at in (
       ap (λ (a : Answer). a.ending) w.split ∙ end.4,
       closed_whole whole b front mid old between new text line w end.1 (end.2 ∙ sym closes) (end.3 ∙ sym ends) end.0 put,
@@ -186,12 +186,8 @@ blocked whole answer after old mid new round shown sink r s is put =
     (subst (λ (ps : List rust.Part). PutsEach {T = Unit {0}} mid.out new.out mid.report new.report (parts_of ps) (Err sink)) is put)
 
 -- the status of a command that was done
-pub ends_done : (answer : List ℕ → Answer) (old new : Edges) (fails : Bool) (ending : Status) → IsLater old new →
+pub ends_done : (answer : List ℕ → Answer) (old new : Edges) (fails : Bool) → IsLater old new →
     ((input : List ℕ) → old.left ≡ Some input → ((answer input).ending ≡ ending_of fails) × IsWhole (answer input) old new) →
-    ((fails ≡ true) × (ending ≡ status.SomeFailed)) ⊎ ((fails ≡ false) × (ending ≡ status.Done)) → Ends (λ input. reading (answer input)) old new ending
-ends_done answer old new fails ending later is_done (inl (some, is)) =
-    subst (λ (k : Status). Ends (λ input. reading (answer input)) old new k) (sym is)
-    (record { ended = λ input told. let d = is_done input told in (d.0 ∙ ap ending_of some, d.1); causes = tt; later = later })
-ends_done answer old new fails ending later is_done (inr (none, is)) =
-    subst (λ (k : Status). Ends (λ input. reading (answer input)) old new k) (sym is)
-    (record { ended = λ input told. let d = is_done input told in (d.0 ∙ ap ending_of none, d.1); causes = tt; later = later })
+    Ends (λ input. reading (answer input)) old new (done fails)
+ends_done answer old new true later is = record { ended = is; causes = tt; later = later }
+ends_done answer old new false later is = record { ended = is; causes = tt; later = later }

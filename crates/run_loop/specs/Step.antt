@@ -9,7 +9,7 @@ use Rattle.run_loop.specs.Due.{Stopped, TakesSome}
 use Rattle.run_loop.specs.Edges.{Edges, Causes, IsLater}
 use Rattle.run_loop.specs.Ended.{Ended, Stands}
 use Rattle.run_loop.specs.declared.status.Status.{Status}
-use Rattle.run_loop.specs.declared.status.Status.TheVariants.{BadStream, ReadFault, NoMemory}
+use Rattle.run_loop.specs.declared.status.Status.TheVariants.{Done, SomeFailed, BadStream, ReadFault, NoMemory}
 use Rattle.run_loop.specs.declared.work.Part.{Part}
 use Rattle.run_loop.specs.declared.work.Round.{Round}
 use Rattle.run_loop.specs.declared.work.Stop.{Stop}
@@ -49,6 +49,11 @@ parts_of parts = map part_of parts
 abbrev pub ending_of : (failed : Bool) → Ending
 ending_of false = finished
 ending_of true = some_failed
+
+-- and how its run ends
+abbrev pub done : (failed : Bool) → Status
+done false = Done
+done true = SomeFailed
 
 -- How a round stops behind its parts, where `b` is still to come then: `mid` is what was left behind their
 -- input, and `new` what is left now.

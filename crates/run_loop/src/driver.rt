@@ -1,11 +1,24 @@
 //! The loop over a command's work.
+ghost use Rattle.std.specs.Prelude.{◌≡◌};
 ghost use Rattle.run_loop.specs.Edges.{edges};
 ghost use Rattle.run_loop.specs.Reply.{reading, Ends};
+ghost use Rattle.run_loop.specs.Step.{done};
 
 use crate::putting::{put, put_all};
 use crate::{Open, Round, Status, Stop, Work};
 use edge_io::{Sink, Source};
 use std::alloc::Global;
+
+/// How a run ends that was done.
+fn done(failed: bool) -> Status
+    ensures { result ≡ done failed }
+{
+    if failed {
+        Status::SomeFailed
+    } else {
+        Status::Done
+    }
+}
 
 /// Opens a command, and then does its work round by round: the parts of each are written before the
 /// next is begun, for each its text to `out` and then its line to the report. Behind the last part
@@ -46,11 +59,7 @@ pub fn drive<O: Open, S: Source, D: Sink, R: Sink>(
                 if let Err(sink) = put(out, report, closing.as_slice(), last.as_slice()) {
                     return Status::WriteFault { sink };
                 }
-                return if failed {
-                    Status::SomeFailed
-                } else {
-                    Status::Done
-                };
+                return done(failed);
             }
             Stop::Fails(status) => return status,
         }

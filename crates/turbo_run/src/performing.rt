@@ -7,7 +7,7 @@ ghost use Rattle.decode_command.specs.Receivers.{GivesOutcomes, TakesTransmissio
 
 use crate::codeword::Codeword;
 use crate::encode::Encode;
-use block_receive::Task;
+use block_receive::{Effort, Task};
 use coded_stream::{Header, Kind};
 use command_words::Command;
 use decode_command::{Decoding, Received};
@@ -63,8 +63,7 @@ pub fn perform<
             let decoding = Decoding {
                 receive,
                 workers,
-                windows,
-                limit,
+                effort: Effort { windows, limit },
             };
             drive(alloc, Stream(decoding), source, out, report)
         }
@@ -90,8 +89,7 @@ pub fn perform<
                 sends,
                 amp,
                 noise,
-                windows,
-                limit,
+                effort: Effort { windows, limit },
             };
             run_trial(alloc, &trial, report)
         }

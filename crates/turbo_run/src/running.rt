@@ -9,7 +9,7 @@ ghost use Rattle.command_words.specs.Texts.{texts_of};
 ghost use Rattle.decode_command.specs.Receivers.{AreReceived, GivesOutcomes, TakesTransmissions};
 
 use crate::performing::perform;
-use block_receive::{Task, receive_alone, receive_shared};
+use block_receive::{Effort, Task, receive_alone, receive_shared};
 use command_words::read_words;
 use decode_command::Received;
 use edge_io::{Sink, Source};
@@ -69,7 +69,16 @@ pub fn run_alone<S: Source, D: Sink, R: Sink>(
         requires { AreReceived task.now workers sends.now softs.now }
         ensures { IfOk result (λ o. o ≡ outcome (plan_in task.now) (effort_in task.now)
             (receptions sends.now softs.now)) }
-    { receive_alone(alloc, &task.plan, sends, task.windows, task.limit, softs) };
+    {
+        receive_alone(
+            alloc,
+            &task.plan,
+            sends,
+            task.effort.windows,
+            task.effort.limit,
+            softs,
+        )
+    };
     run_by(alloc, words, &receive, source, out, report)
 }
 
@@ -93,11 +102,8 @@ pub fn run_gated<H: Threads + Wait + Sync, S: Source, D: Sink, R: Sink, G: Gate 
         ensures { IfOk result (λ o. o ≡ outcome (plan_in task.now) (effort_in task.now)
             (receptions sends.now softs.now)) }
     {
-        let Task {
-            plan,
-            windows,
-            limit,
-        } = *task;
+        let Task { plan, effort } = *task;
+        let Effort { windows, limit } = effort;
         if workers == 1 {
             return receive_alone(alloc, &plan, sends, windows, limit, softs);
         }

@@ -1,10 +1,10 @@
-use Rattle.std.proofs.Common.{◌≡◌, ℕ, List, Some, subst, inl, inr, arith}
+use Rattle.std.proofs.Common.{◌≡◌, ℕ, List, Some, subst, sym, arith}
 use Rattle.run_loop.specs.Edges.{edges}
 use Rattle.run_loop.specs.Puts.{HasSinkCause}
+use Rattle.run_loop.specs.Reply.{reading, Ends}
 use Rattle.run_loop.specs.Step.{FailsBy}
-use Rattle.run_loop.proofs.Endings.{wrote, went_on, failed, blocked, done, ends_done, unclosed}
+use Rattle.run_loop.proofs.Endings.{wrote, went_on, failed, blocked, closed_done, ends_done, unclosed}
 use Rattle.run_loop.proofs.Rises.{causes_failing, causes_writing, later_then}
-use Rattle.run_loop.proofs.driver.drive.Goals.{then-failed, else-failed}
 use Rattle.run_loop.proofs.driver.drive.Goals as goal
 
 pub returns-in-Err : goal.returns-in-Err
@@ -68,14 +68,14 @@ returns-in-End g c =
     let new = edges g.S.Source g.D.Sink g.R.Sink c.round-parts.new.source c.put.new.out c.put.new.report in
     let later = later_then old mid between was.later c.round-parts.ensures.later c.put_all.ensures.cause.out_later c.put_all.ensures.cause.report_later in
     let end = c.in-End in
-    let is_done = λ (input : List ℕ) (is : old.left ≡ Some input).
+    subst (Ends (λ input. reading (whole input)) old new) (sym c.done.ensures)
+    (ends_done whole old new end.failed (later_then old between new later (omega arith) c.put.ensures.cause.out_later c.put.ensures.cause.report_later)
+    (λ input is.
     let r = was.reached input is in
     let step = c.round-parts.ensures.step r.rest r.left in
     let w = wrote (whole input) answer after old mid between c.round-parts.result c.as_slice.result.now r step c.as_slice.ensures.value c.in_default.ensures.bytes in
-    done (whole input) step.0 after _ step.1 old between new c.round-parts.result.stop end.closing end.last end.failed c.as_slice-in-End.result.now c.as_slice-in-End-2.result.now
-    w end.is step.4 c.as_slice-in-End.ensures.value c.as_slice-in-End-2.ensures.value c.in_default-put.ensures.bytes in
-    ends_done (g.O.Open.answer c.args.command) old new end.failed c.if-failed.result (later_then old between new later (omega arith) c.put.ensures.cause.out_later c.put.ensures.cause.report_later)
-    is_done (elim c.if-failed.branch [ then-failed w ↦ inl (w.if-failed.true, w.result-is) | else-failed w ↦ inr (w.if-failed.false, w.result-is) ])
+    closed_done (whole input) step.0 after _ step.1 old between new c.round-parts.result.stop end.closing end.last end.failed c.as_slice-in-End.result.now c.as_slice-in-End-2.result.now
+    w end.is step.4 c.as_slice-in-End.ensures.value c.as_slice-in-End-2.ensures.value c.in_default-put.ensures.bytes))
 
 pub returns-in-Fails : goal.returns-in-Fails
 returns-in-Fails g c =
