@@ -12,5 +12,5 @@ mod tries;
 pub use receiver_model::TbOutcome;
 pub use receiving::{receive, receive_alone};
 pub use shared::receive_shared;
-pub use task::Task;
+pub use task::{Effort, Task};
 pub use tries::Decoded;

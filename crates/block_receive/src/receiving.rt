@@ -12,7 +12,7 @@ ghost use Rattle.block_receive.specs.Receptions.{receptions, value_count};
 
 use crate::alone::decode_alone;
 use crate::joining::join;
-use crate::task::Task;
+use crate::task::{Effort, Task};
 use crate::tries::{Decoded, all_passed, none_held, total_iterations, try_blocks};
 use lte_bits::{NoMemory, Soft, SoftStreams};
 use rate_match::Sends;
@@ -92,8 +92,7 @@ pub fn receive_alone(
 {
     let task = Task {
         plan: *plan,
-        windows,
-        limit,
+        effort: Effort { windows, limit },
     };
     let decode = |alloc: Global, streams: &SoftStreams, shape: &Shape| -> Decoded
         requires { AreStreams streams.now shape.now }
