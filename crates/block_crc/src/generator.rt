@@ -1,33 +1,40 @@
-//! Division by a generator, bit by bit.
+//! Division by a generator, byte by byte.
 ghost use Rattle.std.specs.Prelude.{◌≡◌, ◌%◌, ◌^◌, ◌<◌, ◌↔◌, IsTrue, length};
 ghost use Rattle.lte_bits.specs.Bits.{digit, number};
 ghost use Rattle.sender_model.specs.CheckBits.{IsCrc, IsMonic, IsMultiple, crc, reduced, remainder};
+ghost use Rattle.block_crc.specs.Table.{is_table};
 
+use crate::tables::{REMAINDERS_A, REMAINDERS_B};
 use lte_bits::Bit;
 
 /// A polynomial of degree 24, as the number whose binary digits are its coefficients.
 #[derive(Clone, Copy)]
 pub struct Generator {
     pub coefficients: u32,
+    /// What each byte leaves where it stands above the 24 lowest digits.
+    remainders: [u32; 256],
     ghost monic: { IsMonic coefficients },
+    ghost table: { IsTrue (is_table coefficients remainders) },
 }
 
 impl Generator {
     /// D^24+D^23+D^18+D^17+D^14+D^11+D^10+D^7+D^6+D^5+D^4+D^3+D+1
     pub const A: Generator = Generator {
         coefficients: 0x186_4CFB,
+        remainders: REMAINDERS_A,
     };
 
     /// D^24+D^23+D^6+D^5+D+1
     pub const B: Generator = Generator {
         coefficients: 0x180_0063,
+        remainders: REMAINDERS_B,
     };
 
     /// A polynomial of degree 24 at most, modulo the generator.
     #[tactic(auto, using(sender_model::proofs::Division::falls))]
-    fn reduced(self, t: u32) -> u32
+    fn reduced(&self, t: u32) -> u32
         requires { t < 2 ^ 25 }
-        ensures value { result ≡ reduced self.coefficients t }
+        ensures value { result ≡ reduced self.now.coefficients t }
         ensures small { result < 2 ^ 24 }
     {
         if t < 1 << 24 {
@@ -38,9 +45,9 @@ impl Generator {
     }
 
     /// `start`, followed by the bits, modulo the generator.
-    fn remainder(self, start: u32, bits: &[Bit]) -> u32
+    fn remainder_by_bits(&self, start: u32, bits: &[Bit]) -> u32
         requires { start < 2 ^ 24 }
-        ensures value { result ≡ remainder self.coefficients start bits.now }
+        ensures value { result ≡ remainder self.now.coefficients start bits.now }
         ensures small { result < 2 ^ 24 }
     {
         let mut rest = start;
@@ -50,21 +57,61 @@ impl Generator {
         rest
     }
 
+    /// `start`, followed by eight bits, modulo the generator.
+    fn remainder_of_byte(&self, start: u32, byte: &[Bit; 8]) -> u32
+        requires { start < 2 ^ 24 }
+        ensures value { result ≡ remainder self.now.coefficients start byte.now }
+        ensures small { result < 2 ^ 24 }
+    {
+        let top = (start >> 16) as usize;
+        self.remainders[top] ^ (start % (1 << 16) * 256 + number(byte))
+    }
+
+    /// `start`, followed by the bits, modulo the generator.
+    fn remainder(&self, start: u32, bits: &[Bit]) -> u32
+        requires { start < 2 ^ 24 }
+        ensures value { result ≡ remainder self.now.coefficients start bits.now }
+        ensures small { result < 2 ^ 24 }
+    {
+        let (bytes, last) = bits.as_chunks::<8>();
+        let mut rest = start;
+        for byte in bytes {
+            rest = self.remainder_of_byte(rest, byte);
+        }
+        self.remainder_by_bits(rest, last)
+    }
+
     /// The check bits.
-    pub fn check_bits(self, bits: &[Bit]) -> [Bit; 24]
-        ensures is_crc { IsCrc self.coefficients bits.now result }
-        ensures value { result ≡ crc self.coefficients bits.now }
+    pub fn check_bits(&self, bits: &[Bit]) -> [Bit; 24]
+        ensures is_crc { IsCrc self.now.coefficients bits.now result }
+        ensures value { result ≡ crc self.now.coefficients bits.now }
         ensures width { length result ≡ 24 }
     {
         digits(self.remainder(self.remainder(0, bits), &[Bit::Zero; 24]))
     }
 
     /// Whether the bits are a multiple.
-    pub fn divides(self, bits: &[Bit]) -> bool
-        ensures { IsTrue result ↔ IsMultiple self.coefficients bits.now }
+    pub fn divides(&self, bits: &[Bit]) -> bool
+        ensures { IsTrue result ↔ IsMultiple self.now.coefficients bits.now }
     {
         self.remainder(0, bits) == 0
     }
+}
+
+/// The number with eight digits, the highest first.
+fn number(byte: &[Bit; 8]) -> u32
+    ensures value { result ≡ number byte.now }
+    ensures small { result < 256 }
+{
+    let [b7, b6, b5, b4, b3, b2, b1, b0] = *byte;
+    128 * u32::from(b7)
+        + 64 * u32::from(b6)
+        + 32 * u32::from(b5)
+        + 16 * u32::from(b4)
+        + 8 * u32::from(b3)
+        + 4 * u32::from(b2)
+        + 2 * u32::from(b1)
+        + u32::from(b0)
 }
 
 /// The lowest digit of a number.

@@ -5,6 +5,7 @@ ghost use Rattle.std.specs.Prelude.{◌≡◌, ◌↔◌, IsTrue, length};
 ghost use Rattle.sender_model.specs.CheckBits.{IsCrc, IsMultiple, crc, crc24a, crc24b};
 
 mod generator;
+mod tables;
 
 use generator::Generator;
 use lte_bits::Bit;

@@ -30,28 +30,28 @@ pub windows-are : (k m d : ℕ) → Contains sizes k → 1 ≤ m → IsCount k m
 windows-are k m d size some h = count-is k m d (some-windows k m d size some h) h.divides h.wide h.within h.greatest
 
 pub lawful : (task : Task) (r k f d : ℕ) (kind : CheckKind) → r < task.plan.c → k ≡ size (plan_in task) r → f ≡ fill (plan_in task) r
-    → IsCount k task.windows d → IsShape (shape_of k f kind d task.limit)
+    → IsCount k task.effort.windows d → IsShape (shape_of k f kind d task.effort.limit)
 lawful task r k f d kind below size_is fill_is h =
     let block = block_in task r below in
     let inside : Contains sizes k = subst (λ (n : ℕ). Contains sizes n) (sym size_is) block.inside in
     record {
       size = inside;
       filled = omega (arith, size_is, fill_is, block.fills);
-      some_windows = some-windows k task.windows d inside task.some_windows h;
-      few_windows = omega (arith, h.within, task.few_windows);
+      some_windows = some-windows k task.effort.windows d inside task.effort.some_windows h;
+      few_windows = omega (arith, h.within, task.effort.few_windows);
       divided = h.divides;
       wide = h.wide;
-      some_iterations = task.some_iterations;
-      few_iterations = task.few_iterations;
+      some_iterations = task.effort.some_iterations;
+      few_iterations = task.effort.few_iterations;
     }
 
 pub shape-is : (task : Task) (r k f c d : ℕ) → r < task.plan.c → k ≡ size (plan_in task) r → f ≡ fill (plan_in task) r → c ≡ (plan_in task).c
-    → IsCount k task.windows d → shape_of k f (check_kind c) d task.limit ≡ block_shape (plan_in task) (effort_in task) r
+    → IsCount k task.effort.windows d → shape_of k f (check_kind c) d task.effort.limit ≡ block_shape (plan_in task) (effort_in task) r
 shape-is task r k f c d below size_is fill_is count_is h =
     let p : Plan = plan_in task in
     let block = block_in task r below in
     let inside : Contains sizes k = subst (λ (n : ℕ). Contains sizes n) (sym size_is) block.inside in
-    ap (λ (n : ℕ). shape_of k f (check_kind c) n task.limit) (sym (windows-are k task.windows d inside task.some_windows h))
-    ∙ ap (λ (n : ℕ). shape_of n f (check_kind c) (window_count n task.windows) task.limit) size_is
-    ∙ ap (λ (n : ℕ). shape_of (size p r) n (check_kind c) (window_count (size p r) task.windows) task.limit) fill_is
-    ∙ ap (λ (n : ℕ). shape_of (size p r) (fill p r) (check_kind n) (window_count (size p r) task.windows) task.limit) count_is
+    ap (λ (n : ℕ). shape_of k f (check_kind c) n task.effort.limit) (sym (windows-are k task.effort.windows d inside task.effort.some_windows h))
+    ∙ ap (λ (n : ℕ). shape_of n f (check_kind c) (window_count n task.effort.windows) task.effort.limit) size_is
+    ∙ ap (λ (n : ℕ). shape_of (size p r) n (check_kind c) (window_count (size p r) task.effort.windows) task.effort.limit) fill_is
+    ∙ ap (λ (n : ℕ). shape_of (size p r) (fill p r) (check_kind n) (window_count (size p r) task.effort.windows) task.effort.limit) count_is

@@ -26,8 +26,8 @@ use Rattle.block_receive.proofs.LawfulShapes.{block_in}
 pub lawful-in : (task : Task) → AreLawful (plan_in task) (effort_in task)
 lawful-in task = record {
   fills = λ r below. (let p = task.plan in let block = block_in task r (omega (arith, below, p.block_count)) in block.fills);
-  some = task.some_iterations;
-  few = task.few_iterations;
+  some = task.effort.some_iterations;
+  few = task.effort.few_iterations;
 }
 
 -- the results hold what is held after the last try

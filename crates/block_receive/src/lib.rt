@@ -1,6 +1,7 @@
 //! The reception of a transport block: its transmissions, one after the other, and what they came to.
 #![tactic(auto)]
 
+mod alone;
 mod joining;
 mod receiving;
 mod shapes;
@@ -11,5 +12,5 @@ mod tries;
 pub use receiver_model::TbOutcome;
 pub use receiving::{receive, receive_alone};
 pub use shared::receive_shared;
-pub use task::Task;
+pub use task::{Effort, Task};
 pub use tries::Decoded;

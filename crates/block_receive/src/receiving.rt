@@ -10,14 +10,14 @@ ghost use Rattle.block_receive.specs.Decoders.{GivesResults, TakesBlocks};
 ghost use Rattle.block_receive.specs.Effort.{plan_in, effort_in};
 ghost use Rattle.block_receive.specs.Receptions.{receptions, value_count};
 
+use crate::alone::decode_alone;
 use crate::joining::join;
-use crate::task::Task;
+use crate::task::{Effort, Task};
 use crate::tries::{Decoded, all_passed, none_held, total_iterations, try_blocks};
 use lte_bits::{NoMemory, Soft, SoftStreams};
 use rate_match::Sends;
 use receiver_model::TbOutcome;
 use segmentation::plans::Plan;
-use serial_decode::decode_block;
 use soft_buffers::HarqBuffers;
 use std::alloc::Global;
 use window_decode::Shape;
@@ -70,7 +70,8 @@ pub fn receive<F: Fn(Global, &SoftStreams, &Shape) -> Decoded>(
 }
 
 /// What the transmissions of a transport block come to, decoded on one thread. A code block is decoded in
-/// at most `windows` windows, 1 to 64, and with at most `limit` iterations, 1 to 16. The buffer of `sends`
+/// at most `windows` windows, 1 to 64, and with at most `limit` iterations, 1 to 16; 8, 16 or 32 windows run in
+/// lock step. The buffer of `sends`
 /// fits the plan, and `softs` has the G values of each transmission, one transmission after the other.
 pub fn receive_alone(
     alloc: Global,
@@ -91,12 +92,11 @@ pub fn receive_alone(
 {
     let task = Task {
         plan: *plan,
-        windows,
-        limit,
+        effort: Effort { windows, limit },
     };
     let decode = |alloc: Global, streams: &SoftStreams, shape: &Shape| -> Decoded
         requires { AreStreams streams.now shape.now }
         ensures { IfOk result (λ r. r ≡ code_result streams.now shape.now) }
-    { decode_block(alloc, streams, shape) };
+    { decode_alone(alloc, streams, shape) };
     receive(alloc, &decode, &task, sends, softs)
 }

@@ -22,6 +22,6 @@ pub fn block_shape(task: &Task, r: usize) -> Shape
 {
     let k = size(&task.plan, r);
     let kind = check_kind(task.plan.c);
-    let windows = win(k, task.windows);
-    Shape::new(k, fill(&task.plan, r), kind, windows, task.limit).unwrap()
+    let windows = win(k, task.effort.windows);
+    Shape::new(k, fill(&task.plan, r), kind, windows, task.effort.limit).unwrap()
 }

@@ -9,7 +9,7 @@ ghost use Rattle.serial_decode.specs.Views.{AreStreams};
 ghost use Rattle.block_receive.specs.Receptions.{receptions, value_count};
 
 use crate::receiving::receive;
-use crate::task::Task;
+use crate::task::{Effort, Task};
 use crate::tries::Decoded;
 use lte_bits::{NoMemory, Soft, SoftStreams};
 use rate_match::Sends;
@@ -50,8 +50,7 @@ pub fn receive_shared<R: Threads + Wait + Sync, G: Gate + Sync>(
 {
     let task = Task {
         plan: *plan,
-        windows,
-        limit,
+        effort: Effort { windows, limit },
     };
     let decode = |alloc: Global, streams: &SoftStreams, shape: &Shape| -> Decoded
         requires { AreStreams streams.now shape.now × (1 ≤ workers) × (workers ≤ 16) }

@@ -7,7 +7,7 @@ use Rattle.rate_match.specs.declared.sends.Sending.{Sending}
 use Rattle.coded_stream.specs.Blocks.{AreTransmissions}
 use Rattle.coded_stream.specs.declared.kind.Kind.{Kind}
 use Rattle.coded_stream.specs.declared.kind.Kind.TheVariants.{Soft}
-use Rattle.stream_values.specs.SoftBytes.{softs_of, soft_of}
+use Rattle.stream_loop.specs.SoftBytes.{softs_of, soft_of}
 
 -- as many bytes as the transmissions have values
 bytes_counted : (sends : List Sending) (bytes : List ℕ) → AreTransmissions Soft (map (λ s. s.m.g) sends) bytes → length bytes ≡ value_count sends

@@ -1,5 +1,5 @@
 -- What `decode` makes of a stream of soft values.
-use Rattle.std.specs.Prelude.{ℕ, ◌-◌, true, false, List, [], ◌++◌, length, codes, decimal}
+use Rattle.std.specs.Prelude.{ℕ, ◌-◌, true, false, None, List, [], ◌++◌, length, codes, decimal}
 use Rattle.sender_model.specs.Segmentation.{plan_of}
 use Rattle.receiver_model.specs.SoftCells.{Reception}
 use Rattle.receiver_model.specs.TransportBlocks.{Effort, outcome}
@@ -9,9 +9,9 @@ use Rattle.block_receive.specs.Receptions.{receptions}
 use Rattle.coded_stream.specs.Header.{Header}
 use Rattle.coded_stream.specs.Blocks.{Block}
 use Rattle.coded_stream.specs.declared.kind.Want.TheVariants.{Soft}
-use Rattle.report_lines.specs.Lines.{line_end}
+use Rattle.run_loop.specs.Lines.{line_end}
 use Rattle.stream_loop.specs.Handling.{Handled, Handling}
-use Rattle.stream_values.specs.SoftBytes.{softs_of}
+use Rattle.stream_loop.specs.SoftBytes.{softs_of}
 
 -- what came of the transmissions of a block
 abbrev pub received : Header → Block → List Reception
@@ -61,8 +61,7 @@ handled number (Failed transmissions iterations) = record {
 abbrev pub decoding : Effort → Handling
 decoding e = record {
   want = Soft;
-  opening = λ _. [];
+  header = λ _. None;
   block = λ h number b. handled number (decoded e h b);
-  closing = [];
   last = last_line;
 }

@@ -1,5 +1,6 @@
 //! What `decode` makes of a block.
 ghost use Rattle.std.specs.Prelude.{◌≡◌, ◌≤◌, ◌<◌, true, IfOk};
+ghost use Rattle.block_receive.specs.Effort.{effort_of};
 ghost use Rattle.coded_stream.specs.Blocks.{IsBlock};
 ghost use Rattle.coded_stream.specs.Shown.{header_of};
 ghost use Rattle.coded_stream.specs.declared.kind.Kind.TheVariants as kind;
@@ -8,34 +9,29 @@ ghost use Rattle.decode_command.specs.Decoding.{decoded, handled};
 ghost use Rattle.decode_command.specs.Receivers.{GivesOutcomes, TakesTransmissions};
 
 use crate::lines::{block_line, last_line};
-use block_receive::Task;
+use block_receive::{Effort, Task};
 use coded_stream::{Header, Want};
-use edge_io::{Sink, SinkFault, write_all};
 use lte_bits::{NoMemory, Soft};
 use rate_match::Sends;
 use receiver_model::TbOutcome;
 use segmentation::plan;
 use std::alloc::Global;
-use stream_loop::{Handled, Handler};
-use stream_values::softs_of;
+use stream_loop::{Handled, Handler, softs_of};
 
 /// What the reception of a transport block comes to, or that there was no memory.
 pub type Received = Result<TbOutcome, NoMemory>;
 
-/// Who receives transport blocks, and with what effort: in at most so many windows, 1 to 64, and with at most
-/// so many iterations, 1 to 16.
+/// Who receives transport blocks, by up to how many workers, 1 to 16, and with what effort.
 #[derive(Drop)]
-pub struct Decoding<'a, F: Fn(Global, &Task, &Sends, &[Soft]) -> Received> {
+pub struct Decoding<'a, F: Fn(Global, &Task, usize, &Sends, &[Soft]) -> Received> {
     pub receive: &'a F,
-    pub windows: usize,
-    pub limit: usize,
-    pub ghost some_windows: { 1 ≤ windows },
-    pub ghost few_windows: { windows ≤ 64 },
-    pub ghost some_iterations: { 1 ≤ limit },
-    pub ghost few_iterations: { limit ≤ 16 },
+    pub workers: usize,
+    pub effort: Effort,
+    pub ghost some_workers: { 1 ≤ workers },
+    pub ghost few_workers: { workers ≤ 16 },
 }
 
-impl<'a, F: Fn(Global, &Task, &Sends, &[Soft]) -> Received> Decoding<'a, F> {
+impl<'a, F: Fn(Global, &Task, usize, &Sends, &[Soft]) -> Received> Decoding<'a, F> {
     /// What the transmissions of a block come to.
     fn outcome(
         &self,
@@ -48,18 +44,16 @@ impl<'a, F: Fn(Global, &Task, &Sends, &[Soft]) -> Received> Decoding<'a, F> {
         requires gives { GivesOutcomes (F.post self.now.receive.now) }
         requires soft { header.now.kind ≡ kind.Soft }
         requires accepted { IsBlock (header_of header.now) (block_of payload bytes.now) }
-        ensures { IfOk result (λ o. o ≡ decoded (record {
-          windows = self.now.windows;
-          limit = self.now.limit;
-        }) (header_of header.now) (block_of payload bytes.now)) }
+        ensures { IfOk result (λ o. o ≡ decoded (effort_of self.now.effort)
+            (header_of header.now) (block_of payload bytes.now)) }
     {
         let task = Task {
             plan: plan(payload).unwrap(),
-            windows: self.windows,
-            limit: self.limit,
+            effort: self.effort,
         };
         let softs = softs_of(alloc, bytes)?;
-        (self.receive)(alloc, &task, &header.sends, softs.as_slice())
+        let (workers, sends) = (self.workers, &header.sends);
+        (self.receive)(alloc, &task, workers, sends, softs.as_slice())
     }
 }
 
@@ -82,19 +76,20 @@ fn handled(alloc: Global, number: usize, outcome: TbOutcome) -> Result<Handled, 
     })
 }
 
-impl<'a, F: Fn(Global, &Task, &Sends, &[Soft]) -> Received> Handler for Decoding<'a, F> {
+impl<'a, F: Fn(Global, &Task, usize, &Sends, &[Soft]) -> Received> Handler for Decoding<'a, F> {
+    ghost use Rattle.block_receive.specs.Effort.{effort_of};
     ghost use Rattle.decode_command.specs.Decoding.{decoding};
 
     ghost able = { λ s. TakesTransmissions (F.pre s.receive.now) × GivesOutcomes (F.post s.receive.now) };
 
-    ghost handling = { λ s. decoding (record { windows = s.windows; limit = s.limit }) };
+    ghost handling = { λ s. decoding (effort_of s.effort) };
 
     fn want(&self) -> Want {
         Want::Soft
     }
 
-    fn open<S: Sink>(&self, _header: &Header, out: &mut S) -> Result<(), SinkFault> {
-        write_all(out, b"")
+    fn header(&self, _header: &Header) -> Option<Header> {
+        None
     }
 
     fn block(
@@ -107,10 +102,6 @@ impl<'a, F: Fn(Global, &Task, &Sends, &[Soft]) -> Received> Handler for Decoding
     ) -> Result<Handled, NoMemory> {
         let outcome = self.outcome(alloc, header, payload, bytes)?;
         handled(alloc, number, outcome)
-    }
-
-    fn closing(&self, alloc: Global) -> Result<Vec<u8>, NoMemory> {
-        Ok(Vec::new(alloc))
     }
 
     fn last(&self, alloc: Global, blocks: usize, failed: usize) -> Result<Vec<u8>, NoMemory> {

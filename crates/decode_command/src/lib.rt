@@ -3,6 +3,5 @@
 
 mod decoding;
 mod lines;
-mod running;
 
-pub use running::{run_decode, run_decode_shared};
+pub use decoding::{Decoding, Received};

@@ -4,7 +4,7 @@ ghost use Rattle.decode_command.specs.Decoding.{block_line, last_line, with_coun
 
 use lte_bits::NoMemory;
 use receiver_model::TbOutcome;
-use report_lines::{end_line, push_number};
+use run_loop::{end_line, push_number};
 use std::alloc::Global;
 
 /// Appends ` transmissions T iterations I`.

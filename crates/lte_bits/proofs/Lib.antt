@@ -1,3 +1,4 @@
 mod Eight
+pub mod Chunks
 pub mod Pushes
 pub mod Unpacking

@@ -22,7 +22,6 @@ mod kept_blocks;
 #[cfg(test)]
 mod memory;
 #[cfg(test)]
-mod pairs;
 #[cfg(test)]
 mod relay_runs;
 #[cfg(test)]

@@ -12,10 +12,10 @@ use Rattle.rate_match.proofs.SizeSteps.{places-most}
 
 -- ---- the order at a place
 
-order-first : (r n : ℕ) → n < 32 * r → order_of r n ≡ n
+pub order-first : (r n : ℕ) → n < 32 * r → order_of r n ≡ n
 order-first r n h = ap (λ t. if t then n else (n - 32 * r) / 2) (lt-ltb n (32 * r) h)
 
-order-behind : (r n : ℕ) → 32 * r ≤ n → order_of r n ≡ (n - 32 * r) / 2
+pub order-behind : (r n : ℕ) → 32 * r ≤ n → order_of r n ≡ (n - 32 * r) / 2
 order-behind r n h = ap (λ t. if t then n else (n - 32 * r) / 2) (le-ltb n (32 * r) h)
 
 pub order-below : (r n : ℕ) → n < 96 * r → order_of r n < 32 * r

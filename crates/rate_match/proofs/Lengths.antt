@@ -15,7 +15,7 @@ use Rattle.sender_model.proofs.Pieces.{pieces-sum}
 use Rattle.rate_match.specs.Matching.{IsMatch}
 use Rattle.rate_match.proofs.Matchings.{match-bounds}
 
-repeated-long : (v : List ℕ) (e : ℕ) → length (repeated v e) ≡ e
+pub repeated-long : (v : List ℕ) (e : ℕ) → length (repeated v e) ≡ e
 repeated-long v e = length-map-range_with_len (λ i. slice_index v (i % length v)) 0 e
 
 -- block r sends E_r bits

@@ -6,6 +6,8 @@ pub mod Matchings
 pub mod Walked
 pub mod Selected
 pub mod CursorSteps
+pub mod Runs
+pub mod Parts
 pub mod BlockStreams
 pub mod Lengths
 pub mod EachSending

@@ -27,7 +27,7 @@ shifted k n a (suc s) =
     ∙ ap (λ xs. (k + a) % n ∷ xs) (ap (λ b. map (λ i. (k + i) % n) (range_with_len b s)) (let f : a + n + 1 ≡ a + 1 + n = omega arith in f) ∙ shifted k n (a + 1) s)
 
 -- steps after steps
-walked-split : (keep : ℕ → Bool) (k n m s : ℕ) → walked keep k n (m + s) ≡ walked keep k n m ++ filter keep (map (λ i. (k + i) % n) (range_with_len (0 + m) s))
+pub walked-split : (keep : ℕ → Bool) (k n m s : ℕ) → walked keep k n (m + s) ≡ walked keep k n m ++ filter keep (map (λ i. (k + i) % n) (range_with_len (0 + m) s))
 walked-split keep k n m s =
     ap (λ xs. filter keep (map (λ i. (k + i) % n) xs)) (range-split 0 m s)
     ∙ (ap (filter keep) (map-append (λ i. (k + i) % n) (range_with_len 0 m) (range_with_len (0 + m) s))
@@ -74,10 +74,20 @@ walked-cyclic keep k n (suc q) s i le lt =
     ]
 
 -- as many as were wanted are the places of one round, over and over
-pub walked-repeated : (keep : ℕ → Bool) (k n e s : ℕ) → s ≤ e * n → length (walked keep k n s) ≡ e → walked keep k n s ≡ repeated (walked keep k n n) e
-walked-repeated keep k n e s le long =
+pub walked-again : (keep : ℕ → Bool) (k n q e s : ℕ) → s ≤ q * n → length (walked keep k n s) ≡ e → walked keep k n s ≡ repeated (walked keep k n n) e
+walked-again keep k n q e s le long =
     let v : List ℕ = walked keep k n n in
-    fill_by_all (λ i. get_or v (i % length v) 0) (walked keep k n s) e 0 long (λ i lt. walked-cyclic keep k n e s i le (omega (arith, lt, long)))
+    fill_by_all (λ i. get_or v (i % length v) 0) (walked keep k n s) e 0 long (λ i lt. walked-cyclic keep k n q s i le (omega (arith, lt, long)))
+
+pub walked-repeated : (keep : ℕ → Bool) (k n e s : ℕ) → s ≤ e * n → length (walked keep k n s) ≡ e → walked keep k n s ≡ repeated (walked keep k n n) e
+walked-repeated keep k n e s le long = walked-again keep k n e e s le long
+
+-- more steps find no less
+pub walked-grows : (keep : ℕ → Bool) (k n m s : ℕ) → m ≤ s → length (walked keep k n m) ≤ length (walked keep k n s)
+walked-grows keep k n m s le =
+    let more : List ℕ = filter keep (map (λ i. (k + i) % n) (range_with_len (0 + m) (s - m))) in
+    let e : walked keep k n s ≡ walked keep k n m ++ more = ap (walked keep k n) (let f : s ≡ m + (s - m) = omega (arith, le) in f) ∙ walked-split keep k n m (s - m) in
+    omega (arith, ap length e, length-append (walked keep k n m) more)
 
 -- one more step
 stepped : (keep : ℕ → Bool) (k n s p : ℕ) → p ≡ (k + s) % n → walked keep k n (s + 1) ≡ walked keep k n s ++ cond (keep p) (p ∷ []) []
@@ -95,3 +105,37 @@ next_place k s n p is =
     ap (λ (q : ℕ). (q + 1) % n) is
     ∙ (ap (λ (m : ℕ). m % n) (let e : (k + s) % n + 1 ≡ 1 + (k + s) % n = omega arith in e)
     ∙ (add-mod-mod 1 (k + s) n ∙ ap (λ (m : ℕ). m % n) (let e : 1 + (k + s) ≡ k + (s + 1) = omega arith in e)))
+
+-- ---- a run of places that are all kept
+
+run-found : (keep : ℕ → Bool) (k n p a b m : ℕ) → ((i : ℕ) → i < m → (k + (a + i)) % n ≡ p + (b + i)) → ((i : ℕ) → i < m → keep (p + (b + i)) ≡ true)
+    → filter keep (map (λ i. (k + i) % n) (range_with_len a m)) ≡ map (λ i. p + i) (range_with_len b m)
+run-found keep k n p a b zero at kept = refl
+run-found keep k n p a b (suc m) at kept =
+    let rest : List ℕ = map (λ i. (k + i) % n) (range_with_len (a + 1) m) in
+    let first : (k + a) % n ≡ p + b = ap (λ q. (k + q) % n) (let e : a ≡ a + 0 = omega arith in e) ∙ at 0 (omega arith) ∙ (let e : p + (b + 0) ≡ p + b = omega arith in e) in
+    let is : keep (p + b) ≡ true = ap keep (let e : p + b ≡ p + (b + 0) = omega arith in e) ∙ kept 0 (omega arith) in
+    ap (λ q. filter keep (q ∷ rest)) first
+    ∙ ap (λ t. cond t ((p + b) ∷ filter keep rest) (filter keep rest)) is
+    ∙ ap (λ xs. (p + b) ∷ xs) (run-found keep k n p (a + 1) (b + 1) m
+    (λ i h. ap (λ q. (k + q) % n) (let e : a + 1 + i ≡ a + suc i = omega arith in e) ∙ at (suc i) (omega (arith, h)) ∙ (let e : p + (b + suc i) ≡ p + (b + 1 + i) = omega arith in e))
+    (λ i h. ap keep (let e : p + (b + 1 + i) ≡ p + (b + suc i) = omega arith in e) ∙ kept (suc i) (omega (arith, h))))
+
+pub run_kept : (keep : ℕ → Bool) (k n s p m : ℕ) → p ≡ (k + s) % n → p + m ≤ n → ((i : ℕ) → i < m → keep (p + i) ≡ true) → walked keep k n (s + m) ≡ walked keep k n s ++ map (λ i. p + i) (range_with_len 0 m)
+run_kept keep k n s p m is within kept =
+    let at : (i : ℕ) → i < m → (k + (0 + s + i)) % n ≡ p + (0 + i) = λ i h. (
+    ap (λ q. q % n) (let e : k + (0 + s + i) ≡ i + (k + s) = omega arith in e)
+    ∙ sym (add-mod-mod i (k + s) n)
+    ∙ ap (λ q. (i + q) % n) (sym is)
+    ∙ mod-eq_of_lt (let below : i + p < n = omega (arith, h, within) in below)
+    ∙ (let e : i + p ≡ p + (0 + i) = omega arith in e)) in
+    walked-split keep k n s m
+    ∙ ap (λ xs. walked keep k n s ++ xs) (run-found keep k n p (0 + s) 0 m at (λ i h. ap keep (let e : p + (0 + i) ≡ p + i = omega arith in e) ∙ kept i h))
+
+-- the place behind a run that ends at q
+pub place_behind : (k s n p q m : ℕ) → p ≡ (k + s) % n → 0 < m → q ≡ p + (m - 1) → (q + 1) % n ≡ (k + (s + m)) % n
+place_behind k s n p q m is some end =
+    ap (λ (m : ℕ). m % n) (let e : q + 1 ≡ m + p = omega (arith, end, some) in e)
+    ∙ ap (λ (q : ℕ). (m + q) % n) is
+    ∙ add-mod-mod m (k + s) n
+    ∙ ap (λ (m : ℕ). m % n) (let e : m + (k + s) ≡ k + (s + m) = omega arith in e)

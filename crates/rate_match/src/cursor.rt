@@ -1,7 +1,7 @@
 //! A walk round the circular buffer, from place to place by additions alone.
-ghost use Rattle.std.specs.Prelude.{◌≡◌, ◌+◌, ◌*◌, ◌%◌, ◌<◌, ◌≤◌, slice_index, IfSome};
-ghost use Rattle.sender_model.specs.CircularBuffer.{column_order, rows_of, buffer_size, padded, spot};
-ghost use Rattle.rate_match.specs.Cursor.{cursor_at, order_of};
+ghost use Rattle.std.specs.Prelude.{◌≡◌, ◌+◌, ◌*◌, ◌/◌, ◌%◌, ◌<◌, ◌≤◌, slice_index, IfSome, Some};
+ghost use Rattle.sender_model.specs.CircularBuffer.{column_order, rows_of, buffer_size, padded, padding, spot};
+ghost use Rattle.rate_match.specs.Cursor.{IsRun, cursor_at, order_of, rows_down, spot_down};
 
 use sender_model::Spot;
 
@@ -147,6 +147,77 @@ impl Cursor {
             padded(ring, 2, 0, 0)
         } else {
             padded(ring, 2, 0, self.by_rows + 1)
+        }
+    }
+
+    /// How many places from here on, `most` at most, hold bits of one column and stand in the ring. Where
+    /// it is 0, a bit may stand here all the same.
+    pub fn run(self, ring: Ring, most: usize) -> usize
+        requires within { self.n < ring.size }
+        requires lawful { self ≡ cursor_at ring.rows self.n }
+        ensures run { IsRun ring.rows ring.k ring.fill self result }
+        ensures within { self.n + result ≤ ring.size }
+        ensures most { result ≤ most }
+    {
+        let places = 32 * ring.rows;
+        let padding = places - (ring.k + 4);
+        if self.by_rows < padding + ring.fill {
+            return 0;
+        }
+        let column = if self.n < places {
+            (places - self.by_rows).div_ceil(32)
+        } else {
+            (2 * (places - 1 - self.by_rows).div_ceil(32)).saturating_sub(self.n % 2)
+        };
+        column.min(ring.size - self.n).min(most)
+    }
+
+    /// How many rows of the column the place is below, that stands `i` places further on.
+    fn rows_down(self, ring: Ring, i: usize) -> usize
+        requires { i ≤ 18528 }
+        ensures { result ≡ rows_down ring.rows self i }
+    {
+        if self.n < 32 * ring.rows {
+            i
+        } else {
+            (self.n % 2 + i) / 2
+        }
+    }
+
+    /// The place `i` further on in the same column.
+    pub fn down(self, ring: Ring, i: usize) -> Cursor
+        requires within { self.n + i < ring.size }
+        requires lawful { self ≡ cursor_at ring.rows self.n }
+        requires column { self.by_rows / 32 + rows_down ring.rows self i < ring.rows }
+        ensures { result ≡ cursor_at ring.rows (self.n + i) }
+    {
+        Cursor {
+            n: self.n + i,
+            column: self.column,
+            by_rows: self.by_rows + 32 * self.rows_down(ring, i),
+        }
+    }
+
+    /// The bit that stands `i` places further on in the same column.
+    pub fn spot_down(self, ring: Ring, i: usize) -> Spot
+        requires within { self.n + i < ring.size }
+        requires above { padding ring.k ≤ self.by_rows }
+        requires column { self.by_rows / 32 + rows_down ring.rows self i < ring.rows }
+        requires bit { spot ring.k ring.fill (self.n + i) ≡ Some (spot_down ring.rows ring.k self i) }
+        ensures value { result ≡ spot_down ring.rows ring.k self i }
+        ensures inside { (result.stream ≤ 2) × (result.index < ring.k + 4) }
+    {
+        let padding = 32 * ring.rows - (ring.k + 4);
+        let index = self.by_rows - padding + 32 * self.rows_down(ring, i);
+        if self.n < 32 * ring.rows {
+            return Spot { stream: 0, index };
+        }
+        match (self.n + i) % 2 {
+            0 => Spot { stream: 1, index },
+            _ => Spot {
+                stream: 2,
+                index: index + 1,
+            },
         }
     }
 }

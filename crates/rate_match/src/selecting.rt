@@ -1,10 +1,12 @@
 //! Bit selection (36.212 5.1.4.1.2): which bits of a code block are sent.
 ghost use Rattle.std.specs.Prelude.{◌≡◌, ◌≤◌, ◌<◌, ◌+◌, ◌++◌, Contains, IfOk, OnOk, IfSome, Some, map, length};
+ghost use Rattle.std.specs.List.{range_with_len};
 ghost use Rattle.lte_bits.specs.declared.bit.Cell.{Cell};
 ghost use Rattle.sender_model.specs.Interleaver.{sizes};
 ghost use Rattle.sender_model.specs.Segmentation.{plan_of, size, fill};
 ghost use Rattle.sender_model.specs.CircularBuffer.{AreStreams, Fits, buffer_size, cell_at, piece_length, spot, stream_of, w};
 ghost use Rattle.sender_model.specs.Selection.{bit_of_cell, bits_from, holds_bit, repeated, sent};
+ghost use Rattle.rate_match.specs.Cursor.{IsRun};
 
 use crate::cursor::{Cursor, Ring};
 use crate::matching::Match;
@@ -63,34 +65,44 @@ fn bit_at(streams: &Streams, spot: Spot) -> Bit
     bit_of_cell(stream_of(streams, spot.stream)[spot.index])
 }
 
-/// Appends the first `count` bits of the streams from place `start` of the ring on, round and round.
-fn push_bits(
-    bits: &mut Vec<Bit>,
-    streams: &Streams,
-    ring: Ring,
-    start: usize,
-    count: usize,
-) -> Result<(), NoMemory>
+/// Writes the bits of a run, from the cursor on.
+fn write_run(out: &mut [Bit], streams: &Streams, ring: Ring, cursor: Cursor)
     requires streams { AreStreams ring.k ring.fill streams.now }
-    requires few { count ≤ 1000000 }
+    requires within { cursor.n + length out.old ≤ ring.size }
+    requires run { IsRun ring.rows ring.k ring.fill cursor (length out.old) }
+    ensures { out.new ≡ map (λ i. bit_of_cell (w ring.k ring.fill streams.now (cursor.n + i)))
+        (range_with_len 0 (length out.old)) }
+{
+    for (i, bit) in out.iter_mut().enumerate() {
+        *bit = bit_at(streams, cursor.spot_down(ring, i));
+    }
+}
+
+/// Writes the bits of the streams from place `start` of the ring on, round and round.
+fn write_bits(out: &mut [Bit], streams: &Streams, ring: Ring, start: usize)
+    requires streams { AreStreams ring.k ring.fill streams.now }
+    requires few { length out.old ≤ 1000000 }
     requires some { 0 < length (bits_from (holds_bit ring.k ring.fill) start ring.size) }
-    ensures { OnOk result (bits.new.items ≡ bits.old.items
-        ++ map (λ n. bit_of_cell (w ring.k ring.fill streams.now n))
-        (repeated (bits_from (holds_bit ring.k ring.fill) start ring.size) count)) }
+    ensures { out.new ≡ map (λ n. bit_of_cell (w ring.k ring.fill streams.now n))
+        (repeated (bits_from (holds_bit ring.k ring.fill) start ring.size) (length out.old)) }
 {
     let mut cursor = Cursor::at(ring, start % ring.size);
-    let mut left = count;
-    for _step in 0..count * ring.size {
-        if left == 0 {
-            return Ok(());
+    let mut done = 0;
+    for _step in 0..out.len() * ring.size {
+        if done == out.len() {
+            return;
         }
-        if let Some(spot) = cursor.spot(ring) {
-            bits.push(bit_at(streams, spot))?;
-            left -= 1;
+        let run = cursor.run(ring, out.len() - done);
+        if run > 0 {
+            write_run(&mut out[done..done + run], streams, ring, cursor);
+            done += run;
+            cursor = cursor.down(ring, run - 1);
+        } else if let Some(spot) = cursor.spot(ring) {
+            out[done] = bit_at(streams, spot);
+            done += 1;
         }
         cursor = cursor.next(ring);
     }
-    Ok(())
 }
 
 /// Appends the bits that redundancy version `rv` sends of the streams of block `r`.
@@ -117,13 +129,15 @@ pub(crate) fn push_piece(
         rows: rows_of(k),
         size,
     };
-    push_bits(
-        bits,
+    let from = bits.len();
+    bits.resize(from + piece_len(m, plan, r), Bit::Zero)?;
+    write_bits(
+        &mut bits.as_mut_slice()[from..],
         streams,
         ring,
         start(k, size, rv),
-        piece_len(m, plan, r),
-    )
+    );
+    Ok(())
 }
 
 /// The E_r bits that redundancy version `rv` sends of block `r`, whose coded streams these are: of

@@ -6,7 +6,7 @@ use Rattle.qam_points.specs.Reception.{received}
 use Rattle.coded_stream.specs.Header.{Header}
 use Rattle.coded_stream.specs.declared.kind.Want.TheVariants as want
 use Rattle.stream_loop.specs.Handling.{Handling}
-use Rattle.stream_values.specs.SoftBytes.{bytes_of}
+use Rattle.stream_loop.specs.SoftBytes.{bytes_of}
 use Rattle.relay_commands.specs.Channel.{Noise, soft_header, transmission_of}
 use Rattle.relay_commands.specs.HardBits.{bits_in}
 use Rattle.relay_commands.specs.Relaying.{Relaying, relaying}

@@ -1,12 +1,11 @@
 -- Commands that write a stream of the blocks that they read, each transmission by itself.
-use Rattle.std.specs.Prelude.{ℕ, ◌+◌, false, List, [], ◌∷◌, ◌++◌, take, drop}
+use Rattle.std.specs.Prelude.{ℕ, ◌+◌, false, Some, List, [], ◌∷◌, ◌++◌, take, drop}
 use Rattle.sender_model.specs.CircularBuffer.{Match}
 use Rattle.rate_match.specs.declared.sends.Sending.{Sending}
-use Rattle.coded_stream.specs.Header.{Header, header_text, word_text}
+use Rattle.coded_stream.specs.Header.{Header, word_text}
 use Rattle.coded_stream.specs.Blocks.{Block, transmission_size}
-use Rattle.coded_stream.specs.Text.{end_word}
 use Rattle.coded_stream.specs.declared.kind.Want.{Want}
-use Rattle.report_lines.specs.Lines.{blocks_line}
+use Rattle.run_loop.specs.Lines.{blocks_line}
 use Rattle.stream_loop.specs.Handling.{Handled, Handling}
 
 -- which streams a command takes, its header for theirs, and what it sends in place of each transmission, by the
@@ -34,8 +33,7 @@ relayed w h number b = record {
 abbrev pub relaying : Relaying → Handling
 relaying w = record {
   want = w.want;
-  opening = λ h. header_text (w.header h);
+  header = λ h. Some (w.header h);
   block = relayed w;
-  closing = end_word;
   last = λ blocks _. blocks_line blocks;
 }

@@ -9,7 +9,7 @@ use Rattle.coded_stream.specs.declared.kind.Kind.{Kind}
 use Rattle.coded_stream.specs.declared.kind.Kind.TheVariants.{Hard, Soft}
 use Rattle.coded_stream.specs.declared.kind.Want.TheVariants as want
 use Rattle.stream_loop.specs.Handling.{Handling}
-use Rattle.stream_values.specs.SoftBytes.{bytes_of, softs_of}
+use Rattle.stream_loop.specs.SoftBytes.{bytes_of, softs_of}
 use Rattle.relay_commands.specs.HardBits.{bits_in}
 use Rattle.relay_commands.specs.Relaying.{Relaying, relaying}
 

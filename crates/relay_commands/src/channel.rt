@@ -8,7 +8,7 @@ use lte_bits::NoMemory;
 use rate_match::Match;
 use soft_channel::noisy;
 use std::alloc::Global;
-use stream_values::push_bytes;
+use stream_loop::push_bytes;
 
 /// A channel: the amplitude of sent bits, 1 to 127, the noise on them, 0 to 127, and the seed that the noise
 /// comes from.

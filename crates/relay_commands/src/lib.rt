@@ -8,13 +8,11 @@ pub mod laws;
 mod points;
 mod receiving;
 mod relay;
-mod running;
 mod scramble;
 mod upgrade;
 
 pub use channel::Channel;
 pub use points::Points;
-pub use relay::{Transmitter, Turn};
-pub use running::run_relay;
+pub use relay::{Relay, Transmitter, Turn};
 pub use scramble::Scramble;
 pub use upgrade::Upgrade;

@@ -13,7 +13,7 @@ use qam_points::{demap, map};
 use rate_match::Match;
 use soft_channel::noise_terms;
 use std::alloc::Global;
-use stream_values::push_bytes;
+use stream_loop::push_bytes;
 
 /// A channel over which bits are sent as points.
 #[derive(Clone, Copy, Debug, Drop)]

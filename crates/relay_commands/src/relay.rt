@@ -7,11 +7,10 @@ ghost use Rattle.coded_stream.specs.Shown.{header_of};
 ghost use Rattle.stream_loop.specs.Rounds.{block_of};
 ghost use Rattle.relay_commands.specs.Relaying.{Relaying, relayed};
 
-use coded_stream::{Header, Kind, Want, length_word, transmission_size, write_header};
-use edge_io::{Sink, SinkFault};
+use coded_stream::{Header, Kind, Want, length_word, transmission_size};
 use lte_bits::NoMemory;
 use rate_match::Match;
-use report_lines::blocks_line;
+use run_loop::blocks_line;
 use std::alloc::Global;
 use stream_loop::{Handled, Handler};
 
@@ -64,9 +63,7 @@ fn divided<'a>(kind: Kind, m: &Match, bytes: &'a [u8]) -> (&'a [u8], &'a [u8])
 
 /// A command by what it sends in place of each transmission.
 #[derive(Drop)]
-pub struct Relay<T: Transmitter> {
-    pub transmitter: T,
-}
+pub struct Relay<T: Transmitter>(pub T);
 
 impl<T: Transmitter> Relay<T> {
     /// The text of a block.
@@ -78,10 +75,10 @@ impl<T: Transmitter> Relay<T> {
         payload: usize,
         bytes: &[u8],
     ) -> Result<Vec<u8>, NoMemory>
-        requires wanted { is_wanted (T.relaying self.now.transmitter).want (kind_code header.now.kind) ≡ true }
+        requires wanted { is_wanted (T.relaying self.now.0).want (kind_code header.now.kind) ≡ true }
         requires few { block < 4096 }
         requires accepted { IsBlock (header_of header.now) (block_of payload bytes.now) }
-        ensures { IfOk result (λ text. text.items ≡ (relayed (T.relaying self.now.transmitter)
+        ensures { IfOk result (λ text. text.items ≡ (relayed (T.relaying self.now.0)
             (header_of header.now) block (block_of payload bytes.now)).text) }
     {
         let mut text = length_word(alloc, payload as u32)?;
@@ -91,8 +88,7 @@ impl<T: Transmitter> Relay<T> {
             let (own, after) = divided(header.kind, &m, rest);
             rest = after;
             let turn = Turn { block, number };
-            self.transmitter
-                .push(alloc, &mut text, header, turn, &m, own)?;
+            self.0.push(alloc, &mut text, header, turn, &m, own)?;
         }
         Ok(text)
     }
@@ -101,14 +97,14 @@ impl<T: Transmitter> Relay<T> {
 impl<T: Transmitter> Handler for Relay<T> {
     ghost use Rattle.relay_commands.specs.Relaying.{relaying};
 
-    ghost handling = { λ s. relaying (T.relaying s.transmitter) };
+    ghost handling = { λ s. relaying (T.relaying s.0) };
 
     fn want(&self) -> Want {
-        self.transmitter.want()
+        self.0.want()
     }
 
-    fn open<D: Sink>(&self, header: &Header, out: &mut D) -> Result<(), SinkFault> {
-        write_header(out, &self.transmitter.header(header))
+    fn header(&self, header: &Header) -> Option<Header> {
+        Some(self.0.header(header))
     }
 
     fn block(
@@ -125,10 +121,6 @@ impl<T: Transmitter> Handler for Relay<T> {
             line: Vec::new(alloc),
             failed: false,
         })
-    }
-
-    fn closing(&self, alloc: Global) -> Result<Vec<u8>, NoMemory> {
-        Ok(length_word(alloc, 0)?)
     }
 
     fn last(&self, alloc: Global, blocks: usize, _failed: usize) -> Result<Vec<u8>, NoMemory> {

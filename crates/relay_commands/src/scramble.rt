@@ -9,7 +9,7 @@ use gold_scramble::{Init, scramble_bits, turn_softs};
 use lte_bits::{NoMemory, pack};
 use rate_match::Match;
 use std::alloc::Global;
-use stream_values::{push_bytes, softs_of};
+use stream_loop::{push_bytes, softs_of};
 
 /// Scrambling: a terminal's identity, the number of a codeword, 0 or 1, the slot of the first transmission,
 /// 0 to 19, and a cell, 0 to 503.

@@ -1,8 +1,8 @@
 pub mod Rises
-mod Lines
-mod Reached
-mod Blocks
+mod LineParts
+mod Parts
 mod Endings
 pub mod Complete
-pub mod Headers
 pub mod Alone
+pub mod Within
+pub mod Opening

@@ -1,8 +1,8 @@
 -- What a command is to write for an input, as lists.
 use Rattle.std.specs.Prelude.{ℕ, List, [], ◌++◌, flat_map, sum_by}
 
--- A block: its text for `out`, its line for the report, how many bytes of input it takes, and how many must
--- have come before it is known whole, where the end of the input counts as one.
+-- A part of an answer: its text for `out`, its line for the report, how many bytes of input it takes, and how
+-- many must have come before it is known whole, where the end of the input counts as one.
 pub record Part : Type 0 where
   pub text : List ℕ
   pub line : List ℕ
@@ -15,20 +15,21 @@ pub data Ending : Type 0 where
   some_failed : Ending
   bad : (number place : ℕ) → Ending
 
--- The whole answer: what `out` begins with, the blocks, what closes `out`, the report's last line, and the
--- ending. Behind the last block the ending takes `tail` bytes, an end word or what ends with the refused
--- unit. It is known once `due` bytes have come there, where the end of the input counts as one: 0 where the
--- last block was known to be the last.
+-- The answer to an input: its parts, which are what `out` begins with and then the blocks, what closes `out`,
+-- the report's last line, and the ending. Behind the last part the ending takes `tail` bytes, an end word or
+-- what ends with the refused unit. It is known once `due` bytes have come there, where the end of the input
+-- counts as one: 0 where the last part was known to be the last. Up to `ahead` blocks are read before any of
+-- them is written.
 pub record Answer : Type 0 where
-  pub opening : List ℕ
   pub parts : List Part
   pub closing : List ℕ
   pub last : List ℕ
   pub ending : Ending
   pub tail : ℕ
   pub due : ℕ
+  pub ahead : ℕ
 
--- what blocks add to `out`, one after the other
+-- what parts add to `out`, one after the other
 abbrev pub texts : List Part → List ℕ
 texts parts = flat_map (λ p. p.text) parts
 
@@ -40,36 +41,36 @@ lines parts = flat_map (λ p. p.line) parts
 abbrev pub size_of : List Part → ℕ
 size_of parts = sum_by (λ p. p.size) parts
 
--- these blocks, and then what the rest answers
+-- these parts, and then what the rest answers
 abbrev pub behind : List Part → Answer → Answer
 behind front a = record a { parts = front ++ a.parts }
 
--- the same answer, with this text before it
-abbrev pub opened : List ℕ → Answer → Answer
-opened text a = record a { opening = text }
+-- what `out` begins with, behind a header of so many bytes (0: none)
+abbrev pub heading : (text : List ℕ) → (size : ℕ) → Part
+heading text size = record { text = text; line = []; size = size; wants = size }
 
 -- nothing more, and a refusal
 abbrev pub refusal : (number place tail due : ℕ) → Answer
 refusal number place tail due =
     record {
-      opening = [];
       parts = [];
       closing = [];
       last = [];
       ending = bad number place;
       tail = tail;
       due = due;
+      ahead = 1;
     }
 
 -- nothing more but the closing and the last line
 abbrev pub closed : (closing last : List ℕ) → Ending → (tail due : ℕ) → Answer
 closed closing last ending tail due =
     record {
-      opening = [];
       parts = [];
       closing = closing;
       last = last;
       ending = ending;
       tail = tail;
       due = due;
+      ahead = 1;
     }

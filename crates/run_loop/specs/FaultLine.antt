@@ -1,8 +1,8 @@
 -- The line that tells a fault, written once behind what the command left.
-use Rattle.std.specs.Prelude.{ℕ, List, [], ◌∷◌, take, codes, decimal, flat_map}
+use Rattle.std.specs.Prelude.{◌≡◌, ℕ, List, [], ◌∷◌, take, codes, decimal, flat_map}
 use Rattle.std.specs.declared.option.Option.{Option}
 use Rattle.edge_io.specs.Edge.{Adds, Rose}
-use Rattle.run_loop.specs.Edges.{Held, held}
+use Rattle.run_loop.specs.Edges.{Edges}
 use Rattle.run_loop.specs.Reply.{Reply, EndsReply}
 use Rattle.run_loop.specs.declared.status.SinkName.TheVariants.{Out, Report}
 use Rattle.run_loop.specs.declared.status.Status.{Status}
@@ -32,8 +32,10 @@ pub record AddsLine (old new : Option (List ℕ)) (line : List ℕ) (before now 
   pub front : (n : ℕ) × Adds old new (take n line)
   pub whole : (Rose before now → ⊥) → Adds old new line
 
--- what stands when a run ends: what the command left, and then the fault line; the counts are the report's
-pub record Finished (reply : Reply) (old new : Held) (before now : ℕ) (status : Status) : Type 0 where
-  pub left : Option (List ℕ)
-  pub ended : EndsReply reply old (held new.left new.out left) status
-  pub told : AddsLine left new.report (fault_line status) before now
+-- what stands when a run ends: what the command left, and then the fault line
+pub record Finished (reply : Reply) (old new : Edges) (status : Status) : Type 0 where
+  pub mid : Edges
+  pub ended : EndsReply reply old mid status
+  pub left : new.left ≡ mid.left
+  pub out : new.out ≡ mid.out
+  pub line : AddsLine mid.report new.report (fault_line status) old.reports new.reports

@@ -4,6 +4,7 @@ pub mod Edges
 pub mod Ended
 pub mod Step
 pub mod Puts
+pub mod Lines
 pub mod Reply
 pub mod FaultLine
 pub mod Exit

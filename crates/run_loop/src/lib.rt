@@ -1,14 +1,17 @@
-//! The loop that every command runs in: its work's rounds of blocks, one after the other, from a
-//! source to two sinks, how the run ends, and the line that tells a fault.
+//! The loop that every command runs in: it is opened, and then its work is done round by round, from
+//! a source to two sinks. Beside it: how a run ends, the lines of a report, and the line that tells
+//! a fault.
 #![tactic(auto)]
 
 mod driver;
 mod fault_line;
+mod lines;
 mod putting;
 mod status;
 mod work;
 
 pub use driver::drive;
-pub use fault_line::tell;
+pub use fault_line::write_fault_line;
+pub use lines::{blocks_line, end_line, push_number};
 pub use status::{SinkName, Status};
-pub use work::{Block, Round, Stop, Work};
+pub use work::{Open, Part, Round, Stop, Work};

@@ -1,14 +1,12 @@
-//! Blocks and closings, to `out` and the report.
-ghost use Rattle.std.specs.Prelude.{◌≡◌, ◌≤◌, Err};
-ghost use Rattle.edge_io.specs.Edge.{Rose};
-ghost use Rattle.run_loop.specs.Puts.{Puts, PutsEach};
+//! Parts and closings, to `out` and the report.
+ghost use Rattle.run_loop.specs.Puts.{HasSinkCause, Puts, PutsEach};
 ghost use Rattle.run_loop.specs.Step.{parts_of};
 
-use crate::{Block, SinkName};
+use crate::{Part, SinkName};
 use edge_io::{Sink, SinkFault, write_all};
 
 /// Writes a text to `out`, and then a line to the report.
-fn put<D: Sink, R: Sink>(
+pub fn put<D: Sink, R: Sink>(
     out: &mut D,
     report: &mut R,
     text: &[u8],
@@ -16,10 +14,8 @@ fn put<D: Sink, R: Sink>(
 ) -> Result<(), SinkName>
     ensures bytes { Puts (D.held out.old) (D.held out.new) (R.held report.old) (R.held report.new)
         text.now line.now result }
-    ensures out { result ≡ Err SinkName.Out → Rose (D.faults out.old) (D.faults out.new) }
-    ensures report { result ≡ Err SinkName.Report → Rose (R.faults report.old) (R.faults report.new) }
-    ensures out_later { D.faults out.old ≤ D.faults out.new }
-    ensures report_later { R.faults report.old ≤ R.faults report.new }
+    ensures cause { HasSinkCause (D.faults out.old) (D.faults out.new)
+        (R.faults report.old) (R.faults report.new) result }
 {
     if let Err(SinkFault) = write_all(out, text) {
         return Err(SinkName::Out);
@@ -30,52 +26,21 @@ fn put<D: Sink, R: Sink>(
     Ok(())
 }
 
-/// Writes what closes `out`, and then the report's last line.
-pub fn close<D: Sink, R: Sink>(
+/// Writes each part's text and line before those of the next.
+pub fn put_all<D: Sink, R: Sink>(
     out: &mut D,
     report: &mut R,
-    closing: Vec<u8>,
-    last: Vec<u8>,
+    parts: &[Part],
 ) -> Result<(), SinkName>
-    ensures bytes { Puts (D.held out.old) (D.held out.new) (R.held report.old) (R.held report.new)
-        closing.items last.items result }
-    ensures out { result ≡ Err SinkName.Out → Rose (D.faults out.old) (D.faults out.new) }
-    ensures report { result ≡ Err SinkName.Report → Rose (R.faults report.old) (R.faults report.new) }
-    ensures out_later { D.faults out.old ≤ D.faults out.new }
-    ensures report_later { R.faults report.old ≤ R.faults report.new }
-{
-    put(out, report, closing.as_slice(), last.as_slice())
-}
-
-/// Writes each block's text and line before those of the next.
-fn put_each<D: Sink, R: Sink>(out: &mut D, report: &mut R, blocks: &[Block]) -> Result<(), SinkName>
     ensures bytes { PutsEach (D.held out.old) (D.held out.new)
-        (R.held report.old) (R.held report.new) (parts_of blocks.now) result }
-    ensures out { result ≡ Err SinkName.Out → Rose (D.faults out.old) (D.faults out.new) }
-    ensures report { result ≡ Err SinkName.Report → Rose (R.faults report.old) (R.faults report.new) }
-    ensures out_later { D.faults out.old ≤ D.faults out.new }
-    ensures report_later { R.faults report.old ≤ R.faults report.new }
+        (R.held report.old) (R.held report.new) (parts_of parts.now) result }
+    ensures cause { HasSinkCause (D.faults out.old) (D.faults out.new)
+        (R.faults report.old) (R.faults report.new) result }
 {
-    for block in blocks {
-        if let Err(sink) = put(out, report, block.text.as_slice(), block.line.as_slice()) {
+    for part in parts {
+        if let Err(sink) = put(out, report, part.text.as_slice(), part.line.as_slice()) {
             return Err(sink);
         }
     }
     Ok(())
-}
-
-/// Writes the blocks of a round, each before the next.
-pub fn put_all<D: Sink, R: Sink>(
-    out: &mut D,
-    report: &mut R,
-    blocks: Vec<Block>,
-) -> Result<(), SinkName>
-    ensures bytes { PutsEach (D.held out.old) (D.held out.new)
-        (R.held report.old) (R.held report.new) (parts_of blocks.items) result }
-    ensures out { result ≡ Err SinkName.Out → Rose (D.faults out.old) (D.faults out.new) }
-    ensures report { result ≡ Err SinkName.Report → Rose (R.faults report.old) (R.faults report.new) }
-    ensures out_later { D.faults out.old ≤ D.faults out.new }
-    ensures report_later { R.faults report.old ≤ R.faults report.new }
-{
-    put_each(out, report, blocks.as_slice())
 }

@@ -1,14 +1,16 @@
 //! The work of a command, a round at a time.
-ghost use Rattle.std.specs.Prelude.{◌≡◌, ◌≤◌, ◌<◌, ℕ, List, [], Some, OnOk, OnErr, take};
-ghost use Rattle.edge_io.specs.Edge.{Adds, HasCause, Rose};
+ghost use Rattle.std.specs.Prelude.{◌≡◌, ◌≤◌, ◌<◌, ℕ, List, [], Some, IfOk};
+ghost use Rattle.std.specs.declared.option.Option.{Option};
 ghost use Rattle.run_loop.specs.Answer.{Answer};
+ghost use Rattle.run_loop.specs.Edges.{told};
 
-use edge_io::{Sink, SinkFault, Source};
+use crate::Status;
+use edge_io::{Sink, Source};
 use std::alloc::Global;
 
-/// A block of a command's answer.
+/// A part of a command's answer.
 #[derive(Debug, Drop)]
-pub struct Block {
+pub struct Part {
     /// What it adds to `out`.
     pub text: Vec<u8>,
     /// What it adds to the report.
@@ -20,7 +22,7 @@ pub struct Block {
     pub wants: usize,
 }
 
-/// How a round stops, once its blocks were made.
+/// How a round stops, once its parts were made.
 #[derive(Debug, Drop)]
 pub enum Stop {
     /// More is to come.
@@ -32,78 +34,81 @@ pub enum Stop {
         last: Vec<u8>,
         failed: bool,
     },
-    /// The input is refused at a byte.
-    Bad {
-        number: u8,
-        place: u64,
-    },
-    /// The source failed.
-    Fault,
-    /// Memory was wanting.
-    NoMemory,
+    /// The run ends so: the input is refused at a byte, the source failed, or memory was wanting.
+    Fails(Status),
 }
 
-/// What one round gives: blocks in their order, and how it stops behind them.
+/// What one round gives: parts in their order, and how it stops behind them.
 #[derive(Debug, Drop)]
 pub struct Round {
-    pub blocks: Vec<Block>,
+    pub parts: Vec<Part>,
     pub stop: Stop,
 }
 
 impl Round {
-    /// A round without blocks.
+    /// A round without parts.
     pub fn stopped(alloc: Global, stop: Stop) -> Self
-        ensures blocks { result.blocks.items ≡ [] }
+        ensures parts { result.parts.items ≡ [] }
         ensures stop { result.stop ≡ stop }
     {
         Round {
-            blocks: Vec::new(alloc),
+            parts: Vec::new(alloc),
             stop,
         }
     }
 }
 
-/// The work of a command, a round at a time. A round reads one block or several, and they are
-/// written before the next round begins.
-pub trait Work {
-    ghost use Rattle.run_loop.specs.Step.{Steps, Fewer};
+/// The work of a command once it was opened, a round at a time. A round reads one block or several,
+/// and they are written before the next round begins.
+pub trait Work: Drop {
+    ghost use Rattle.run_loop.specs.Step.{FailsBy, Fewer, Steps};
 
-    // What `out` begins with.
-    ghost opening: { Self → List ℕ };
-
-    // The answer that is still to come, for the input that is left. Its opening is none.
+    // The answer that is still to come, for the input that is left.
     ghost answer: { Self → List ℕ → Answer };
-
-    // What the work knows of the input that is left.
-    ghost fits: { Self → List ℕ → Type 0 } = { λ _ _. Unit {0} };
 
     // Whether a round may be asked for, whatever the source tells.
     ghost ready: { Self → Type 0 } = { λ _. Unit {0} };
 
-    // How many blocks a round may read before they are written.
-    ghost ahead: { Self → ℕ } = { λ _. 1 };
-
     // How many rounds may still come.
     ghost budget: { Self → ℕ };
-
-    /// Writes what `out` begins with, before the first round.
-    fn open<D: Sink>(&self, out: &mut D) -> Result<(), SinkFault>
-        ensures ok { OnOk result (Adds (D.held out.old) (D.held out.new) (opening self.now)) }
-        ensures err { OnErr result ((n : ℕ) ×
-            Adds (D.held out.old) (D.held out.new) (take n (opening self.now))) }
-        ensures cause { HasCause (D.faults out.old) (D.faults out.new) result };
 
     /// Reads the input of the next blocks and computes them. All memory that the ending needs is
     /// had before its bytes are read.
     fn round<S: Source>(&mut self, alloc: Global, source: &mut S) -> Round
         requires { ready self.old }
-        ensures step { (input : List ℕ) → S.left source.old ≡ Some input → fits self.old input →
-            Steps (ahead self.old) (answer self.old input) (answer self.new) (fits self.new)
-            (S.left source.old) (S.left source.new) result }
+        ensures step { (input : List ℕ) → S.left source.old ≡ Some input →
+            Steps (answer self.old input) (answer self.new) (S.left source.old) (S.left source.new) result }
         ensures ready { result.stop ≡ Stop.Go → ready self.new }
-        ensures ahead { ahead self.new ≡ ahead self.old }
         ensures fewer { Fewer (budget self.old) (budget self.new) result.stop }
         ensures later { S.faults source.old ≤ S.faults source.new }
-        ensures fault { result.stop ≡ Stop.Fault →
-            Rose (S.faults source.old) (S.faults source.new) };
+        ensures fails { FailsBy (S.faults source.old) (S.faults source.new) result.stop };
+}
+
+/// A command that reads a source.
+pub trait Open {
+    ghost use Rattle.run_loop.specs.Step.{Opens};
+
+    /// Its work once it was opened.
+    type Rounds: Work;
+
+    // Its answer to an input.
+    ghost answer: { Self → List ℕ → Answer };
+
+    // Whether it may be opened.
+    ghost able: { Self → Type 0 } = { λ _. Unit {0} };
+
+    /// Reads a header, if the command has one, and writes what `out` begins with. It takes no
+    /// memory.
+    fn open<S: Source, D: Sink>(
+        self,
+        alloc: Global,
+        source: &mut S,
+        out: &mut D,
+    ) -> Result<Self::Rounds, Status>
+        requires { able self }
+        ensures opens { (report : Option (List ℕ)) (reports : ℕ) → Opens (answer self) Self.Rounds.answer
+            (told (S.left source.old) (D.held out.old) report (S.faults source.old) (D.faults out.old) reports)
+            (told (S.left source.new) (D.held out.new) report (S.faults source.new) (D.faults out.new) reports)
+            result }
+        ensures ready { IfOk result Self.Rounds.ready };
 }

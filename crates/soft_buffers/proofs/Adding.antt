@@ -1,16 +1,19 @@
 -- A walk that adds each value at once to the cell of the bit at its place.
-use Rattle.std.proofs.Common.{◌≡◌, ◌≢◌, ℕ, ◌+◌, ◌*◌, ◌/◌, ◌%◌, ◌<◌, ◌≤◌, Bool, true, false, ◌&&◌, ◌==◌, None, Some, is_some, ℤ, pos, List, ◌∷◌, ◌++◌, [], length, get_or, set, refl, sym, ap, ◌∙◌, arith}
+use Rattle.std.proofs.Common.{◌≡◌, ◌≢◌, ℕ, ◌+◌, ◌*◌, ◌/◌, ◌%◌, ◌<◌, ◌≤◌, Bool, true, false, ◌&&◌, ◌==◌, None, Some, is_some, ℤ, pos, List, ◌∷◌, ◌++◌, [], length, get_or, set, zero, suc, refl, sym, ap, subst, ◌∙◌, arith}
 use Rattle.std.specs.List.{zip}
 use Rattle.std.proofs.lemmas.Bool.{and_parts, eqb-true, eq-eqb}
-use Rattle.std.proofs.lemmas.List.{get_or-set_same, get_or-set_other, length-set, length-append}
+use Rattle.std.proofs.lemmas.List.{get_or_read, get_or-set_same, get_or-set_other, length-set, length-append}
 use Rattle.std.proofs.lemmas.Nat.{div-mul-add, mod-mul-add}
-use Rattle.std.proofs.Math.Nat.{mul-le-mul_left}
+use Rattle.std.proofs.Math.Nat.{add-mod-mod, mod-eq_of_lt, mul-le-mul_left}
 use Rattle.sender_model.specs.CircularBuffer.{spot}
 use Rattle.sender_model.specs.Selection.{holds_bit, repeated}
 use Rattle.sender_model.specs.declared.spot.Spot.{Spot}
-use Rattle.rate_match.proofs.Walked.{walked, walked-repeated, rounds-long, step_kept, step_left}
+use Rattle.rate_match.proofs.Walked.{walked, walked-again, walked-grows, rounds-long, step_kept, step_left}
+use Rattle.rate_match.specs.Cursor.{cursor_at}
+use Rattle.rate_match.specs.declared.cursor.Cursor.{Cursor}
 use Rattle.receiver_model.specs.SoftCells.{added, has_bit, is_bit}
 use Rattle.soft_buffers.specs.Buffers.{IsBit, cell_index, cell_of}
+use Rattle.soft_buffers.specs.Runs.{with_values}
 use Rattle.soft_buffers.proofs.Sums.{sum_of, sum-hit, sum-miss, zip-more}
 
 -- ---- bits and their cells
@@ -67,21 +70,23 @@ pub record IsAdding (w : Course) (had : List ℤ) (steps taken : ℕ) (has : Lis
   pub long : length has ≡ length had
   pub sums : (s : Spot) → IsBit w.k s → cell_of w.k has s ≡ sum_at w (met w steps) had s
 
-pub adding_done : (w : Course) (had : List ℤ) (steps taken : ℕ) (has : List ℤ) → IsAdding w had steps taken has → steps ≤ length w.values * w.n → taken ≡ length w.values
+pub adding_done : (w : Course) (had : List ℤ) (steps taken : ℕ) (has : List ℤ) → IsAdding w had steps taken has → 0 < w.n → taken ≡ length w.values
     → (s : Spot) → IsBit w.k s → cell_of w.k has s ≡ sum_at w (repeated (met w w.n) (length w.values)) had s
-adding_done w had steps taken has is within all s inside =
+adding_done w had steps taken has is some all s inside =
+    let within : steps * 1 ≤ steps * w.n = mul-le-mul_left steps some in
     let places : met w steps ≡ repeated (met w w.n) (length w.values) =
-    walked-repeated (holds_bit w.k w.fill) w.start w.n (length w.values) steps within (omega (arith, is.count, all)) in
+    walked-again (holds_bit w.k w.fill) w.start w.n steps (length w.values) steps (omega (arith, within)) (omega (arith, is.count, all)) in
     is.sums s inside ∙ ap (λ ps. sum_at w ps had s) places
 
 -- so many rounds are enough
-pub adding_all : (w : Course) (had : List ℤ) (steps taken : ℕ) (has : List ℤ) → IsAdding w had steps taken has → steps ≡ length w.values * w.n → 0 < length (met w w.n)
+pub adding_all : (w : Course) (had : List ℤ) (steps taken : ℕ) (has : List ℤ) → IsAdding w had steps taken has → 0 < w.n → length w.values * w.n ≤ steps → 0 < length (met w w.n)
     → (s : Spot) → IsBit w.k s → cell_of w.k has s ≡ sum_at w (repeated (met w w.n) (length w.values)) had s
-adding_all w had steps taken has is all some =
+adding_all w had steps taken has is places all some =
     let e : ℕ = length w.values in
-    let long : length (met w steps) ≡ e * length (met w w.n) = ap (λ (m : ℕ). length (met w m)) all ∙ rounds-long (holds_bit w.k w.fill) w.start w.n e in
+    let keep : ℕ → Bool = holds_bit w.k w.fill in
+    let long : e * length (met w w.n) ≤ length (met w steps) = omega (arith, rounds-long keep w.start w.n e, walked-grows keep w.start w.n (e * w.n) steps all) in
     let enough : e * 1 ≤ e * length (met w w.n) = mul-le-mul_left e some in
-    adding_done w had steps taken has is (omega (arith, all)) (omega (arith, long, enough, is.count, is.within))
+    adding_done w had steps taken has is places (omega (arith, long, enough, is.count, is.within))
 
 -- a place with no bit is passed by
 pub adding_left : (w : Course) (had : List ℤ) (steps taken less : ℕ) (has more : List ℤ) (p : ℕ) → IsAdding w had steps taken has → p ≡ (w.start + steps) % w.n
@@ -127,3 +132,61 @@ adding_kept w had steps taken next has more p b d is at bit inside_b long left o
         get_or-set_other has (cell_index w.k b) (cell_index w.k s) (added (cell_of w.k has b) v) (pos 0) apart
         ∙ is.sums s inside
         ∙ sym (sum-miss (has_bit w.k w.fill s) (zip (met w steps) w.values) (cell_of w.k had s) p v (ap (is_bit s) bit ∙ e))
+
+-- what is written, by the bit
+pub changed : (k : ℕ) (b : Spot) (has : List ℤ) (i : ℕ) (old v value sum : ℤ) → i < length has → i ≡ cell_index k b → old ≡ get_or has i old → v ≡ value → sum ≡ added old v
+    → set has i sum ≡ set has (cell_index k b) (added (cell_of k has b) value)
+changed k b has i old v value sum within place read given is =
+    let cell : old ≡ cell_of k has b = get_or_read has i old within read (pos 0) ∙ ap (λ (n : ℕ). get_or has n (pos 0)) place in
+    ap (λ (n : ℕ). set has n sum) place ∙ ap (set has (cell_index k b)) (is ∙ ap (λ (a : ℤ). added a v) cell ∙ ap (added (cell_of k has b)) given)
+
+-- ---- a run of values
+
+-- values m and on of a part are those of the whole list
+abbrev pub AreFrom : List ℤ → ℕ → List ℤ → ℕ → Type 0
+AreFrom values taken part m = (i : ℕ) → i < m → get_or part i (pos 0) ≡ get_or values (taken + i) (pos 0)
+
+place_within : (k s n p i : ℕ) → p ≡ (k + s) % n → p + i < n → p + i ≡ (k + (s + i)) % n
+place_within k s n p i is within =
+    sym (ap (λ (m : ℕ). m % n) (let e : k + (s + i) ≡ i + (k + s) = omega arith in e)
+    ∙ sym (add-mod-mod i (k + s) n)
+    ∙ ap (λ (q : ℕ). (i + q) % n) (sym is)
+    ∙ mod-eq_of_lt (let below : i + p < n = omega (arith, within) in below)
+    ∙ (let e : i + p ≡ p + i = omega arith in e))
+
+pub adding_run : (w : Course) (had : List ℤ) (steps taken : ℕ) (has : List ℤ) (p m : ℕ) (bits : ℕ → Spot) (part : List ℤ) → IsAdding w had steps taken has → p ≡ (w.start + steps) % w.n → p + m ≤ w.n
+    → ((i : ℕ) → i < m → spot w.k w.fill (p + i) ≡ Some (bits i)) → ((i : ℕ) → i < m → IsBit w.k (bits i)) → length had ≡ 3 * (w.k + 4) → taken + m ≤ length w.values → AreFrom w.values taken part m
+    → IsAdding w had (steps + m) (taken + m) (with_values w.k bits part m has)
+adding_run w had steps taken has p zero bits part is at within bit inside long few from = record {
+  count = ap (λ (n : ℕ). length (met w n)) (let e : steps + 0 ≡ steps = omega arith in e) ∙ is.count ∙ (let e : taken ≡ taken + 0 = omega arith in e);
+  within = omega (arith, is.within);
+  long = is.long;
+  sums = λ s h. is.sums s h ∙ ap (λ (n : ℕ). sum_at w (met w n) had s) (let e : steps ≡ steps + 0 = omega arith in e);
+}
+adding_run w had steps taken has p (suc m) bits part is at within bit inside long few from =
+    let before : IsAdding w had (steps + m) (taken + m) (with_values w.k bits part m has) =
+    adding_run w had steps taken has p m bits part is at (omega (arith, within)) (λ i h. bit i (omega (arith, h))) (λ i h. inside i (omega (arith, h))) long (omega (arith, few)) (λ i h. from i (omega (arith, h))) in
+    let last : m < suc m = omega arith in
+    let here : p + m ≡ (w.start + (steps + m)) % w.n = place_within w.start steps w.n p m at (omega (arith, within)) in
+    let old : List ℤ = with_values w.k bits part m has in
+    let more = adding_kept w had (steps + m) (taken + m) (taken + m + 1) old (with_values w.k bits part (suc m) has) (p + m) (bits m) (pos 0) before here (bit m last) (inside m last) long (omega (arith, few)) refl
+    (ap (λ (v : ℤ). set old (cell_index w.k (bits m)) (added (cell_of w.k old (bits m)) v)) (from m last)) in
+    let P : ℕ → ℕ → Type 0 = λ a b. IsAdding w had a b (with_values w.k bits part (suc m) has) in
+    subst (λ (a : ℕ). P a (taken + suc m)) (let e : steps + m + 1 ≡ steps + suc m = omega arith in e) (subst (λ (b : ℕ). P (steps + m + 1) b) (let e : taken + m + 1 ≡ taken + suc m = omega arith in e) more)
+
+-- ---- a walk that leaps over runs
+
+-- a cursor has gone so many steps at least
+pub record IsWalking (w : Course) (had : List ℤ) (rows steps : ℕ) (c : Cursor) (taken : ℕ) (has : List ℤ) : Type 0 where
+  pub gone : ℕ
+  pub far : steps ≤ gone
+  pub at : c ≡ cursor_at rows ((w.start + gone) % w.n)
+  pub adding : IsAdding w had gone taken has
+
+pub walking_begun : (w : Course) (had : List ℤ) (rows : ℕ) (c : Cursor) → c ≡ cursor_at rows (w.start % w.n) → IsWalking w had rows 0 c 0 had
+walking_begun w had rows c is = record {
+  gone = 0;
+  far = omega arith;
+  at = is ∙ ap (λ (m : ℕ). cursor_at rows (m % w.n)) (let e : w.start ≡ w.start + 0 = omega arith in e);
+  adding = record { count = refl; within = omega arith; long = refl; sums = λ s h. refl };
+}

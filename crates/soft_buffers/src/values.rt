@@ -4,7 +4,9 @@ ghost use Rattle.std.specs.List.{zip};
 ghost use Rattle.sender_model.specs.declared.spot.Spot.{Spot as Bit};
 ghost use Rattle.sender_model.specs.Selection.{bits_from, holds_bit, repeated};
 ghost use Rattle.receiver_model.specs.SoftCells.{added, has_bit, values_where};
+ghost use Rattle.rate_match.specs.Cursor.{IsRun, spot_down};
 ghost use Rattle.soft_buffers.specs.Buffers.{IsBit, cell_index, cell_of};
+ghost use Rattle.soft_buffers.specs.Runs.{with_values};
 
 use lte_bits::Soft;
 use rate_match::{Cursor, Ring, Spot};
@@ -27,6 +29,20 @@ fn added(cell: Soft, value: Soft) -> Soft
     cell.add_sat(value)
 }
 
+/// Adds the values of a run to the cells of its bits, from the cursor on.
+fn add_run(cells: &mut [Soft], ring: Ring, cursor: Cursor, values: &[Soft])
+    requires cells { length cells.old ≡ 3 * (ring.k + 4) }
+    requires within { cursor.n + length values.now ≤ ring.size }
+    requires run { IsRun ring.rows ring.k ring.fill cursor (length values.now) }
+    ensures { cells.new ≡ with_values ring.k (spot_down ring.rows ring.k cursor) values.now
+        (length values.now) cells.old }
+{
+    for (i, value) in values.iter().enumerate() {
+        let n = cell_index(ring.k, cursor.spot_down(ring, i));
+        cells[n] = added(cells[n], *value);
+    }
+}
+
 /// Adds each value at once to the cell of the bit that it is of: the bits stand in the ring from place
 /// `start` on, round and round.
 pub fn add_values(cells: &mut [Soft], ring: Ring, start: usize, values: &[Soft])
@@ -44,7 +60,12 @@ pub fn add_values(cells: &mut [Soft], ring: Ring, start: usize, values: &[Soft])
         if taken == values.len() {
             return;
         }
-        if let Some(spot) = cursor.spot(ring) {
+        let run = cursor.run(ring, values.len() - taken);
+        if run > 0 {
+            add_run(cells, ring, cursor, &values[taken..taken + run]);
+            taken += run;
+            cursor = cursor.down(ring, run - 1);
+        } else if let Some(spot) = cursor.spot(ring) {
             let n = cell_index(ring.k, spot);
             cells[n] = added(cells[n], values[taken]);
             taken += 1;

@@ -1,5 +1,5 @@
 -- The answer to what a stream still says.
-use Rattle.std.proofs.Common.{ℕ, ◌-◌, ◌<◌, List, [], ◌∷◌, arith}
+use Rattle.std.proofs.Common.{◌≡◌, ℕ, ◌+◌, ◌-◌, ◌<◌, refl, List, [], ◌∷◌, arith}
 use Rattle.coded_stream.specs.Header.{Header}
 use Rattle.coded_stream.specs.Blocks.{Block}
 use Rattle.coded_stream.specs.Body.{Ending, whole, bad}
@@ -8,7 +8,8 @@ use Rattle.coded_stream.specs.Stream.{most_blocks}
 use Rattle.coded_stream.proofs.BlockSteps.{step-due}
 use Rattle.coded_stream.proofs.Remaining.{body-due}
 use Rattle.run_loop.specs.Due.{IsDue, IsWithin}
-use Rattle.stream_loop.specs.Handling.{Handling, blocks_answer}
+use Rattle.run_loop.proofs.Within.{within_next}
+use Rattle.stream_loop.specs.Handling.{Handling, blocks_answer, one_if}
 use Rattle.stream_loop.specs.Rounds.{answer_ahead}
 
 -- fewer bytes than the first thing of a stream wants leave it unknown
@@ -28,11 +29,22 @@ some_due r input =
     let more = most_blocks - r.blocks in
     omega (arith, step-due r.header more r.place input 0 (omega arith) (omega arith), body-due r.header more r.place input)
 
-within_behind : (w : Handling) (h : Header) (number failed : ℕ) (blocks : List Block) (ending : Ending) → 0 < due_of blocks ending →
-    IsWithin 1 (blocks_answer w h number failed blocks ending) 0
-within_behind w h number failed [] whole some = (omega arith, λ _. some)
-within_behind w h number failed [] (bad refusal) some = (omega arith, λ _. some)
-within_behind w h number failed (b ∷ blocks) ending some = (omega arith, λ none. cc)
+-- one block is read before it is written
+one_behind : (w : Handling) (h : Header) (number failed : ℕ) (blocks : List Block) (ending : Ending) → (blocks_answer w h number failed blocks ending).ahead ≡ 1
+one_behind w h number failed [] whole = refl
+one_behind w h number failed [] (bad refusal) = refl
+one_behind w h number failed (b ∷ blocks) ending = one_behind w h (number + 1) (failed + one_if (w.block h number b).failed) blocks ending
 
-pub within_ahead : (w : Handling) (r : Reading) (failed : ℕ) (input : List ℕ) → IsWithin 1 (answer_ahead w r failed input) 0
-within_ahead w r failed input = within_behind w r.header r.blocks failed (remaining r input).blocks (remaining r input).ending (some_due r input)
+pub one_ahead : (w : Handling) (r : Reading) (failed : ℕ) (input : List ℕ) → (answer_ahead w r failed input).ahead ≡ 1
+one_ahead w r failed input = one_behind w r.header r.blocks failed (remaining r input).blocks (remaining r input).ending
+
+some_behind : (w : Handling) (h : Header) (number failed : ℕ) (blocks : List Block) (ending : Ending) → 0 < due_of blocks ending →
+    (blocks_answer w h number failed blocks ending).parts ≡ [] → 0 < (blocks_answer w h number failed blocks ending).due
+some_behind w h number failed [] whole some none = some
+some_behind w h number failed [] (bad refusal) some none = some
+some_behind w h number failed (b ∷ blocks) ending some none = cc
+
+pub within_ahead : (w : Handling) (r : Reading) (failed : ℕ) (input : List ℕ) → IsWithin (answer_ahead w r failed input) 0
+within_ahead w r failed input =
+    within_next (answer_ahead w r failed input) 0 (one_ahead w r failed input) (omega arith)
+    (some_behind w r.header r.blocks failed (remaining r input).blocks (remaining r input).ending (some_due r input))

@@ -14,11 +14,13 @@ use Rattle.run_loop.specs.Due.{IsWithin}
 use Rattle.run_loop.specs.Step.{Steps, Stops, ending_of}
 use Rattle.run_loop.specs.declared.work.Round.{Round}
 use Rattle.run_loop.specs.declared.work.Stop.{Stop}
-use Rattle.run_loop.specs.declared.work.Stop.TheVariants.{Go, End, Bad, Fault, NoMemory}
+use Rattle.run_loop.specs.declared.work.Stop.TheVariants.{Go, End, Fails}
+use Rattle.run_loop.specs.declared.status.Status.TheVariants.{BadStream, ReadFault, NoMemory}
 use Rattle.run_loop.proofs.Alone.{step_alone}
+use Rattle.run_loop.proofs.Within.{within_next}
 use Rattle.stream_loop.specs.Handling.{Handling, part, one_if, body_answer}
-use Rattle.stream_loop.specs.Rounds.{answer_ahead, block_of, stop_of, IsEnding, IsGoing}
-use Rattle.stream_loop.proofs.Answered.{due_ahead, within_ahead}
+use Rattle.stream_loop.specs.Rounds.{answer_ahead, block_of, status_of, IsEnding, IsGoing}
+use Rattle.stream_loop.proofs.Answered.{due_ahead, one_ahead, within_ahead}
 
 -- these bytes were taken
 taken : (old new : Option (List ℕ)) (bytes left : List ℕ) → old ≡ Some (bytes ++ left) → new ≡ Some left → Takes old new bytes
@@ -53,11 +55,11 @@ answered : (w : Handling) (r : Reading) (failed : ℕ) (input : List ℕ) (b : B
 answered w r failed input b old new read = ap (body_answer w r.header r.blocks failed) read.says
 
 -- the block was made, and more is to come
-pub step_of_block : (w : Handling) (r r' : Reading) (failed failed' : ℕ) (input into : List ℕ) (n : ℕ) (fits : List ℕ → Type 0) (old new : Option (List ℕ)) (round : Round) (fails : Bool) →
+pub step_of_block : (w : Handling) (r r' : Reading) (failed failed' : ℕ) (input into : List ℕ) (n : ℕ) (old new : Option (List ℕ)) (round : Round) (fails : Bool) →
     GoesOn (remaining r input) (remaining r') into old new (Ok (Some n)) → Advances r r' into (Ok (Some n)) →
-    IsGoing (w.block r.header r.blocks (block_of n into)) (block_of n into) round fails → failed' ≡ failed + one_if fails → ((rest : List ℕ) → fits rest) →
-    Steps 1 (answer_ahead w r failed input) (answer_ahead w r' failed') fits old new round
-step_of_block w r r' failed failed' input into n fits old new round fails on moved made counted fit =
+    IsGoing (w.block r.header r.blocks (block_of n into)) (block_of n into) round fails → failed' ≡ failed + one_if fails →
+    Steps (answer_ahead w r failed input) (answer_ahead w r' failed') old new round
+step_of_block w r r' failed failed' input into n old new round fails on moved made counted =
     let b = block_of n into in
     let p = part (w.block r.header r.blocks b) b in
     let read = block_read r r' input into n old new on moved in
@@ -67,68 +69,66 @@ step_of_block w r r' failed failed' input into n fits old new round fails on mov
     ∙ ap (λ (k : ℕ). answer_ahead w (past r b) k read.left) (sym counted)
     ∙ ap (λ (s : Reading). answer_ahead w s failed' read.left) (sym moved.2) in
     let one : length read.bytes ≡ size_of (p ∷ []) = omega (arith, read.size) in
-    let P : Stop → Type 0 = λ stop. Stops 1 more (answer_ahead w r' failed') fits new new stop in (
+    let P : Stop → Type 0 = λ stop. Stops more (answer_ahead w r' failed') new new stop in (
       more,
-      read.bytes,
       new,
       answered w r failed input b old new read ∙ ap (λ (ps : List Part). behind ps more) (sym made.0.0),
-      one ∙ sym (ap size_of made.0.0),
-      taken old new read.bytes read.left read.old_is read.new_is,
-      subst P (sym made.0.1) (read.left, read.new_is, read.new_is, same, fit read.left),
+      (read.bytes, taken old new read.bytes read.left read.old_is read.new_is, one ∙ sym (ap size_of made.0.0)),
+      subst P (sym made.0.1) (read.left, read.new_is, read.new_is, same),
     )
 
 -- memory was wanting once it was read
-pub step_of_want : (w : Handling) (r r' : Reading) (failed : ℕ) (input into : List ℕ) (n : ℕ) (after : List ℕ → Answer) (fits : List ℕ → Type 0) (old new : Option (List ℕ)) (round : Round) →
+pub step_of_want : (w : Handling) (r r' : Reading) (failed : ℕ) (input into : List ℕ) (n : ℕ) (after : List ℕ → Answer) (old new : Option (List ℕ)) (round : Round) →
     GoesOn (remaining r input) (remaining r') into old new (Ok (Some n)) → Advances r r' into (Ok (Some n)) →
-    round.blocks.items ≡ [] → round.stop ≡ NoMemory → Steps 1 (answer_ahead w r failed input) after fits old new round
-step_of_want w r r' failed input into n after fits old new round on moved none is =
+    round.parts.items ≡ [] → round.stop ≡ Fails NoMemory → Steps (answer_ahead w r failed input) after old new round
+step_of_want w r r' failed input into n after old new round on moved none is =
     let b = block_of n into in
     let read = block_read r r' input into n old new on moved in
-    let P : Answer → Type 0 = λ a. IsWithin 1 a (length read.bytes) in
-    step_alone 1 (answer_ahead w r failed input) after fits old new round NoMemory none is (
+    let P : Answer → Type 0 = λ a. IsWithin a (length read.bytes) in
+    let more = answer_ahead w (past r b) (failed + one_if (w.block r.header r.blocks b).failed) read.left in
+    step_alone (answer_ahead w r failed input) after old new round (Fails NoMemory) none is (
       read.bytes,
       taken old new read.bytes read.left read.old_is read.new_is,
-      subst P (sym (answered w r failed input b old new read)) (omega (arith, read.size), λ no. cc),
+      subst P (sym (answered w r failed input b old new read))
+          (within_next (behind (part (w.block r.header r.blocks b) b ∷ []) more) (length read.bytes) (one_ahead w (past r b) _ read.left) (omega (arith, read.size)) (λ no. cc)),
     )
 
 -- ---- no block
 
 -- memory was wanting before anything was read
-pub step_of_none : (w : Handling) (r : Reading) (failed : ℕ) (input : List ℕ) (after : List ℕ → Answer) (fits : List ℕ → Type 0) (old new : Option (List ℕ)) (round : Round) →
-    round.blocks.items ≡ [] → round.stop ≡ NoMemory → new ≡ old → Steps 1 (answer_ahead w r failed input) after fits old new round
-step_of_none w r failed input after fits old new round none is same =
+pub step_of_none : (w : Handling) (r : Reading) (failed : ℕ) (input : List ℕ) (after : List ℕ → Answer) (old new : Option (List ℕ)) (round : Round) →
+    round.parts.items ≡ [] → round.stop ≡ Fails NoMemory → new ≡ old → Steps (answer_ahead w r failed input) after old new round
+step_of_none w r failed input after old new round none is same =
     let P : Option (List ℕ) → Type 0 = λ o. Takes old o [] in
-    step_alone 1 (answer_ahead w r failed input) after fits old new round NoMemory none is ([], subst P (sym same) (takes_none old), within_ahead w r failed input)
+    step_alone (answer_ahead w r failed input) after old new round (Fails NoMemory) none is ([], subst P (sym same) (takes_none old), within_ahead w r failed input)
 
 -- the reader stopped
-pub step_of_stop : (w : Handling) (r r' : Reading) (failed : ℕ) (input into : List ℕ) (stop : StreamStop) (after : List ℕ → Answer) (fits : List ℕ → Type 0) (old new : Option (List ℕ)) (round : Round) →
+pub step_of_stop : (w : Handling) (r r' : Reading) (failed : ℕ) (input into : List ℕ) (stop : StreamStop) (after : List ℕ → Answer) (old new : Option (List ℕ)) (round : Round) →
     GoesOn (remaining r input) (remaining r') into old new (Err stop) →
-    round.blocks.items ≡ [] → round.stop ≡ stop_of stop → Steps 1 (answer_ahead w r failed input) after fits old new round
-step_of_stop w r r' failed input into (reader.Bad number place) after fits old new round (bytes, left, due, old_is, new_is, says) none is =
+    round.parts.items ≡ [] → round.stop ≡ Fails (status_of stop) → Steps (answer_ahead w r failed input) after old new round
+step_of_stop w r r' failed input into (reader.Bad number place) after old new round (bytes, left, due, old_is, new_is, says) none is =
     let refusal = no_more (bad (record { number = number; place = place; size = length bytes; due = due })) in
-    let P : Body → Type 0 = λ rest. Steps 1 (body_answer w r.header r.blocks failed rest) after fits old new round in
+    let P : Body → Type 0 = λ rest. Steps (body_answer w r.header r.blocks failed rest) after old new round in
     subst P (sym says)
-    (step_alone 1 (body_answer w r.header r.blocks failed refusal) after fits old new round (Bad number place) none is
-    (bytes, taken old new bytes left old_is new_is, refl, refl, refl))
-step_of_stop w r r' failed input into reader.Fault after fits old new round (bytes, took, few) none is =
-    step_alone 1 (answer_ahead w r failed input) after fits old new round Fault none is (bytes, took, due_ahead w r failed input (length bytes) few)
-step_of_stop w r r' failed input into reader.NoMemory after fits old new round same none is =
-    step_of_none w r failed input after fits old new round none is same
+    (step_alone (body_answer w r.header r.blocks failed refusal) after old new round (Fails (BadStream number place)) none is
+    (refl, refl, (bytes, taken old new bytes left old_is new_is, refl)))
+step_of_stop w r r' failed input into reader.Fault after old new round (bytes, took, few) none is =
+    step_alone (answer_ahead w r failed input) after old new round (Fails ReadFault) none is (bytes, took, due_ahead w r failed input (length bytes) few)
+step_of_stop w r r' failed input into reader.NoMemory after old new round same none is =
+    step_of_none w r failed input after old new round none is same
 
-ends : (w : Handling) (h : Header) (number failed : ℕ) (after : List ℕ → Answer) (fits : List ℕ → Type 0) (old new : Option (List ℕ)) (stop : Stop) → IsEnding w number failed stop → new ≡ Some [] →
-    Stops 1 (body_answer w h number failed (no_more whole)) after fits old new stop
-ends w h number failed after fits old new (End closing last some) is at = (at, refl, sym is.0, sym is.1, ap ending_of (sym is.2))
-ends w h number failed after fits old new Go is at = absurd is
-ends w h number failed after fits old new (Bad n place) is at = absurd is
-ends w h number failed after fits old new Fault is at = absurd is
-ends w h number failed after fits old new NoMemory is at = absurd is
+ends : (w : Handling) (h : Header) (number failed : ℕ) (after : List ℕ → Answer) (old new : Option (List ℕ)) (stop : Stop) → IsEnding w h number failed stop → new ≡ Some [] →
+    Stops (body_answer w h number failed (no_more whole)) after old new stop
+ends w h number failed after old new (End closing last some) is at = (at, refl, sym is.0, sym is.1, ap ending_of (sym is.2))
+ends w h number failed after old new Go is at = absurd is
+ends w h number failed after old new (Fails status) is at = absurd is
 
 -- the stream ended
-pub step_of_end : (w : Handling) (r r' : Reading) (failed : ℕ) (input into : List ℕ) (after : List ℕ → Answer) (fits : List ℕ → Type 0) (old new : Option (List ℕ)) (round : Round) (stop : Stop) →
+pub step_of_end : (w : Handling) (r r' : Reading) (failed : ℕ) (input into : List ℕ) (after : List ℕ → Answer) (old new : Option (List ℕ)) (round : Round) (stop : Stop) →
     GoesOn (remaining r input) (remaining r') into old new (Ok None) →
-    IsEnding w r.blocks failed stop → round.blocks.items ≡ [] → round.stop ≡ stop → Steps 1 (answer_ahead w r failed input) after fits old new round
-step_of_end w r r' failed input into after fits old new round stop (bytes, old_is, new_is, size, says) end none is =
-    let P : Body → Type 0 = λ rest. Steps 1 (body_answer w r.header r.blocks failed rest) after fits old new round in
+    IsEnding w r.header r.blocks failed stop → round.parts.items ≡ [] → round.stop ≡ stop → Steps (answer_ahead w r failed input) after old new round
+step_of_end w r r' failed input into after old new round stop (bytes, old_is, new_is, size, says) end none is =
+    let P : Body → Type 0 = λ rest. Steps (body_answer w r.header r.blocks failed rest) after old new round in
     subst P (sym says)
-    (step_alone 1 (body_answer w r.header r.blocks failed (no_more whole)) after fits old new round stop none is
-    (ends w r.header r.blocks failed after fits old new stop end new_is))
+    (step_alone (body_answer w r.header r.blocks failed (no_more whole)) after old new round stop none is
+    (ends w r.header r.blocks failed after old new stop end new_is))

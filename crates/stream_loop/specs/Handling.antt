@@ -1,14 +1,15 @@
 -- What a command answers to a stream: something for each of its blocks, in order.
-use Rattle.std.specs.Prelude.{ℕ, ◌+◌, Bool, List, [], ◌∷◌, length, nat_lt, if◌then◌else◌}
+use Rattle.std.specs.Prelude.{ℕ, ◌+◌, Bool, List, [], ◌∷◌, length, nat_lt, if◌then◌else◌, None, Some}
+use Rattle.std.specs.declared.option.Option.{Option}
 use Rattle.coded_stream.specs.Header.{Header, header_text}
 use Rattle.coded_stream.specs.Blocks.{Block}
 use Rattle.coded_stream.specs.Opening.{Opening, opens, refuses, opening}
 use Rattle.coded_stream.specs.Body.{Body, body, whole, bad}
 use Rattle.coded_stream.specs.Body as stream
 use Rattle.coded_stream.specs.Stream.{most_blocks}
+use Rattle.coded_stream.specs.Text.{end_word}
 use Rattle.coded_stream.specs.declared.kind.Want.{Want}
-use Rattle.run_loop.specs.Answer.{Part, Answer, behind, opened, refusal, closed}
-use Rattle.run_loop.specs.Reply.{Reply, unopened, begun}
+use Rattle.run_loop.specs.Answer.{Part, Answer, behind, heading, refusal, closed}
 use Rattle.run_loop.specs.Step.{ending_of}
 
 -- what a block adds to `out` and to the report, and whether it failed
@@ -17,13 +18,13 @@ pub record Handled : Type 0 where
   pub line : List ℕ
   pub failed : Bool
 
--- A command over a stream: which streams it takes, what `out` begins with, what each block comes to, by its
--- number from 0, what closes `out`, and the report's last line, behind so many blocks of which so many failed.
+-- A command over a stream: which streams it takes, the header of the stream that it writes, if it writes one,
+-- what each block comes to, by its number from 0, and the report's last line, behind so many blocks of which so
+-- many failed.
 pub record Handling : Type 0 where
   pub want : Want
-  pub opening : Header → List ℕ
+  pub header : Header → Option Header
   pub block : Header → (number : ℕ) → Block → Handled
-  pub closing : List ℕ
   pub last : (blocks failed : ℕ) → List ℕ
 
 -- ---- the blocks
@@ -35,11 +36,16 @@ part x b = record { text = x.text; line = x.line; size = 4 + length b.bytes; wan
 abbrev pub one_if : Bool → ℕ
 one_if failed = if failed then 1 else 0
 
+-- what closes `out`: the end word, where a stream is written
+abbrev pub closing_text : Option Header → List ℕ
+closing_text None = []
+closing_text (Some h) = end_word
+
 -- Of the blocks behind so many others, of which so many failed. An end word of 4 bytes ends the stream, which
 -- is known once the end of the input was seen behind it.
 abbrev pub blocks_answer : Handling → Header → (number failed : ℕ) → List Block → stream.Ending → Answer
 blocks_answer w h number failed [] whole =
-    closed w.closing (w.last number failed) (ending_of (nat_lt 0 failed)) 4 5
+    closed (closing_text (w.header h)) (w.last number failed) (ending_of (nat_lt 0 failed)) 4 5
 blocks_answer w h number failed [] (bad r) = refusal r.number r.place r.size r.due
 blocks_answer w h number failed (b ∷ blocks) ending =
     let x = w.block h number b in
@@ -50,12 +56,17 @@ body_answer w h number failed rest = blocks_answer w h number failed rest.blocks
 
 -- ---- the whole
 
--- a header, and the blocks behind it, or a header that is refused
-abbrev pub opening_reply : Handling → Opening → Reply
-opening_reply w (opens h left) =
-    let size = length (header_text h) in
-    begun size 1 (opened (w.opening h) (body_answer w h 0 0 (body h most_blocks size left)))
-opening_reply w (refuses r) = unopened r.number r.place r.size r.due
+-- what `out` begins with: the header, where a stream is written
+abbrev pub opening_text : Option Header → List ℕ
+opening_text None = []
+opening_text (Some h) = header_text h
 
-unfoldable pub stream_reply : Handling → (input : List ℕ) → Reply
-stream_reply w input = opening_reply w (opening w.want input)
+-- a header, and the blocks behind it, or a header that is refused
+abbrev pub opening_answer : Handling → Opening → Answer
+opening_answer w (opens h left) =
+    let size = length (header_text h) in
+    behind (heading (opening_text (w.header h)) size ∷ []) (body_answer w h 0 0 (body h most_blocks size left))
+opening_answer w (refuses r) = refusal r.number r.place r.size r.due
+
+unfoldable pub stream_answer : Handling → (input : List ℕ) → Answer
+stream_answer w input = opening_answer w (opening w.want input)

@@ -1,6 +1,6 @@
 -- What a round of a command over a stream gives.
 use Rattle.std.specs.Prelude.{◌≡◌, ℕ, ◌≤◌, List, [], ◌∷◌, Bool, true, nat_lt}
-use Rattle.coded_stream.specs.Header.{kind_code}
+use Rattle.coded_stream.specs.Header.{Header, kind_code}
 use Rattle.coded_stream.specs.Blocks.{Block}
 use Rattle.coded_stream.specs.Opening.{is_wanted}
 use Rattle.coded_stream.specs.Steps.{Reading, remaining}
@@ -11,8 +11,10 @@ use Rattle.run_loop.specs.Answer.{Part, Answer}
 use Rattle.run_loop.specs.Step.{parts_of}
 use Rattle.run_loop.specs.declared.work.Round.{Round}
 use Rattle.run_loop.specs.declared.work.Stop.{Stop}
-use Rattle.run_loop.specs.declared.work.Stop.TheVariants.{Go, End, Bad, Fault, NoMemory}
-use Rattle.stream_loop.specs.Handling.{Handled, Handling, part, body_answer}
+use Rattle.run_loop.specs.declared.work.Stop.TheVariants.{Go, End}
+use Rattle.run_loop.specs.declared.status.Status.{Status}
+use Rattle.run_loop.specs.declared.status.Status.TheVariants.{BadStream, ReadFault, NoMemory}
+use Rattle.stream_loop.specs.Handling.{Handled, Handling, closing_text, part, body_answer}
 use Rattle.stream_loop.specs.declared.handler.Handled as rust
 
 -- ---- what the loop knows
@@ -36,21 +38,21 @@ answer_ahead w r failed input = body_answer w r.header r.blocks failed (remainin
 
 -- ---- what it makes
 
--- how a round stops where the reader does
-abbrev pub stop_of : StreamStop → Stop
-stop_of (reader.Bad number place) = Bad number place
-stop_of reader.Fault = Fault
-stop_of reader.NoMemory = NoMemory
+-- how a run ends where the reader stops
+abbrev pub status_of : StreamStop → Status
+status_of (reader.Bad number place) = BadStream number place
+status_of reader.Fault = ReadFault
+status_of reader.NoMemory = NoMemory
 
 -- the end behind so many blocks, of which so many failed
-abbrev pub IsEnding : Handling → (number failed : ℕ) → Stop → Type 0
-IsEnding w number failed (End closing last some) = (closing.items ≡ w.closing)
+abbrev pub IsEnding : Handling → Header → (number failed : ℕ) → Stop → Type 0
+IsEnding w h number failed (End closing last some) = (closing.items ≡ closing_text (w.header h))
     × (last.items ≡ w.last number failed) × (some ≡ nat_lt 0 failed)
-IsEnding w number failed _ = ⊥
+IsEnding w h number failed _ = ⊥
 
 -- a block alone, with more to come
 abbrev pub IsAlone : Part → Round → Type 0
-IsAlone p round = (parts_of round.blocks.items ≡ p ∷ []) × (round.stop ≡ Go)
+IsAlone p round = (parts_of round.parts.items ≡ p ∷ []) × (round.stop ≡ Go)
 
 -- the round of what a block comes to, and whether it failed
 abbrev pub IsGoing : Handled → Block → Round → Bool → Type 0

@@ -1,6 +1,6 @@
 //! A command over a stream.
-ghost use Rattle.std.specs.Prelude.{◌≡◌, ◌≤◌, ◌<◌, ℕ, true, OnOk, OnErr, IfOk, take};
-ghost use Rattle.edge_io.specs.Edge.{Adds, HasCause};
+ghost use Rattle.std.specs.Prelude.{◌≡◌, ◌≤◌, ◌<◌, ℕ, true, IfOk};
+ghost use Rattle.std.specs.Option.{option_map};
 ghost use Rattle.coded_stream.specs.Header.{kind_code};
 ghost use Rattle.coded_stream.specs.Blocks.{IsBlock};
 ghost use Rattle.coded_stream.specs.Opening.{is_wanted};
@@ -8,7 +8,6 @@ ghost use Rattle.coded_stream.specs.Shown.{header_of};
 ghost use Rattle.stream_loop.specs.Handling.{Handling};
 
 use coded_stream::{Header, Want};
-use edge_io::{Sink, SinkFault};
 use lte_bits::NoMemory;
 use std::alloc::Global;
 
@@ -37,13 +36,10 @@ pub trait Handler: Drop {
     fn want(&self) -> Want
         ensures { result ≡ (handling self.now).want };
 
-    /// Writes what `out` begins with, once the header was accepted.
-    fn open<D: Sink>(&self, header: &Header, out: &mut D) -> Result<(), SinkFault>
-        ensures ok { OnOk result (Adds (D.held out.old) (D.held out.new)
-            ((handling self.now).opening (header_of header.now))) }
-        ensures err { OnErr result ((n : ℕ) × Adds (D.held out.old) (D.held out.new)
-            (take n ((handling self.now).opening (header_of header.now)))) }
-        ensures cause { HasCause (D.faults out.old) (D.faults out.new) result };
+    /// The header of the stream that it writes, for that of the stream that it reads; none where it
+    /// writes no stream.
+    fn header(&self, header: &Header) -> Option<Header>
+        ensures { option_map header_of result ≡ (handling self.now).header (header_of header.now) };
 
     /// What a block comes to: its number, from 0, the bytes of its payload, and the bytes of its
     /// transmissions, one transmission after the other.
@@ -61,10 +57,6 @@ pub trait Handler: Drop {
         requires accepted { IsBlock (header_of header.now) (block_of payload bytes.now) }
         ensures { IfOk result (λ x. handled_of x ≡ (handling self.now).block (header_of header.now)
             number (block_of payload bytes.now)) };
-
-    /// What closes `out`.
-    fn closing(&self, alloc: Global) -> Result<Vec<u8>, NoMemory>
-        ensures { IfOk result (λ text. text.items ≡ (handling self.now).closing) };
 
     /// The report's last line, behind so many blocks, at most 4,096, of which so many failed.
     fn last(&self, alloc: Global, blocks: usize, failed: usize) -> Result<Vec<u8>, NoMemory>

@@ -3,8 +3,10 @@
 #![tactic(auto)]
 
 mod handler;
-mod reading;
-mod running;
+mod rounds;
+mod softs;
+mod stream;
 
 pub use handler::{Handled, Handler};
-pub use running::run_stream;
+pub use softs::{push_bytes, softs_of};
+pub use stream::Stream;

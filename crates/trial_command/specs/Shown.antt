@@ -1,4 +1,5 @@
 -- What contracts see of a trial.
+use Rattle.block_receive.specs.Effort.{effort_of}
 use Rattle.trial_command.specs.Trials.{Trial}
 use Rattle.trial_command.specs.declared.trial.Trial as rust
 
@@ -9,5 +10,5 @@ trial_of t = record {
   tb = t.tb;
   sends = t.sends;
   strength = record { amp = t.amp; noise = t.noise };
-  effort = record { windows = t.windows; limit = t.limit };
+  effort = effort_of t.effort;
 }

@@ -11,7 +11,7 @@ use Rattle.rate_match.specs.declared.sends.Sending.{Sending}
 use Rattle.block_receive.specs.Receptions.{receptions}
 use Rattle.soft_channel.specs.Noise.{Strength, Transmission, noisy}
 use Rattle.soft_channel.specs.TrialPayload.{trial_payload}
-use Rattle.report_lines.specs.Lines.{line_end}
+use Rattle.run_loop.specs.Lines.{line_end}
 use Rattle.run_loop.specs.Reply.{Reply, unread}
 use Rattle.run_loop.specs.Step.{ending_of}
 use Rattle.trial_command.specs.declared.counts.Counts.{Counts}

@@ -85,8 +85,8 @@ impl Trial {
             alloc,
             &plan,
             &self.sends,
-            self.windows,
-            self.limit,
+            self.effort.windows,
+            self.effort.limit,
             softs.as_slice(),
         )
     }

@@ -1,8 +1,8 @@
 //! A trial as a whole.
 ghost use Rattle.std.specs.Prelude.{◌≡◌, ◌≤◌, ℕ, List, IfOk};
 ghost use Rattle.std.specs.declared.option.Option.{Option};
-ghost use Rattle.run_loop.specs.Edges.{held, counts, Causes};
-ghost use Rattle.run_loop.specs.Reply.{EndsReply};
+ghost use Rattle.run_loop.specs.Edges.{told};
+ghost use Rattle.run_loop.specs.Reply.{Ends};
 ghost use Rattle.trial_command.specs.Shown.{trial_of};
 ghost use Rattle.trial_command.specs.Trials.{counted, trial_line, trial_reply, IsTold};
 
@@ -10,8 +10,7 @@ use crate::counts::Counts;
 use crate::trial::Trial;
 use edge_io::{Sink, SinkFault, write_all};
 use lte_bits::NoMemory;
-use report_lines::{end_line, push_number};
-use run_loop::{SinkName, Status};
+use run_loop::{SinkName, Status, end_line, push_number};
 use soft_channel::payload;
 use std::alloc::Global;
 
@@ -44,7 +43,7 @@ fn trial_line(alloc: Global, blocks: usize, sums: &Counts) -> Result<Vec<u8>, No
 }
 
 /// The line of all blocks, and whether one of them failed.
-fn told(alloc: Global, trial: &Trial) -> Result<(Vec<u8>, bool), NoMemory>
+fn summed(alloc: Global, trial: &Trial) -> Result<(Vec<u8>, bool), NoMemory>
     ensures { IfOk result (λ made. IsTold (trial_of trial.now) made.0.items made.1) }
 {
     let sums = counted(alloc, trial)?;
@@ -55,13 +54,11 @@ fn told(alloc: Global, trial: &Trial) -> Result<(Vec<u8>, bool), NoMemory>
 /// Runs a trial, and writes its line to the report: `Done`, or `SomeFailed` where a block failed. Nothing is read,
 /// and nothing goes to `out`.
 pub fn run_trial<R: Sink>(alloc: Global, trial: &Trial, report: &mut R) -> Status
-    ensures ended { (left out : Option (List ℕ)) → EndsReply (trial_reply (trial_of trial.now))
-        (held left out (R.held report.old)) (held left out (R.held report.new)) result }
-    ensures causes { (reads outs : ℕ) → Causes (counts reads outs (R.faults report.old))
-        (counts reads outs (R.faults report.new)) result }
-    ensures later { R.faults report.old ≤ R.faults report.new }
+    ensures { (left out : Option (List ℕ)) (reads outs : ℕ) → Ends (λ _. trial_reply (trial_of trial.now))
+        (told left out (R.held report.old) reads outs (R.faults report.old))
+        (told left out (R.held report.new) reads outs (R.faults report.new)) result }
 {
-    match told(alloc, trial) {
+    match summed(alloc, trial) {
         Ok((line, failed)) => {
             if let Err(SinkFault) = write_all(report, line.as_slice()) {
                 return Status::WriteFault {

@@ -3,11 +3,12 @@ ghost use Rattle.std.specs.Prelude.{◌≡◌, ◌≤◌, true};
 ghost use Rattle.rate_match.specs.Sendings.{AreSendings, common};
 ghost use Rattle.rate_match.specs.Fitting.{fits_all};
 
+use block_receive::Effort;
 use rate_match::Sends;
 
 /// What a trial is: its seed; how many blocks, 1 to 4,096, of how many bytes, 1 to 18,722, each sent in which
 /// transmissions, whose soft buffer fits them; the amplitude, 1 to 127, of a sent bit, and the noise on it, 0
-/// to 127; and the greatest numbers of windows, 1 to 64, and of iterations, 1 to 16.
+/// to 127; and the effort for each code block.
 #[derive(Clone, Copy, Debug)]
 pub struct Trial {
     pub seed: u64,
@@ -16,8 +17,7 @@ pub struct Trial {
     pub sends: Sends,
     pub amp: u8,
     pub noise: u8,
-    pub windows: usize,
-    pub limit: usize,
+    pub effort: Effort,
     pub ghost few_blocks: { blocks ≤ 4096 },
     pub ghost some: { 1 ≤ tb },
     pub ghost few: { tb ≤ 18722 },
@@ -26,8 +26,4 @@ pub struct Trial {
     pub ghost some_amp: { 1 ≤ amp },
     pub ghost few_amp: { amp ≤ 127 },
     pub ghost few_noise: { noise ≤ 127 },
-    pub ghost some_windows: { 1 ≤ windows },
-    pub ghost few_windows: { windows ≤ 64 },
-    pub ghost some_iterations: { 1 ≤ limit },
-    pub ghost few_iterations: { limit ≤ 16 },
 }

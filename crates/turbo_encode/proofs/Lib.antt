@@ -1,3 +1,6 @@
-mod CellSteps
 mod TailBits
 mod StreamsMade
+mod FilledCells
+mod FourSteps
+mod FourWritten
+mod Halves

@@ -1,6 +1,5 @@
 -- The streams from the cells of the coders and the states in which they ended.
-use Rattle.std.proofs.Common.{◌≡◌, ℕ, ◌+◌, ◌*◌, ◌%◌, ◌<◌, List, [], ◌∷◌, ◌++◌, length, refl, sym, ap, ◌∙◌, arith}
-use Rattle.std.proofs.Math.Nat.{mod-eq_of_lt}
+use Rattle.std.proofs.Common.{◌≡◌, ℕ, ◌+◌, List, [], ◌∷◌, ◌++◌, length, sym, ap, ◌∙◌, arith}
 use Rattle.std.specs.Prelude.{if◌then◌else◌}
 use Rattle.std.proofs.lemmas.Bool.{le-ltb}
 use Rattle.std.proofs.lemmas.List.{get_or-map, length-map}
@@ -14,23 +13,10 @@ use Rattle.lte_bits.specs.declared.block.Streams.{Streams}
 use Rattle.sender_model.specs.Bits.{at}
 use Rattle.sender_model.specs.ConstituentCoder.{State, zero_state, values, parities, tail_x, tail_z}
 use Rattle.sender_model.specs.CodedStreams.{cells_of, filled_cell, null_filled, tail_0, tail_1, tail_2, coded, interleaved}
-use Rattle.sender_model.specs.Interleaver.{pi, row_of, place}
+use Rattle.sender_model.specs.Interleaver.{place}
 use Rattle.sender_model.specs.Tail.{reached, tail_input, tail_parity}
 use Rattle.sender_model.proofs.TailSteps.{tail_x-after, tail_z-after}
-use Rattle.turbo_encode.specs.Order.{in_order}
 use Rattle.turbo_encode.proofs.TailBits.{four}
-
--- the places' own order changes nothing
-natural_place : (n i : ℕ) → i < n → pi n 1 0 i ≡ i
-natural_place n i lt = ap (λ m. m % n) (let e : 1 * i + 0 * i * i ≡ i = omega arith in e) ∙ mod-eq_of_lt lt
-
-pub natural_order : (bits : List Bit) → in_order (length bits) 1 0 bits ≡ bits
-natural_order bits = sym (fill_by_all (λ i. at bits (pi (length bits) 1 0 i)) bits (length bits) Zero refl (λ k lt. ap (λ p. at bits p) (sym (natural_place (length bits) k lt))))
-
--- the order of a size's row is the interleaver's
-pub interleaved_order : (bits : List Bit) (f1 f2 : ℕ) → f1 ≡ (row_of (length bits)).1 → f2 ≡ (row_of (length bits)).2
-    → in_order (length bits) f1 f2 bits ≡ interleaved bits
-interleaved_order bits f1 f2 e1 e2 = rw (e1, e2) refl
 
 -- the tail after c, by the state after c
 x_at : (s : State) (c : List Bit) (n k : ℕ) → s ≡ reached zero_state c → n ≡ length c + k → tail_input s k ≡ tail_x (values c) n

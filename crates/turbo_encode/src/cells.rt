@@ -1,20 +1,39 @@
 //! Cells of the coded streams.
-ghost use Rattle.std.specs.Prelude.{◌≡◌, ◌++◌, IfOk};
-ghost use Rattle.sender_model.specs.CodedStreams.{cells_of, filled_cell, null_filled};
+ghost use Rattle.std.specs.Prelude.{◌≡◌, ◌++◌, IfOk, length};
+ghost use Rattle.lte_bits.specs.declared.bit.Cell.{Cell};
+ghost use Rattle.sender_model.specs.CodedStreams.{cells_of, null_filled};
+ghost use Rattle.turbo_encode.specs.Fillers.{nulls_first};
 
 use crate::tails::TAIL;
 use lte_bits::{Bit, Cell, List, NoMemory};
 use std::alloc::Global;
 
-/// The cell of a bit at place `i`, `Null` at the first `fill` places.
-pub fn cell_at(fill: usize, i: usize, bit: Bit) -> Cell
-    ensures { result ≡ filled_cell fill i bit }
+/// Writes the cells of bits.
+fn write_cells(cells: &mut [Cell], bits: &[Bit])
+    requires { length cells.old ≡ length bits.now }
+    ensures { cells.new ≡ cells_of bits.now }
 {
-    if i < fill {
-        Cell::Null
-    } else {
-        Cell::from(bit)
+    for (i, cell) in cells.iter_mut().enumerate() {
+        *cell = Cell::from(bits[i]);
     }
+}
+
+/// Writes `Null` at the first `fill` places.
+pub fn write_nulls(cells: &mut [Cell], fill: usize)
+    ensures { cells.new ≡ nulls_first fill cells.old }
+{
+    for i in 0..fill.min(cells.len()) {
+        cells[i] = Cell::Null;
+    }
+}
+
+/// Writes the cells of bits, `Null` at the first `fill` places.
+fn write_filled(cells: &mut [Cell], bits: &[Bit], fill: usize)
+    requires { length cells.old ≡ length bits.now }
+    ensures { cells.new ≡ null_filled fill bits.now }
+{
+    write_cells(cells, bits);
+    write_nulls(cells, fill);
 }
 
 /// The cells of a block's own bits, `Null` at the first `fill` places, with room for the tail.
@@ -22,9 +41,8 @@ pub fn systematic(alloc: Global, bits: &[Bit], fill: usize) -> Result<Vec<Cell>,
     ensures { IfOk result (λ cells. cells.items ≡ null_filled fill bits.now) }
 {
     let mut cells = Vec::with_capacity(alloc, bits.len() + TAIL)?;
-    for (i, bit) in bits.iter().enumerate() {
-        cells.push(cell_at(fill, i, *bit))?;
-    }
+    cells.resize(bits.len(), Cell::Zero)?;
+    write_filled(cells.as_mut_slice(), bits, fill);
     Ok(cells)
 }
 

@@ -5,7 +5,7 @@ ghost use Rattle.sender_model.specs.Interleaver.{sizes};
 
 use crate::cells::{ended, systematic};
 use crate::constituent::code;
-use crate::order::Order;
+use crate::order::interleaved;
 use crate::tails::Tails;
 use lte_bits::{Block, NoMemory, Streams};
 use std::alloc::Global;
@@ -18,8 +18,9 @@ pub fn encode(alloc: Global, block: &Block) -> Result<Streams, NoMemory>
 {
     let bits = block.bits.as_slice();
     let own = systematic(alloc, bits, block.fill)?;
-    let first = code(alloc, bits, Order::NATURAL, block.fill)?;
-    let second = code(alloc, bits, Order::of_size(bits.len()), 0)?;
+    let first = code(alloc, bits, block.fill)?;
+    let turned = interleaved(alloc, bits)?;
+    let second = code(alloc, turned.as_slice(), 0)?;
     let tails = Tails::new(first.end, second.end);
     Ok(Streams {
         d0: ended(own, tails.d0)?,

@@ -4,6 +4,7 @@
 mod cells;
 mod constituent;
 pub mod encoder;
+mod fours;
 mod order;
 mod tails;
 

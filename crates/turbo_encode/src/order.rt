@@ -1,32 +1,49 @@
-//! The orders in which the two coders read a block's bits (36.212 5.1.3.2.3).
-ghost use Rattle.std.specs.Prelude.{◌≡◌, ◌<◌, Contains};
-ghost use Rattle.sender_model.specs.Interleaver.{sizes, row_of};
+//! The order in which the second coder reads a block's bits (36.212 5.1.3.2.3).
+ghost use Rattle.std.specs.Prelude.{◌≡◌, ◌+◌, ◌<◌, ◌≤◌, Contains, IfOk, length};
+ghost use Rattle.turbo_encode.specs.Across.{across};
+ghost use Rattle.sender_model.specs.CodedStreams.{interleaved};
+ghost use Rattle.sender_model.specs.Interleaver.{sizes};
 
-use qpp_table::qpp;
+use lte_bits::{Bit, NoMemory};
+use qpp_table::{Walk, qpp};
+use std::alloc::Global;
 
-/// The factors of an order (f1 i + f2 i^2) mod K.
-#[derive(Clone, Copy)]
-pub struct Order {
-    pub f1: usize,
-    pub f2: usize,
-    ghost small_f1: { f1 < 1024 },
-    ghost small_f2: { f2 < 1024 },
+/// The place half a block away.
+fn across(half: usize, place: usize) -> usize
+    requires within { place < half + half }
+    requires few { half ≤ 3072 }
+    ensures { result ≡ across half place }
+{
+    if place < half {
+        place + half
+    } else {
+        place - half
+    }
 }
 
-impl Order {
-    /// The order of the places themselves.
-    pub const NATURAL: Order = Order { f1: 1, f2: 0 };
-
-    /// The order in which the second coder reads a block of `k` bits. `k` is one of the 188 sizes.
-    pub fn of_size(k: usize) -> Order
-        requires { Contains sizes k }
-        ensures f1 { result.f1 ≡ (row_of k).1 }
-        ensures f2 { result.f2 ≡ (row_of k).2 }
-    {
-        let interleaver = qpp(k).unwrap();
-        Order {
-            f1: interleaver.f1(),
-            f2: interleaver.f2(),
-        }
+/// Writes the bits of a block, interleaved. Places half a block apart take theirs from places half a
+/// block apart.
+fn write_interleaved(turned: &mut [Bit], bits: &[Bit])
+    requires size { Contains sizes (length bits.now) }
+    requires long { length turned.old ≡ length bits.now }
+    ensures { turned.new ≡ interleaved bits.now }
+{
+    let half = bits.len() / 2;
+    let interleaver = qpp(bits.len()).unwrap();
+    let mut walk = Walk::new(bits.len(), interleaver.f1(), interleaver.f2());
+    for i in 0..half {
+        turned[i] = bits[walk.place];
+        turned[half + i] = bits[across(half, walk.place)];
+        walk = walk.next();
     }
+}
+
+/// The bits of a block, interleaved.
+pub fn interleaved(alloc: Global, bits: &[Bit]) -> Result<Vec<Bit>, NoMemory>
+    requires { Contains sizes (length bits.now) }
+    ensures { IfOk result (λ turned. turned.items ≡ interleaved bits.now) }
+{
+    let mut turned = vec![in alloc; Bit::Zero; bits.len()]?;
+    write_interleaved(turned.as_mut_slice(), bits);
+    Ok(turned)
 }

@@ -7,6 +7,7 @@ use Rattle.std.proofs.lemmas.List.{length-append}
 use Rattle.coded_stream.specs.Header.{Header}
 use Rattle.run_loop.specs.Answer.{Answer, behind, refusal}
 use Rattle.run_loop.specs.Due.{IsDue, IsWithin}
+use Rattle.run_loop.proofs.Within.{within_next}
 use Rattle.turbo_run.specs.Encode.{block_part, blocks_answer, end_behind}
 
 -- ---- which answer there is
@@ -57,6 +58,24 @@ whole_answer h k count bytes rest some all =
 
 -- ---- how far a round may read
 
+-- one block is read before it is written
+pub one_ahead : (h : Header) (more count : ℕ) (input : List ℕ) → (blocks_answer h more count input).ahead ≡ 1
+one_ahead h zero count input = elim (kinds h zero count input) [
+  | Nothing zero_long is ↦ ap (λ (a : Answer). a.ahead) is
+  | Over none some is ↦ ap (λ (a : Answer). a.ahead) is
+  | Short some short more_come is ↦ ap (λ (a : Answer). a.ahead) is
+  | Whole all k next is ↦ absurd (omega (arith, next))
+]
+one_ahead h (suc more) count input = elim (kinds h (suc more) count input) [
+  | Nothing zero_long is ↦ ap (λ (a : Answer). a.ahead) is
+  | Over none some is ↦ ap (λ (a : Answer). a.ahead) is
+  | Short some short more_come is ↦ ap (λ (a : Answer). a.ahead) is
+  | Whole all k next is ↦ (
+      let same : k ≡ more = omega (arith, next) in
+      ap (λ (a : Answer). a.ahead) is ∙ ap (λ (j : ℕ). (blocks_answer h j (count + 1) (drop h.tb input)).ahead) same ∙ one_ahead h more (count + 1) (drop h.tb input)
+      )
+]
+
 pub due : (h : Header) (more count n : ℕ) (input : List ℕ) → n < h.tb → (more ≡ 0 → n ≡ 0) → n ≤ length input →
     IsDue (blocks_answer h more count input).due (blocks_answer h more count input).parts n
 due h more count n input few none within =
@@ -68,21 +87,21 @@ due h more count n input few none within =
       | Whole all k next is ↦ subst P (sym is) (omega (arith, few))
     ]
 
-pub none_read : (h : Header) (more count : ℕ) (input : List ℕ) → IsWithin 1 (blocks_answer h more count input) 0
+pub none_read : (h : Header) (more count : ℕ) (input : List ℕ) → IsWithin (blocks_answer h more count input) 0
 none_read h more count input =
-    let P : Answer → Type 0 = λ a. IsWithin 1 a 0 in
-    elim (kinds h more count input) [
-      | Nothing zero_long is ↦ subst P (sym is) (omega arith, λ _. omega arith)
-      | Over no_more some is ↦ subst P (sym is) (omega arith, λ _. omega arith)
-      | Short some short more_come is ↦ subst P (sym is) (omega arith, λ none. cc)
-      | Whole all k next is ↦ subst P (sym is) (omega arith, λ none. cc)
-    ]
+    let P : Answer → Type 0 = λ a. a.parts ≡ [] → 0 < a.due in
+    within_next (blocks_answer h more count input) 0 (one_ahead h more count input) (omega arith) (elim (kinds h more count input) [
+      | Nothing zero_long is ↦ subst P (sym is) (λ _. omega arith)
+      | Over no_more some is ↦ subst P (sym is) (λ _. omega arith)
+      | Short some short more_come is ↦ subst P (sym is) (λ none. cc)
+      | Whole all k next is ↦ subst P (sym is) (λ none. cc)
+    ])
 
 -- all that is left was read, and it is no whole block
 pub last_read : (h : Header) (more count : ℕ) (payload : List ℕ) → length payload < h.tb → (more ≡ 0 → length payload ≡ 0) →
-    IsWithin 1 (blocks_answer h more count payload) (length payload)
+    IsWithin (blocks_answer h more count payload) (length payload)
 last_read h more count payload few none =
-    let P : Answer → Type 0 = λ a. IsWithin 1 a (length payload) in
+    let P : Answer → Type 0 = λ a. IsWithin a (length payload) in
     elim (kinds h more count payload) [
       | Nothing zero_long is ↦ subst P (sym is) (omega (arith, zero_long), λ _. omega arith)
       | Over no_more some is ↦ absurd (omega (arith, some, none no_more))

@@ -3,8 +3,8 @@ use Rattle.std.specs.Prelude.{ℕ, ◌+◌, List, [], ◌∷◌, ◌++◌, lengt
 use Rattle.lte_bits.specs.Packing.{packed}
 use Rattle.sender_model.specs.CircularBuffer.{Match}
 use Rattle.sender_model.specs.Codeword.{codeword}
-use Rattle.report_lines.specs.Lines.{line_end}
-use Rattle.run_loop.specs.Answer.{Part, Answer, finished, behind, refusal, closed}
+use Rattle.run_loop.specs.Lines.{line_end}
+use Rattle.run_loop.specs.Answer.{Part, Answer, finished, behind, heading, refusal, closed}
 
 -- `end bits G`
 abbrev pub bits_line : Match → List ℕ
@@ -20,8 +20,12 @@ codeword_part m rv payload =
     record { text = codeword_text m rv payload; line = []; size = length payload; wants = length payload + 1 }
 
 -- an empty input is refused, and so is the byte behind 18,722; the one block is known to be the last
-abbrev pub codeword_answer : Match → ℕ → List ℕ → Answer
-codeword_answer m rv input = if length input == 0
+abbrev pub block_answer : Match → ℕ → List ℕ → Answer
+block_answer m rv input = if length input == 0
     then refusal 4 0 0 1
     else if nat_lt 18722 (length input) then refusal 4 18722 18723 18723
     else behind (codeword_part m rv input ∷ []) (closed [] (bits_line m) finished 0 0)
+
+-- `out` begins with nothing
+abbrev pub codeword_answer : Match → ℕ → List ℕ → Answer
+codeword_answer m rv input = behind (heading [] 0 ∷ []) (block_answer m rv input)

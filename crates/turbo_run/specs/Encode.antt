@@ -6,8 +6,8 @@ use Rattle.rate_match.specs.declared.sends.Sending.{Sending}
 use Rattle.coded_stream.specs.Header.{Header, header_text, word_text}
 use Rattle.coded_stream.specs.declared.kind.Kind.TheVariants.{Hard}
 use Rattle.coded_stream.specs.declared.version.Version.{Version}
-use Rattle.report_lines.specs.Lines.{blocks_line}
-use Rattle.run_loop.specs.Answer.{Part, Answer, finished, behind, opened, refusal, closed}
+use Rattle.run_loop.specs.Lines.{blocks_line}
+use Rattle.run_loop.specs.Answer.{Part, Answer, finished, behind, heading, refusal, closed}
 
 abbrev pub hard_header : Version → (tb : ℕ) → List Sending → Header
 hard_header version tb sends = record { version = version; kind = Hard; tb = tb; sends = sends }
@@ -48,4 +48,4 @@ blocks_answer h (suc more) count input = if length input == 0
 
 -- the header stands before anything is read, and 4,096 blocks may come
 abbrev pub encode_answer : Header → (input : List ℕ) → Answer
-encode_answer h input = opened (header_text h) (blocks_answer h 4096 0 input)
+encode_answer h input = behind (heading (header_text h) 0 ∷ []) (blocks_answer h 4096 0 input)

@@ -1,6 +1,6 @@
-pub mod Reading
+pub mod Input
 pub mod Codeword
-pub mod Coding
+pub mod CodewordRound
 pub mod Encode
-pub mod Encoding
+pub mod EncodeRounds
 pub mod Run

@@ -1,11 +1,11 @@
 -- What a run of the program owes.
 use Rattle.std.specs.Prelude.{◌≡◌, ℕ, List, Some, IfOk, IfErr}
-use Rattle.run_loop.specs.Edges.{Held, Counts, Causes, IsQuiet}
+use Rattle.run_loop.specs.Edges.{Edges, Causes, IsQuiet}
 use Rattle.run_loop.specs.FaultLine.{AddsLine, Finished, fault_line}
-use Rattle.run_loop.specs.Reply.{Reply, begun, EndsReply, IsEndingOf, ending_of_reply}
+use Rattle.run_loop.specs.Reply.{Reply, reading, IsEndingOf, ending_of_reply}
 use Rattle.run_loop.specs.declared.status.Status.{Status}
 use Rattle.run_loop.specs.declared.status.Status.TheVariants.{BadWords}
-use Rattle.stream_loop.specs.Handling.{stream_reply}
+use Rattle.stream_loop.specs.Handling.{stream_answer}
 use Rattle.decode_command.specs.Decoding.{decoding}
 use Rattle.relay_commands.specs.Channel.{Noise, channel}
 use Rattle.relay_commands.specs.Points.{points}
@@ -24,12 +24,12 @@ noise_of amp noise seed = record { strength = record { amp = amp; noise = noise 
 
 -- what a command answers to an input
 abbrev pub answer_of : Command → (input : List ℕ) → Reply
-answer_of (Codeword m rv) input = begun 0 1 (codeword_answer m rv input)
-answer_of (Encode version tb sends) input = begun 0 1 (encode_answer (hard_header version tb sends) input)
+answer_of (Codeword m rv) input = reading (codeword_answer m rv input)
+answer_of (Encode version tb sends) input = reading (encode_answer (hard_header version tb sends) input)
 answer_of (Decode windows limit workers) input =
-    stream_reply (decoding (record { windows = windows; limit = limit })) input
-answer_of (Channel amp noise seed) input = stream_reply (channel (noise_of amp noise seed)) input
-answer_of Upgrade input = stream_reply upgrade input
+    reading (stream_answer (decoding (record { windows = windows; limit = limit })) input)
+answer_of (Channel amp noise seed) input = reading (stream_answer (channel (noise_of amp noise seed)) input)
+answer_of Upgrade input = reading (stream_answer upgrade input)
 answer_of (Trial seed blocks tb sends amp noise windows limit) input = trial_reply (record {
   seed = seed;
   blocks = blocks;
@@ -39,8 +39,8 @@ answer_of (Trial seed blocks tb sends amp noise windows limit) input = trial_rep
   effort = record { windows = windows; limit = limit };
 })
 answer_of (Scramble rnti q slot cell) input =
-    stream_reply (scrambling (record { rnti = rnti; q = q; slot = slot; cell = cell })) input
-answer_of (Points amp noise seed) input = stream_reply (points (noise_of amp noise seed)) input
+    reading (stream_answer (scrambling (record { rnti = rnti; q = q; slot = slot; cell = cell })) input)
+answer_of (Points amp noise seed) input = reading (stream_answer (points (noise_of amp noise seed)) input)
 
 -- a command that reads nothing leaves the source and `out` as they are, whether these tell what they hold or not
 abbrev pub LeavesAlone : {S D : Type 0} → Command → (source source' : S) → (out out' : D) → Type 0
@@ -48,27 +48,21 @@ LeavesAlone (Trial seed blocks tb sends amp noise windows limit) source source' 
     (source' ≡ source) × (out' ≡ out)
 LeavesAlone _ source source' out out' = Unit {0}
 
--- how a command ends before the fault line is written, where the source tells what it gives
-abbrev pub EndsAs : Command → Held → Held → Status → Type 0
-EndsAs command old new status = (input : List ℕ) → old.left ≡ Some input
-    → EndsReply (answer_of command input) old new status
-
 -- What a run of these words owes, of the edges before and after it.
-pub record Runs {S D : Type 0} (words : List (List ℕ)) (source source' : S) (out out' : D)
-    (old new : Held) (before now : Counts)
+pub record Runs {S D : Type 0} (words : List (List ℕ)) (source source' : S) (out out' : D) (old new : Edges)
     (status : Status) : Type 0 where
   -- refused words: nothing is read, `out` is as before, and the report gains the fault line
   pub refused : IfErr (command_of words) (λ refusal. (status ≡ BadWords refusal.number refusal.place)
       × (source' ≡ source) × (out' ≡ out)
-      × AddsLine old.report new.report (fault_line status) before.reports now.reports)
+      × AddsLine old.report new.report (fault_line status) old.reports new.reports)
   -- else the run ends as the command's answer says, or by a fault, or for want of memory, and the fault line
   -- stands behind
   pub ends : IfOk (command_of words) (λ command. (input : List ℕ) → old.left ≡ Some input →
-      Finished (answer_of command input) old new before.reports now.reports status)
+      Finished (answer_of command input) old new status)
   -- where no count rose, it ends as the answer says, or for want of memory
   pub complete : IfOk (command_of words) (λ command. (input : List ℕ) → old.left ≡ Some input →
-      IsQuiet before now → IsEndingOf (ending_of_reply (answer_of command input)) status)
+      IsQuiet old new → IsEndingOf (ending_of_reply (answer_of command input)) status)
   -- each fault was counted, and accepted words are never refused, whether the source tells or not
-  pub causes : IfOk (command_of words) (λ _. Causes before now status)
+  pub causes : IfOk (command_of words) (λ _. Causes old new status)
   -- a command that reads nothing leaves the source and `out` as they are
   pub alone : IfOk (command_of words) (λ command. LeavesAlone command source source' out out')

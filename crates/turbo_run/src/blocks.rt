@@ -10,7 +10,7 @@ ghost use Rattle.turbo_run.specs.Encode.{sent_text, block_text, block_part};
 use coded_stream::{Header, length_word};
 use lte_bits::{NoMemory, pack};
 use rate_match::{Match, codeword};
-use run_loop::Block;
+use run_loop::Part;
 use std::alloc::Global;
 
 /// Appends the codeword of one transmission.
@@ -50,18 +50,13 @@ fn block_text(alloc: Global, payload: &[u8], header: &Header) -> Result<Vec<u8>,
 }
 
 /// The block of a payload, which is known whole once so many bytes have come.
-pub fn block(
-    alloc: Global,
-    payload: &[u8],
-    header: &Header,
-    wants: usize,
-) -> Result<Block, NoMemory>
+pub fn block(alloc: Global, payload: &[u8], header: &Header, wants: usize) -> Result<Part, NoMemory>
     requires some { 1 ≤ length payload.now }
     requires few { length payload.now ≤ header.now.tb }
-    ensures { IfOk result (λ block. part_of block ≡ block_part (header_of header.now) payload.now wants) }
+    ensures { IfOk result (λ part. part_of part ≡ block_part (header_of header.now) payload.now wants) }
 {
     let text = block_text(alloc, payload, header)?;
-    Ok(Block {
+    Ok(Part {
         text,
         line: Vec::new(alloc),
         size: payload.len(),

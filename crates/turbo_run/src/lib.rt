@@ -2,12 +2,11 @@
 #![tactic(auto)]
 
 mod blocks;
-mod coding;
-mod encoding;
+mod codeword;
+mod encode;
+mod input;
 mod performing;
-mod reading;
 mod running;
-mod sender;
 
 pub use command_words::{Command, WordRefusal, read_words};
 pub use run_loop::{SinkName, Status};

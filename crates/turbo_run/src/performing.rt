@@ -1,39 +1,50 @@
-//! Each command on one thread.
-ghost use Rattle.std.specs.Prelude.{◌≡◌, ◌≤◌};
-ghost use Rattle.run_loop.specs.Edges.{held, counts, Causes};
-ghost use Rattle.turbo_run.specs.Run.{EndsAs, LeavesAlone};
+//! Each command.
+ghost use Rattle.run_loop.specs.Edges.{edges};
+ghost use Rattle.run_loop.specs.Reply.{Ends};
+ghost use Rattle.turbo_run.specs.Run.{answer_of, LeavesAlone};
 ghost use Rattle.command_words.specs.Lawful.{IsLawful};
+ghost use Rattle.decode_command.specs.Receivers.{GivesOutcomes, TakesTransmissions};
 
-use crate::sender::{codeword, encode};
+use crate::codeword::Codeword;
+use crate::encode::Encode;
+use block_receive::{Effort, Task};
 use coded_stream::{Header, Kind};
 use command_words::Command;
-use decode_command::run_decode;
+use decode_command::{Decoding, Received};
 use edge_io::{Sink, Source};
-use relay_commands::{Channel, Points, Scramble, Upgrade, run_relay};
-use run_loop::Status;
+use lte_bits::Soft;
+use rate_match::Sends;
+use relay_commands::{Channel, Points, Relay, Scramble, Upgrade};
+use run_loop::{Status, drive};
 use std::alloc::Global;
+use stream_loop::Stream;
 use trial_command::{Trial, run_trial};
 
-/// Does a command, without the line that tells a fault.
-pub fn perform<S: Source, D: Sink, R: Sink>(
+/// Does a command, without the line that tells a fault. Where blocks of a stream are decoded, `receive`
+/// does it.
+pub fn perform<
+    F: Fn(Global, &Task, usize, &Sends, &[Soft]) -> Received,
+    S: Source,
+    D: Sink,
+    R: Sink,
+>(
     alloc: Global,
     command: Command,
+    receive: &F,
     source: &mut S,
     out: &mut D,
     report: &mut R,
 ) -> Status
-    requires { IsLawful command }
-    ensures ended { EndsAs command
-        (held (S.left source.old) (D.held out.old) (R.held report.old))
-        (held (S.left source.new) (D.held out.new) (R.held report.new)) result }
-    ensures causes { Causes
-        (counts (S.faults source.old) (D.faults out.old) (R.faults report.old))
-        (counts (S.faults source.new) (D.faults out.new) (R.faults report.new)) result }
-    ensures later { R.faults report.old ≤ R.faults report.new }
+    requires lawful { IsLawful command }
+    requires takes { TakesTransmissions (F.pre receive.now) }
+    requires gives { GivesOutcomes (F.post receive.now) }
+    ensures ends { Ends (answer_of command)
+        (edges S.Source D.Sink R.Sink source.old out.old report.old)
+        (edges S.Source D.Sink R.Sink source.new out.new report.new) result }
     ensures alone { LeavesAlone command source.old source.new out.old out.new }
 {
     match command {
-        Command::Codeword { m, rv } => codeword(alloc, m, rv, source, out, report),
+        Command::Codeword { m, rv } => drive(alloc, Codeword { m, rv }, source, out, report),
         Command::Encode { version, tb, sends } => {
             let kind = Kind::Hard;
             let header = Header {
@@ -42,15 +53,25 @@ pub fn perform<S: Source, D: Sink, R: Sink>(
                 tb,
                 sends,
             };
-            encode(alloc, header, source, out, report)
+            drive(alloc, Encode { header }, source, out, report)
         }
-        Command::Decode { windows, limit, .. } => {
-            run_decode(alloc, windows, limit, source, out, report)
+        Command::Decode {
+            windows,
+            limit,
+            workers,
+        } => {
+            let decoding = Decoding {
+                receive,
+                workers,
+                effort: Effort { windows, limit },
+            };
+            drive(alloc, Stream(decoding), source, out, report)
         }
         Command::Channel { amp, noise, seed } => {
-            run_relay(alloc, Channel { amp, noise, seed }, source, out, report)
+            let channel = Channel { amp, noise, seed };
+            drive(alloc, Stream(Relay(channel)), source, out, report)
         }
-        Command::Upgrade => run_relay(alloc, Upgrade, source, out, report),
+        Command::Upgrade => drive(alloc, Stream(Relay(Upgrade)), source, out, report),
         Command::Trial {
             seed,
             blocks,
@@ -68,8 +89,7 @@ pub fn perform<S: Source, D: Sink, R: Sink>(
                 sends,
                 amp,
                 noise,
-                windows,
-                limit,
+                effort: Effort { windows, limit },
             };
             run_trial(alloc, &trial, report)
         }
@@ -85,11 +105,17 @@ pub fn perform<S: Source, D: Sink, R: Sink>(
                 slot,
                 cell,
             };
-            run_relay(alloc, scramble, source, out, report)
+            drive(alloc, Stream(Relay(scramble)), source, out, report)
         }
         Command::Points { amp, noise, seed } => {
             let channel = Channel { amp, noise, seed };
-            run_relay(alloc, Points { channel }, source, out, report)
+            drive(
+                alloc,
+                Stream(Relay(Points { channel })),
+                source,
+                out,
+                report,
+            )
         }
     }
 }

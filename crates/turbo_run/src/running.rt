@@ -1,27 +1,55 @@
 //! The top calls.
-ghost use Rattle.std.specs.Prelude.{◌≡◌, ◌≤◌};
-ghost use Rattle.run_loop.specs.Edges.{held, counts, Causes};
-ghost use Rattle.turbo_run.specs.Run.{EndsAs, LeavesAlone, Runs};
-ghost use Rattle.command_words.specs.Lawful.{IsLawful};
+ghost use Rattle.std.specs.Prelude.{◌≡◌, ◌≤◌, IfOk};
+ghost use Rattle.receiver_model.specs.TransportBlocks.{outcome};
+ghost use Rattle.block_receive.specs.Effort.{plan_in, effort_in};
+ghost use Rattle.block_receive.specs.Receptions.{receptions};
+ghost use Rattle.run_loop.specs.Edges.{edges};
+ghost use Rattle.turbo_run.specs.Run.{Runs};
 ghost use Rattle.command_words.specs.Texts.{texts_of};
+ghost use Rattle.decode_command.specs.Receivers.{AreReceived, GivesOutcomes, TakesTransmissions};
 
 use crate::performing::perform;
-use command_words::{Command, WordRefusal, read_words};
-use decode_command::run_decode_shared;
+use block_receive::{Effort, Task, receive_alone, receive_shared};
+use command_words::read_words;
+use decode_command::Received;
 use edge_io::{Sink, Source};
-use run_loop::{Status, tell};
+use lte_bits::Soft;
+use rate_match::Sends;
+use run_loop::{Status, write_fault_line};
 use std::alloc::Global;
 use std::sync::Wait;
 use std::thread::Threads;
 use window_workers::{Gate, NoGate};
 
-/// How refused words end.
-fn refused(refusal: WordRefusal) -> Status
-    ensures { result ≡ Status.BadWords refusal.number refusal.place }
+/// Does what the words ask for, and tells a fault. Where blocks of a stream are decoded, `receive` does it.
+fn run_by<F: Fn(Global, &Task, usize, &Sends, &[Soft]) -> Received, S: Source, D: Sink, R: Sink>(
+    alloc: Global,
+    words: &[&str],
+    receive: &F,
+    source: &mut S,
+    out: &mut D,
+    report: &mut R,
+) -> Status
+    requires takes { TakesTransmissions (F.pre receive.now) }
+    requires gives { GivesOutcomes (F.post receive.now) }
+    ensures runs { Runs (texts_of words.now) source.old source.new out.old out.new
+        (edges S.Source D.Sink R.Sink source.old out.old report.old)
+        (edges S.Source D.Sink R.Sink source.new out.new report.new) result }
 {
-    Status::BadWords {
-        number: refusal.number,
-        place: refusal.place,
+    match read_words(words) {
+        Ok(command) => {
+            let status = perform(alloc, command, receive, source, out, report);
+            write_fault_line(report, status);
+            status
+        }
+        Err(refusal) => {
+            let status = Status::BadWords {
+                number: refusal.number,
+                place: refusal.place,
+            };
+            write_fault_line(report, status);
+            status
+        }
     }
 }
 
@@ -34,55 +62,24 @@ pub fn run_alone<S: Source, D: Sink, R: Sink>(
     report: &mut R,
 ) -> Status
     ensures runs { Runs (texts_of words.now) source.old source.new out.old out.new
-        (held (S.left source.old) (D.held out.old) (R.held report.old))
-        (held (S.left source.new) (D.held out.new) (R.held report.new))
-        (counts (S.faults source.old) (D.faults out.old) (R.faults report.old))
-        (counts (S.faults source.new) (D.faults out.new) (R.faults report.new)) result }
+        (edges S.Source D.Sink R.Sink source.old out.old report.old)
+        (edges S.Source D.Sink R.Sink source.new out.new report.new) result }
 {
-    match read_words(words) {
-        Err(refusal) => {
-            let status = refused(refusal);
-            tell(report, status);
-            status
-        }
-        Ok(command) => {
-            let status = perform(alloc, command, source, out, report);
-            tell(report, status);
-            status
-        }
-    }
-}
-
-/// Does a command, where `decode` has several workers by these.
-fn perform_shared<H: Threads + Wait + Sync, G: Gate + Sync, S: Source, D: Sink, R: Sink>(
-    rt: &H,
-    alloc: Global,
-    command: Command,
-    gate: &G,
-    source: &mut S,
-    out: &mut D,
-    report: &mut R,
-) -> Status
-    requires { IsLawful command }
-    ensures ended { EndsAs command
-        (held (S.left source.old) (D.held out.old) (R.held report.old))
-        (held (S.left source.new) (D.held out.new) (R.held report.new)) result }
-    ensures causes { Causes
-        (counts (S.faults source.old) (D.faults out.old) (R.faults report.old))
-        (counts (S.faults source.new) (D.faults out.new) (R.faults report.new)) result }
-    ensures later { R.faults report.old ≤ R.faults report.new }
-    ensures alone { LeavesAlone command source.old source.new out.old out.new }
-{
-    match command {
-        Command::Decode {
-            windows,
-            limit,
-            workers,
-        } if workers > 1 => run_decode_shared(
-            rt, alloc, windows, limit, workers, gate, source, out, report,
-        ),
-        _ => perform(alloc, command, source, out, report),
-    }
+    let receive = |alloc: Global, task: &Task, workers: usize, sends: &Sends, softs: &[Soft]| -> Received
+        requires { AreReceived task.now workers sends.now softs.now }
+        ensures { IfOk result (λ o. o ≡ outcome (plan_in task.now) (effort_in task.now)
+            (receptions sends.now softs.now)) }
+    {
+        receive_alone(
+            alloc,
+            &task.plan,
+            sends,
+            task.effort.windows,
+            task.effort.limit,
+            softs,
+        )
+    };
+    run_by(alloc, words, &receive, source, out, report)
 }
 
 /// Does what the words ask for, from the source to `out` and the report. Where `decode` has several workers,
@@ -97,23 +94,24 @@ pub fn run_gated<H: Threads + Wait + Sync, S: Source, D: Sink, R: Sink, G: Gate 
     gate: &G,
 ) -> Status
     ensures runs { Runs (texts_of words.now) source.old source.new out.old out.new
-        (held (S.left source.old) (D.held out.old) (R.held report.old))
-        (held (S.left source.new) (D.held out.new) (R.held report.new))
-        (counts (S.faults source.old) (D.faults out.old) (R.faults report.old))
-        (counts (S.faults source.new) (D.faults out.new) (R.faults report.new)) result }
+        (edges S.Source D.Sink R.Sink source.old out.old report.old)
+        (edges S.Source D.Sink R.Sink source.new out.new report.new) result }
 {
-    match read_words(words) {
-        Err(refusal) => {
-            let status = refused(refusal);
-            tell(report, status);
-            status
+    let receive = |alloc: Global, task: &Task, workers: usize, sends: &Sends, softs: &[Soft]| -> Received
+        requires { AreReceived task.now workers sends.now softs.now }
+        ensures { IfOk result (λ o. o ≡ outcome (plan_in task.now) (effort_in task.now)
+            (receptions sends.now softs.now)) }
+    {
+        let Task { plan, effort } = *task;
+        let Effort { windows, limit } = effort;
+        if workers == 1 {
+            return receive_alone(alloc, &plan, sends, windows, limit, softs);
         }
-        Ok(command) => {
-            let status = perform_shared(rt, alloc, command, gate, source, out, report);
-            tell(report, status);
-            status
-        }
-    }
+        receive_shared(
+            rt, alloc, &plan, sends, windows, limit, softs, workers, gate,
+        )
+    };
+    run_by(alloc, words, &receive, source, out, report)
 }
 
 /// Does what the words ask for, from the source to `out` and the report. Where `decode` has several workers,
@@ -127,10 +125,8 @@ pub fn run<H: Threads + Wait + Sync, S: Source, D: Sink, R: Sink>(
     report: &mut R,
 ) -> Status
     ensures runs { Runs (texts_of words.now) source.old source.new out.old out.new
-        (held (S.left source.old) (D.held out.old) (R.held report.old))
-        (held (S.left source.new) (D.held out.new) (R.held report.new))
-        (counts (S.faults source.old) (D.faults out.old) (R.faults report.old))
-        (counts (S.faults source.new) (D.faults out.new) (R.faults report.new)) result }
+        (edges S.Source D.Sink R.Sink source.old out.old report.old)
+        (edges S.Source D.Sink R.Sink source.new out.new report.new) result }
 {
     run_gated(rt, alloc, words, source, out, report, &NoGate)
 }

@@ -1,8 +1,9 @@
 pub mod Within
+pub mod Scaling
 pub mod EightStates
-mod LaneSteps
-mod LaneNumbers
-mod LaneKernel
+pub mod LaneSteps
+pub mod LaneNumbers
+pub mod LaneKernel
 pub mod PathSteps
 pub mod ForwardMetrics
 pub mod BackwardMetrics

@@ -11,7 +11,7 @@ use Rattle.window_decode.specs.Metrics.{IsForward, IsBackward}
 use Rattle.window_decode.specs.Ranges.{IsSoft}
 use Rattle.window_decode.proofs.Spread.{IsNarrow, lowest, step-least, step-most, forward-near, backward-near}
 
-narrow : (w : Window) → IsSoft w → (j : ℕ) → IsNarrow (gain w) j
+pub narrow : (w : Window) → IsSoft w → (j : ℕ) → IsNarrow (gain w) j
 narrow w soft j =
     let x : ℤ = at w.sys j +ℤ at w.cells j in
     let p : ℤ = at w.par j in

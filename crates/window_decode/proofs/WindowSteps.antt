@@ -8,7 +8,7 @@ use Rattle.lte_bits.specs.declared.bit.Bit.TheVariants.{Zero, One}
 use Rattle.sender_model.specs.ConstituentCoder.{State, zero_state, next, parity}
 use Rattle.rsc_trellis.specs.Steps.{state_before, input_before}
 use Rattle.receiver_model.specs.Borders.{Border, IsBorder, number_for, border_of, relative, at, if_zero}
-use Rattle.receiver_model.specs.Paths.{Window, Gain, gain, greatest, best}
+use Rattle.receiver_model.specs.Paths.{Window, width, Gain, gain, greatest, best}
 use Rattle.receiver_model.specs.Windows.{Extrinsic, values, cell_at, window_between, cell_from, new_cell}
 use Rattle.window_decode.specs.Lanes.{IsRelative}
 use Rattle.window_decode.specs.Recursions.{AreNear, step_gain, forward, backward, joined, through, cell_through}
@@ -156,16 +156,19 @@ through-less m k before after p b e f =
     less : (x y a d u v q : ℤ) → x ≡ a -ℤ u → y ≡ d -ℤ v → x +ℤ q +ℤ y ≡ (a +ℤ q +ℤ d) -ℤ (u +ℤ v)
     less x y a d u v q e f = omega (arith, ints)
 
+pub cell-best : (w : Window) (j n : ℕ) (before after : List ℤ) → width w ≡ j + suc n → IsForwardRow w.start (gain w) j before → IsBackwardRow w.end (gain w) (suc j) n after
+    → cell_through before after (at w.sys j) (at w.par j) (at w.cells j) ≡ new_cell w j
+cell-best w j n before after long h k =
+    let c : ℤ = h.metrics zero_state +ℤ k.metrics zero_state in
+    let e : (b : Bit) → through before after (at w.par j) b ≡ best w b j -ℤ c =
+    λ b. through-less h.metrics k.metrics before after (at w.par j) b h.is k.is ∙ ap (λ z. z -ℤ c) (joined-best w j n b h.metrics k.metrics long h.greatest k.greatest) in
+    ap (λ z. cell_from z (at w.sys j) (at w.cells j)) (cancel _ _ (best w Zero j) (best w One j) c (e Zero) (e One))
+  where
+    cancel : (a b x y c : ℤ) → a ≡ x -ℤ c → b ≡ y -ℤ c → a -ℤ b ≡ x -ℤ y
+    cancel a b x y c e f = omega (arith, ints)
+
 pub cell-joined : (start end : Border) (sys par : List ℤ) (cells : List Extrinsic) (j n : ℕ) (before after : List ℤ)
     → length (values cells) ≡ j + suc n → IsForwardRow start (gain (window_between start end sys par cells)) j before → IsBackwardRow end (gain (window_between start end sys par cells)) (suc j) n after
     → cell_through before after (at sys j) (at par j) (cell_at cells j).value ≡ new_cell (window_between start end sys par cells) j
 cell-joined start end sys par cells j n before after long h k =
-    let w : Window = window_between start end sys par cells in
-    let c : ℤ = h.metrics zero_state +ℤ k.metrics zero_state in
-    let e : (b : Bit) → through before after (at par j) b ≡ best w b j -ℤ c =
-    λ b. through-less h.metrics k.metrics before after (at par j) b h.is k.is ∙ ap (λ z. z -ℤ c) (joined-best w j n b h.metrics k.metrics long h.greatest k.greatest) in
-    ap (λ z. cell_from z (at sys j) (cell_at cells j).value) (cancel _ _ (best w Zero j) (best w One j) c (e Zero) (e One))
-    ∙ ap (λ z. cell_from (best w Zero j -ℤ best w One j) (at sys j) z) (sym (at-values cells j))
-  where
-    cancel : (a b x y c : ℤ) → a ≡ x -ℤ c → b ≡ y -ℤ c → a -ℤ b ≡ x -ℤ y
-    cancel a b x y c e f = omega (arith, ints)
+    ap (λ z. cell_through before after (at sys j) (at par j) z) (sym (at-values cells j)) ∙ cell-best (window_between start end sys par cells) j n before after long h k

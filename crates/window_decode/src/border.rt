@@ -65,6 +65,22 @@ impl Border {
     }
 
     /// The border's numbers, in order of the states' numbers.
+    pub fn numbers(&self) -> &[i16; 8]
+        ensures value { result.now ≡ self.now }
+        ensures border { IsBorder self.now }
+    {
+        &self.numbers
+    }
+
+    /// The border with these numbers.
+    pub fn from_numbers(numbers: [i16; 8]) -> Border
+        requires { IsBorder numbers }
+        ensures { result ≡ numbers }
+    {
+        Border { numbers }
+    }
+
+    /// The border's numbers, in order of the states' numbers.
     pub(crate) fn lanes(&self) -> i16x8
         ensures value { result ≡ self.now }
         ensures border { IsBorder self.now }

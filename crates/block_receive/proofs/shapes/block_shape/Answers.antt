@@ -12,16 +12,16 @@ win-windows-requires-clause-size c = let block = block_in c.args.task.now c.args
 pub unwrap-requires : goal.unwrap-requires
 unwrap-requires c =
     let w = c.win-windows.ensures in
-    let count : IsCount c.size-k.result c.args.task.now.windows c.win-windows.result = record { divides = w.divides; wide = w.wide; within = w.within; greatest = w.greatest } in
+    let count : IsCount c.size-k.result c.args.task.now.effort.windows c.win-windows.result = record { divides = w.divides; wide = w.wide; within = w.within; greatest = w.greatest } in
     c.new.ensures.some.1 (lawful c.args.task.now c.args.r c.size-k.result c.fill.result c.win-windows.result c.check_kind-kind.result c.requires c.size-k.ensures c.fill.ensures count)
 
 pub returns : goal.returns
 returns c =
     let w = c.win-windows.ensures in
     let task = c.args.task.now in
-    let count : IsCount c.size-k.result task.windows c.win-windows.result = record { divides = w.divides; wide = w.wide; within = w.within; greatest = w.greatest } in
-    let is : c.unwrap.result ≡ shape_of c.size-k.result c.fill.result c.check_kind-kind.result c.win-windows.result task.limit =
-    subst (λ o. IfSome o (λ s. s ≡ shape_of c.size-k.result c.fill.result c.check_kind-kind.result c.win-windows.result task.limit)) c.unwrap.ensures c.new.ensures.shape in
+    let count : IsCount c.size-k.result task.effort.windows c.win-windows.result = record { divides = w.divides; wide = w.wide; within = w.within; greatest = w.greatest } in
+    let is : c.unwrap.result ≡ shape_of c.size-k.result c.fill.result c.check_kind-kind.result c.win-windows.result task.effort.limit =
+    subst (λ o. IfSome o (λ s. s ≡ shape_of c.size-k.result c.fill.result c.check_kind-kind.result c.win-windows.result task.effort.limit)) c.unwrap.ensures c.new.ensures.shape in
     is
-    ∙ ap (λ kind. shape_of c.size-k.result c.fill.result kind c.win-windows.result task.limit) c.check_kind-kind.ensures
+    ∙ ap (λ kind. shape_of c.size-k.result c.fill.result kind c.win-windows.result task.effort.limit) c.check_kind-kind.ensures
     ∙ shape-is task c.args.r c.size-k.result c.fill.result task.plan.c c.win-windows.result c.requires c.size-k.ensures c.fill.ensures task.plan.block_count count

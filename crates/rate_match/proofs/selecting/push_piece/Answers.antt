@@ -1,12 +1,15 @@
-use Rattle.std.proofs.Common.{◌≡◌, ℕ, ◌*◌, ◌<◌, ◌≤◌, List, ◌++◌, length, map, Contains, subst, sym, ap, ◌∙◌, arith}
-use Rattle.std.proofs.lemmas.Result.{on_ok_weaker}
+use Rattle.std.specs.Prelude.{replicate}
+use Rattle.std.proofs.Common.{◌≡◌, ℕ, ◌+◌, ◌-◌, ◌*◌, ◌<◌, ◌≤◌, List, ◌++◌, length, map, take, drop, Contains, subst, sym, ap, ◌∙◌, arith}
 use Rattle.lte_bits.specs.declared.bit.Bit.{Bit}
+use Rattle.lte_bits.specs.declared.bit.Bit.TheVariants.{Zero}
 use Rattle.lte_bits.specs.declared.block.Streams.{Streams}
 use Rattle.sender_model.specs.Interleaver.{sizes}
 use Rattle.sender_model.specs.Segmentation.{Plan, plan_of, size, fill}
 use Rattle.sender_model.specs.CircularBuffer.{rows_of, buffer_size, start, w}
 use Rattle.sender_model.specs.Selection.{bit_of_cell, bits_from, holds_bit, repeated, sent}
 use Rattle.sender_model.proofs.SelectionLaws.{rows-bounds, fitting_bit}
+use Rattle.rate_match.proofs.Lengths.{sent-long}
+use Rattle.rate_match.proofs.Parts.{behind_written, longer-kept, rest-long}
 use Rattle.rate_match.proofs.BlockNumbers.{IsBlockOf, block-numbers}
 use Rattle.rate_match.proofs.Matchings.{match-bounds, piece-most}
 use Rattle.rate_match.proofs.selecting.push_piece.Goals as goal
@@ -53,15 +56,17 @@ invariant_of-ring c =
       within = omega (arith, c.buffer_len-size.ensures.within, ap buffer_size c.size-k.ensures);
     }
 
-pub push_bits-requires-clause-few : goal.push_bits-requires-clause-few
-push_bits-requires-clause-few c =
+pub write_bits-requires-clause-few : goal.write_bits-requires-clause-few
+write_bits-requires-clause-few c =
     let plan = c.args.plan.now in
     let m = c.args.m.now in
     let block = block_of plan.bytes plan.c c.args.r plan.some plan.few plan.block_count c.requires.block in
-    omega (arith, c.piece_len.ensures.value, piece-most m (plan_of plan.bytes).c c.args.r block.some, (match-bounds m c.piece_len.ensures.lawful).few)
+    let now = c.as_mut_slice.result.now in
+    let all : length now ≡ c.len-from.result + c.piece_len.result = ap length c.as_mut_slice.ensures.value ∙ sym c.resize.new.self.ok.0 ∙ c.in_ok-resize.ensures.len in
+    omega (arith, rest-long c.len-from.result c.piece_len.result now all, c.piece_len.ensures.value, piece-most m (plan_of plan.bytes).c c.args.r block.some, (match-bounds m c.piece_len.ensures.lawful).few)
 
-pub push_bits-requires-clause-some : goal.push_bits-requires-clause-some
-push_bits-requires-clause-some c =
+pub write_bits-requires-clause-some : goal.write_bits-requires-clause-some
+write_bits-requires-clause-some c =
     let plan = c.args.plan.now in
     let p : Plan = plan_of plan.bytes in
     let block = block_of plan.bytes plan.c c.args.r plan.some plan.few plan.block_count c.requires.block in
@@ -72,7 +77,19 @@ unfolding chosen
 returns c =
     let plan = c.args.plan.now in
     let p : Plan = plan_of plan.bytes in
+    let had : List Bit = c.args.bits.now.items in
+    let now = c.as_mut_slice.result.now in
+    let new = c.write_bits.new.out in
+    let first : c.len-from.result ≡ length had = c.len-from.ensures ∙ c.args.bits.now.ok.0 in
+    let all : length now ≡ c.len-from.result + c.piece_len.result = ap length c.as_mut_slice.ensures.value ∙ sym c.resize.new.self.ok.0 ∙ c.in_ok-resize.ensures.len in
     let from = c.start.ensures ∙ same_start c.args.rv c.size-k.ensures c.buffer_len-size.ensures.value in
-    let all : chosen c.args.streams.now c.size-k.result c.fill.result c.start.result c.buffer_len-size.result c.piece_len.result ≡ sent p c.args.m.now c.args.streams.now c.args.r c.args.rv =
-    same_chosen c.args.streams.now c.size-k.ensures c.fill.ensures from c.buffer_len-size.ensures.value c.piece_len.ensures.value in
-    on_ok_weaker c.push_bits.result (λ is. is ∙ ap (λ (bits : List Bit). c.args.bits.now.items ++ bits) all) c.push_bits.ensures
+    let part : length (take (length now - c.len-from.result) (drop c.len-from.result now)) ≡ c.piece_len.result = rest-long c.len-from.result c.piece_len.result now all in
+    let is : new ≡ sent p c.args.m.now c.args.streams.now c.args.r c.args.rv =
+    c.write_bits.ensures
+    ∙ ap (chosen c.args.streams.now c.size-k.result c.fill.result c.start.result c.buffer_len-size.result) part
+    ∙ same_chosen c.args.streams.now c.size-k.ensures c.fill.ensures from c.buffer_len-size.ensures.value c.piece_len.ensures.value in
+    let long : length new ≡ c.piece_len.result = ap length is ∙ sent-long p c.args.m.now c.args.streams.now c.args.r c.args.rv ∙ sym c.piece_len.ensures.value in
+    behind_written c.len-from.result c.piece_len.result c.resize.new.self.len had now new _ _ first c.in_ok-resize.ensures.len long
+    (longer-kept c.len-from.result c.piece_len.result Zero had now c.resize.new.self.items first c.as_mut_slice.ensures.value
+    (c.in_ok-resize.ensures.items ∙ ap (λ (m : ℕ). take (c.len-from.result + c.piece_len.result) had ++ replicate (c.len-from.result + c.piece_len.result - m) Zero) (sym c.len-from.ensures)))
+    ∙ ap (λ (bits : List Bit). had ++ bits) is

@@ -1,7 +1,7 @@
 use Rattle.std.proofs.Common.{◌≡◌, ℕ, ◌*◌, ◌/◌, ◌%◌, length, ap, sym, ◌∙◌, arith}
 use Rattle.soft_channel.specs.Noise.{noise_terms}
 use Rattle.qam_points.specs.Reception.{received}
-use Rattle.stream_values.specs.SoftBytes.{bytes_of}
+use Rattle.stream_loop.specs.SoftBytes.{bytes_of}
 use Rattle.relay_commands.specs.Channel.{transmission_of}
 use Rattle.relay_commands.specs.HardBits.{bits_in}
 use Rattle.relay_commands.proofs.HardBits.{length_bits}

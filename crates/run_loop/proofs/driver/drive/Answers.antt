@@ -1,72 +1,114 @@
-use Rattle.std.proofs.Common.{ℕ, refl, subst, ◌∙◌, arith}
-use Rattle.run_loop.specs.Answer.{opened}
-use Rattle.run_loop.specs.Edges.{held}
-use Rattle.run_loop.specs.Ended.{Ended}
-use Rattle.run_loop.specs.declared.status.Status.TheVariants as status
-use Rattle.run_loop.specs.Step.{Stops}
-use Rattle.run_loop.specs.declared.work.Stop.{Stop}
-use Rattle.run_loop.proofs.Endings.{started, wrote, went_on, faulted, starved, refused, blocked, unclosed}
+use Rattle.std.proofs.Common.{◌≡◌, ℕ, List, Some, subst, sym, arith}
+use Rattle.run_loop.specs.Edges.{edges}
+use Rattle.run_loop.specs.Puts.{HasSinkCause}
+use Rattle.run_loop.specs.Reply.{reading, Ends}
+use Rattle.run_loop.specs.Step.{FailsBy}
+use Rattle.run_loop.proofs.Endings.{wrote, went_on, failed, blocked, closed_done, ends_done, unclosed}
+use Rattle.run_loop.proofs.Rises.{causes_failing, causes_writing, later_then}
 use Rattle.run_loop.proofs.driver.drive.Goals as goal
 
+pub returns-in-Err : goal.returns-in-Err
+returns-in-Err g c =
+    let o = c.in-Err.ensures.opens (g.R.Sink.held c.args.report.now) (g.R.Sink.faults c.args.report.now) in
+    record { ended = o.opens; causes = o.causes; later = o.later }
+
 pub loop-sink-init : goal.loop-sink-init
-loop-sink-init g c = record {
-  reached = λ input told fit. started _ _ _ _ input _ _ refl told fit c.in_default.ensures.ok;
-  ready = c.requires;
-  ahead = refl;
-  reads = omega arith;
-  outs = omega (arith, c.in_default.ensures.cause.later);
-  reports = omega arith;
-}
+loop-sink-init g c =
+    let o = c.in-Ok.ensures.opens (g.R.Sink.held c.args.report.now) (g.R.Sink.faults c.args.report.now) in
+    record { reached = o.opens; ready = c.in-Ok.ensures.ready; later = o.later }
+
+pub returns-in-Err-put_all : goal.returns-in-Err-put_all
+returns-in-Err-put_all g c =
+    let was = c.loop-sink.invariant in
+    let whole = g.O.Open.answer c.args.command in
+    let old = edges g.S.Source g.D.Sink g.R.Sink c.args.source.now c.args.out.now c.args.report.now in
+    let mid = edges g.S.Source g.D.Sink g.R.Sink c.loop-sink.source c.loop-sink.out c.loop-sink.report in
+    let new = edges g.S.Source g.D.Sink g.R.Sink c.round-parts.new.source c.put_all.new.out c.put_all.new.report in
+    record {
+      ended = λ input is.
+          let r = was.reached input is in
+          blocked (whole input) (g.O.Rounds.Work.answer c.loop-sink.work) (g.O.Rounds.Work.answer c.round-parts.new.self) old mid new c.round-parts.result c.as_slice.result.now
+          c.in-Err-put_all.sink r (c.round-parts.ensures.step r.rest r.left) c.as_slice.ensures.value c.in-Err-put_all.ensures.bytes;
+      causes = causes_writing old mid new c.in-Err-put_all.sink was.later (subst (HasSinkCause mid.outs new.outs mid.reports new.reports) c.in-Err-put_all.is c.put_all.ensures.cause);
+      later = later_then old mid new was.later c.round-parts.ensures.later c.put_all.ensures.cause.out_later c.put_all.ensures.cause.report_later;
+    }
+
+pub returns-in-Err-put : goal.returns-in-Err-put
+returns-in-Err-put g c =
+    let was = c.loop-sink.invariant in
+    let whole = g.O.Open.answer c.args.command in
+    let answer = g.O.Rounds.Work.answer c.loop-sink.work in
+    let after = g.O.Rounds.Work.answer c.round-parts.new.self in
+    let old = edges g.S.Source g.D.Sink g.R.Sink c.args.source.now c.args.out.now c.args.report.now in
+    let mid = edges g.S.Source g.D.Sink g.R.Sink c.loop-sink.source c.loop-sink.out c.loop-sink.report in
+    let between = edges g.S.Source g.D.Sink g.R.Sink c.round-parts.new.source c.put_all.new.out c.put_all.new.report in
+    let new = edges g.S.Source g.D.Sink g.R.Sink c.round-parts.new.source c.put.new.out c.put.new.report in
+    let later = later_then old mid between was.later c.round-parts.ensures.later c.put_all.ensures.cause.out_later c.put_all.ensures.cause.report_later in
+    let end = c.in-End in
+    record {
+      ended = λ input is.
+          let r = was.reached input is in
+          let step = c.round-parts.ensures.step r.rest r.left in
+          let w = wrote (whole input) answer after old mid between c.round-parts.result c.as_slice.result.now r step c.as_slice.ensures.value c.in_default.ensures.bytes in
+          unclosed (whole input) step.0 after _ step.1 old between new c.round-parts.result.stop end.closing end.last end.failed c.as_slice-in-End.result.now c.as_slice-in-End-2.result.now
+          c.in-Err-put.sink w end.is step.4 c.as_slice-in-End.ensures.value c.as_slice-in-End-2.ensures.value c.in-Err-put.ensures.bytes;
+      causes = causes_writing old between new c.in-Err-put.sink later (subst (HasSinkCause between.outs new.outs between.reports new.reports) c.in-Err-put.is c.put.ensures.cause);
+      later = later_then old between new later (omega arith) c.put.ensures.cause.out_later c.put.ensures.cause.report_later;
+    }
+
+pub returns-in-End : goal.returns-in-End
+returns-in-End g c =
+    let was = c.loop-sink.invariant in
+    let whole = g.O.Open.answer c.args.command in
+    let answer = g.O.Rounds.Work.answer c.loop-sink.work in
+    let after = g.O.Rounds.Work.answer c.round-parts.new.self in
+    let old = edges g.S.Source g.D.Sink g.R.Sink c.args.source.now c.args.out.now c.args.report.now in
+    let mid = edges g.S.Source g.D.Sink g.R.Sink c.loop-sink.source c.loop-sink.out c.loop-sink.report in
+    let between = edges g.S.Source g.D.Sink g.R.Sink c.round-parts.new.source c.put_all.new.out c.put_all.new.report in
+    let new = edges g.S.Source g.D.Sink g.R.Sink c.round-parts.new.source c.put.new.out c.put.new.report in
+    let later = later_then old mid between was.later c.round-parts.ensures.later c.put_all.ensures.cause.out_later c.put_all.ensures.cause.report_later in
+    let end = c.in-End in
+    subst (Ends (λ input. reading (whole input)) old new) (sym c.done.ensures)
+    (ends_done whole old new end.failed (later_then old between new later (omega arith) c.put.ensures.cause.out_later c.put.ensures.cause.report_later)
+    (λ input is.
+    let r = was.reached input is in
+    let step = c.round-parts.ensures.step r.rest r.left in
+    let w = wrote (whole input) answer after old mid between c.round-parts.result c.as_slice.result.now r step c.as_slice.ensures.value c.in_default.ensures.bytes in
+    closed_done (whole input) step.0 after _ step.1 old between new c.round-parts.result.stop end.closing end.last end.failed c.as_slice-in-End.result.now c.as_slice-in-End-2.result.now
+    w end.is step.4 c.as_slice-in-End.ensures.value c.as_slice-in-End-2.ensures.value c.in_default-put.ensures.bytes))
+
+pub returns-in-Fails : goal.returns-in-Fails
+returns-in-Fails g c =
+    let was = c.loop-sink.invariant in
+    let whole = g.O.Open.answer c.args.command in
+    let after = g.O.Rounds.Work.answer c.round-parts.new.self in
+    let old = edges g.S.Source g.D.Sink g.R.Sink c.args.source.now c.args.out.now c.args.report.now in
+    let mid = edges g.S.Source g.D.Sink g.R.Sink c.loop-sink.source c.loop-sink.out c.loop-sink.report in
+    let new = edges g.S.Source g.D.Sink g.R.Sink c.round-parts.new.source c.put_all.new.out c.put_all.new.report in
+    record {
+      ended = λ input is.
+          let r = was.reached input is in
+          let step = c.round-parts.ensures.step r.rest r.left in
+          let w = wrote (whole input) (g.O.Rounds.Work.answer c.loop-sink.work) after old mid new c.round-parts.result c.as_slice.result.now r step c.as_slice.ensures.value c.in_default.ensures.bytes in
+          failed (whole input) step.0 after r.front _ step.1 old new c.round-parts.result.stop c.in-Fails.status w r.some c.in-Fails.is step.4;
+      causes = causes_failing old new mid.reads c.in-Fails.status was.later.reads (subst (FailsBy mid.reads new.reads) c.in-Fails.is c.round-parts.ensures.fails);
+      later = later_then old mid new was.later c.round-parts.ensures.later c.put_all.ensures.cause.out_later c.put_all.ensures.cause.report_later;
+    }
 
 pub loop-sink-preserved : goal.loop-sink-preserved
-loop-sink-preserved g c = record {
-  reached = λ input told fit.
-      let r = c.loop-sink.invariant.reached input told fit in
-      let step = c.round-blocks.ensures.step r.rest r.left r.fit in
-      let w = wrote _ _ _ _ (g.W.Work.answer c.round-blocks.new.self) _ (g.W.Work.fits c.round-blocks.new.self) _ _ (g.S.Source.left c.round-blocks.new.source) _ _ c.round-blocks.result r step c.in_default-put_all.ensures.bytes in
-      went_on _ _ _ _ (g.W.Work.answer c.round-blocks.new.self) (g.W.Work.fits c.round-blocks.new.self) _ _ (g.S.Source.left c.round-blocks.new.source) _ _ w c.round-blocks.result.stop c.in-Go.is step.6;
-  ready = c.round-blocks.ensures.ready c.in-Go.is;
-  ahead = c.round-blocks.ensures.ahead ∙ c.loop-sink.invariant.ahead;
-  reads = omega (arith, c.loop-sink.invariant.reads, c.round-blocks.ensures.later);
-  outs = omega (arith, c.loop-sink.invariant.outs, c.put_all.ensures.out_later);
-  reports = omega (arith, c.loop-sink.invariant.reports, c.put_all.ensures.report_later);
-}
-
-pub returns-in-Err-put_all-clause-ended : goal.returns-in-Err-put_all-clause-ended
-returns-in-Err-put_all-clause-ended g c input told fit =
-    let r = c.loop-sink.invariant.reached input told fit in
-    let step = c.round-blocks.ensures.step r.rest r.left r.fit in
-    blocked (g.W.Work.ahead c.args.work.now) (g.W.Work.ahead c.loop-sink.work) _ _ _ (g.W.Work.answer c.round-blocks.new.self) _ (g.W.Work.fits c.round-blocks.new.self) _ _ (g.S.Source.left c.round-blocks.new.source) _ _ c.round-blocks.result c.in-Err-put_all.sink r step c.in-Err-put_all.ensures.bytes
-
-pub returns-in-Bad-clause-ended : goal.returns-in-Bad-clause-ended
-returns-in-Bad-clause-ended g c input told fit =
-    let r = c.loop-sink.invariant.reached input told fit in
-    let step = c.round-blocks.ensures.step r.rest r.left r.fit in
-    let w = wrote _ _ _ _ (g.W.Work.answer c.round-blocks.new.self) _ (g.W.Work.fits c.round-blocks.new.self) _ _ (g.S.Source.left c.round-blocks.new.source) _ _ c.round-blocks.result r step c.in_default-put_all.ensures.bytes in
-    refused (g.W.Work.ahead c.loop-sink.work) (g.W.Work.ahead c.args.work.now) _ _ _ (g.W.Work.answer c.round-blocks.new.self) (g.W.Work.fits c.round-blocks.new.self) _ _ (g.S.Source.left c.round-blocks.new.source) _ _ _ _ w c.round-blocks.result.stop c.in-Bad.is step.6
-
-pub returns-in-Fault-clause-ended : goal.returns-in-Fault-clause-ended
-returns-in-Fault-clause-ended g c input told fit =
-    let r = c.loop-sink.invariant.reached input told fit in
-    let step = c.round-blocks.ensures.step r.rest r.left r.fit in
-    let w = wrote _ _ _ _ (g.W.Work.answer c.round-blocks.new.self) _ (g.W.Work.fits c.round-blocks.new.self) _ _ (g.S.Source.left c.round-blocks.new.source) _ _ c.round-blocks.result r step c.in_default-put_all.ensures.bytes in
-    faulted (g.W.Work.ahead c.loop-sink.work) (g.W.Work.ahead c.args.work.now) _ _ _ (g.W.Work.answer c.round-blocks.new.self) (g.W.Work.fits c.round-blocks.new.self) _ _ (g.S.Source.left c.round-blocks.new.source) _ _ w c.round-blocks.result.stop c.in-Fault.is step.6
-
-pub returns-in-NoMemory-clause-ended : goal.returns-in-NoMemory-clause-ended
-returns-in-NoMemory-clause-ended g c input told fit =
-    let r = c.loop-sink.invariant.reached input told fit in
-    let step = c.round-blocks.ensures.step r.rest r.left r.fit in
-    let w = wrote _ _ _ _ (g.W.Work.answer c.round-blocks.new.self) _ (g.W.Work.fits c.round-blocks.new.self) _ _ (g.S.Source.left c.round-blocks.new.source) _ _ c.round-blocks.result r step c.in_default-put_all.ensures.bytes in
-    let P : ℕ → Type 0 = λ n. Ended n (opened (g.W.Work.opening c.args.work.now) (g.W.Work.answer c.args.work.now input))
-    (held (g.S.Source.left c.args.source.now) (g.D.Sink.held c.args.out.now) (g.R.Sink.held c.args.report.now))
-    (held (g.S.Source.left c.round-blocks.new.source) (g.D.Sink.held c.put_all.new.out) (g.R.Sink.held c.put_all.new.report)) status.NoMemory in
-    subst P c.loop-sink.invariant.ahead
-    (starved (g.W.Work.ahead c.loop-sink.work) _ _ _ (g.W.Work.answer c.round-blocks.new.self) (g.W.Work.fits c.round-blocks.new.self) _ _ (g.S.Source.left c.round-blocks.new.source) _ _ w c.round-blocks.result.stop c.in-NoMemory.is step.6)
-
-pub returns-in-Err-close-clause-ended : goal.returns-in-Err-close-clause-ended
-returns-in-Err-close-clause-ended g c input told fit =
-    let r = c.loop-sink.invariant.reached input told fit in
-    let step = c.round-blocks.ensures.step r.rest r.left r.fit in
-    let w = wrote _ _ _ _ (g.W.Work.answer c.round-blocks.new.self) _ (g.W.Work.fits c.round-blocks.new.self) _ _ (g.S.Source.left c.round-blocks.new.source) _ _ c.round-blocks.result r step c.in_default-put_all.ensures.bytes in
-    let end = subst (λ (k : Stop). Stops (g.W.Work.ahead c.loop-sink.work) step.0 (g.W.Work.answer c.round-blocks.new.self) (g.W.Work.fits c.round-blocks.new.self) step.2 (g.S.Source.left c.round-blocks.new.source) k) c.in-End.is step.6 in
-    unclosed (g.W.Work.ahead c.args.work.now) _ _ _ _ _ (g.S.Source.left c.round-blocks.new.source) _ _ (g.D.Sink.held c.close.new.out) (g.R.Sink.held c.close.new.report) _ _ c.in-Err-close.sink w end.1 end.2 end.3 c.in-Err-close.ensures.bytes
+loop-sink-preserved g c =
+    let was = c.loop-sink.invariant in
+    let whole = g.O.Open.answer c.args.command in
+    let after = g.O.Rounds.Work.answer c.round-parts.new.self in
+    let old = edges g.S.Source g.D.Sink g.R.Sink c.args.source.now c.args.out.now c.args.report.now in
+    let mid = edges g.S.Source g.D.Sink g.R.Sink c.loop-sink.source c.loop-sink.out c.loop-sink.report in
+    let new = edges g.S.Source g.D.Sink g.R.Sink c.round-parts.new.source c.put_all.new.out c.put_all.new.report in
+    record {
+      reached = λ input is.
+          let r = was.reached input is in
+          let step = c.round-parts.ensures.step r.rest r.left in
+          let w = wrote (whole input) (g.O.Rounds.Work.answer c.loop-sink.work) after old mid new c.round-parts.result c.as_slice.result.now r step c.as_slice.ensures.value c.in_default.ensures.bytes in
+          went_on (whole input) step.0 after r.front _ step.1 old new c.round-parts.result.stop w r.some c.in-Go.is step.4;
+      ready = c.round-parts.ensures.ready c.in-Go.is;
+      later = later_then old mid new was.later c.round-parts.ensures.later c.put_all.ensures.cause.out_later c.put_all.ensures.cause.report_later;
+    }

@@ -5,7 +5,7 @@ use Rattle.std.proofs.lemmas.List.{length-map}
 use Rattle.edge_io.specs.Edge.{Adds}
 use Rattle.edge_io.proofs.Known.{adds_then}
 use Rattle.run_loop.specs.FaultLine.{joined}
-use Rattle.run_loop.proofs.Lines.{front_of, more_of, line_all, line_part}
+use Rattle.run_loop.proofs.LineParts.{front_of, more_of, line_all, line_part}
 use Rattle.run_loop.proofs.Rises.{rose_since}
 use Rattle.run_loop.proofs.fault_line.write_each.Goals as goal
 

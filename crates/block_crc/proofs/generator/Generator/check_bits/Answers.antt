@@ -6,11 +6,11 @@ use Rattle.block_crc.proofs.generator.Generator.check_bits.Goals as goal
 
 pub returns-clause-value : goal.returns-clause-value
 returns-clause-value c =
-    crc_by_number c.args.self.coefficients c.args.bits.now c.digits.result c.args.self.monic c.digits.ensures.width
+    crc_by_number c.args.self.now.coefficients c.args.bits.now c.digits.result c.args.self.now.monic c.digits.ensures.width
     (c.digits.ensures.value ∙ rw c.remainder.ensures.value at c.remainder-2.ensures.value)
 
 pub returns-clause-is_crc : goal.returns-clause-is_crc
 returns-clause-is_crc c =
-    let g = c.args.self.coefficients in
+    let g = c.args.self.now.coefficients in
     let bits = c.args.bits.now in
-    subst (λ (p : List Bit). IsCrc g bits p) (sym (returns-clause-value c)) (crc-is g bits c.args.self.monic)
+    subst (λ (p : List Bit). IsCrc g bits p) (sym (returns-clause-value c)) (crc-is g bits c.args.self.now.monic)

@@ -4,7 +4,7 @@ use Rattle.block_crc.proofs.generator.Generator.divides.Goals as goal
 
 pub returns : goal.returns
 returns c =
-    let law = multiple-remainder c.args.self.coefficients c.args.bits.now c.args.self.monic in (
+    let law = multiple-remainder c.args.self.now.coefficients c.args.bits.now c.args.self.now.monic in (
       λ none. law.1 (grind (arith, none)),
       λ multiple. grind (arith, law.0 multiple),
     )

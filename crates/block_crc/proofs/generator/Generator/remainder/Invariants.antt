@@ -1,9 +1,9 @@
-use Rattle.std.proofs.Common.{◌≡◌, ◌<◌, ◌^◌, drop}
+use Rattle.std.proofs.Common.{◌≡◌, ◌<◌, ◌*◌, ◌^◌, drop}
 use Rattle.sender_model.specs.CheckBits.{remainder}
 use Rattle.block_crc.proofs.generator.Generator.remainder.Given as goal
 
-abbrev pub invariant-loop-bit : goal.invariant-loop-bit
-invariant-loop-bit l = record {
-  value : remainder l.self.coefficients l.rest (drop l.bit-index l.bits) ≡ remainder l.self.coefficients l.start l.bits;
+abbrev pub invariant-loop-byte : goal.invariant-loop-byte
+invariant-loop-byte l = record {
+  value : remainder l.self.coefficients l.rest (drop (l.byte-index * 8) l.bits) ≡ remainder l.self.coefficients l.start l.bits;
   small : l.rest < 2 ^ 24;
 }

@@ -16,7 +16,9 @@ receive-requires g c =
     let P : ℕ → Type 0 = λ n. FitsIn (common h.sends).limit (plan_of n).c (plan_of n).k_plus in
     let B : Result Plan BadLength → Type 0 = λ r. IfOk r (λ plan. plan.bytes ≡ c.args.payload) in
     let same : c.unwrap.result.bytes ≡ c.args.payload = subst B c.unwrap.ensures c.plan.ensures.bytes in
-    c.requires.takes _ _ _ _ (record {
+    c.requires.takes _ _ _ _ _ (record {
       fits = subst P (sym same) (fits_all-true (common h.sends).limit h.tb h.fits c.args.payload a.some a.few);
       values = ap length (c.as_slice.ensures ∙ c.in_ok-softs.ensures) ∙ softs_counted h.kind h.sends c.args.bytes.now c.requires.soft a.sent;
+      some_workers = c.args.self.now.some_workers;
+      few_workers = c.args.self.now.few_workers;
     })

@@ -32,7 +32,7 @@ push-requires-clause-accepted g c =
 
 pub loop-number-preserved : goal.loop-number-preserved
 loop-number-preserved g c =
-    let w = g.T.Transmitter.relaying c.args.self.now.transmitter in
+    let w = g.T.Transmitter.relaying c.args.self.now.0 in
     let h = header_of c.args.header.now in
     let i = c.loop-number.number in
     let s : Sending = record { m = c.at-m.result.0; rv = c.at-m.result.1 } in

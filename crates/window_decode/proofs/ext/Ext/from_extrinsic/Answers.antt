@@ -6,42 +6,11 @@ use Rattle.std.proofs.lemmas.Int.{ints, clamps}
 use Rattle.lte_bits.specs.Softs.{IsWithin, clamped}
 use Rattle.receiver_model.specs.Windows.{Extrinsic, scaled}
 use Rattle.window_decode.proofs.Within.{within-same}
+use Rattle.window_decode.proofs.Scaling.{quarters}
 use Rattle.window_decode.proofs.ext.Ext.from_extrinsic.Goals as goal
 
 same_cell : (a b : ℤ) (p q : Bool) → a ≡ b → p ≡ q → (let c : Extrinsic = record { value = a; one = p } in c) ≡ (let d : Extrinsic = record { value = b; one = q } in d)
 same_cell a b p q e f = ap (λ (z : ℤ). let c : Extrinsic = record { value = z; one = p } in c) e ∙ ap (λ (t : Bool). let c : Extrinsic = record { value = b; one = t } in c) f
-
--- a quotient is rounded toward zero
-negative : (m : ℕ) → int_div (neg_ℤ (pos m)) (pos 4) ≡ neg_ℤ (pos (m / 4))
-negative zero = refl
-negative (suc m) = refl
-
--- three quarters of 682 are 511
-quarters : (x z : ℤ) → z ≡ int_max (negsuc 681) (int_min x (pos 682)) → int_div (z *ℤ pos 3) (pos 4) ≡ scaled x
-quarters (pos n) z e =
-    elim (cases_lt 682 n) [
-      | inl over ↦ ap (λ v. int_div (v *ℤ pos 3) (pos 4)) (let is : z ≡ pos 682 = omega (arith, ints, clamps, e, over) in is) ∙ above n over
-      | inr under ↦ ap (λ v. int_div (v *ℤ pos 3) (pos 4)) (let is : z ≡ pos n = omega (arith, ints, clamps, e, under) in is) ∙ within n under
-    ]
-  where
-    above : (n : ℕ) → 682 < n → pos 511 ≡ clamped 511 (pos (3 * n / 4))
-    above n h = omega (arith, ints, clamps)
-
-    within : (n : ℕ) → n ≤ 682 → pos (n * 3 / 4) ≡ clamped 511 (pos (3 * n / 4))
-    within n h = omega (arith, ints, clamps)
-quarters (negsuc n) z e =
-    elim (cases_lt 681 n) [
-      | inl under ↦ ap (λ v. int_div (v *ℤ pos 3) (pos 4)) (let is : z ≡ negsuc 681 = omega (arith, ints, clamps, e, under) in is)
-          ∙ (below n under ∙ ap (clamped 511) (sym (negative (3 * suc n))))
-      | inr over ↦ ap (λ v. int_div (v *ℤ pos 3) (pos 4)) (let is : z ≡ negsuc n = omega (arith, ints, clamps, e, over) in is)
-          ∙ (negative (suc n * 3) ∙ (within n over ∙ ap (clamped 511) (sym (negative (3 * suc n)))))
-    ]
-  where
-    below : (n : ℕ) → 681 < n → negsuc 510 ≡ clamped 511 (neg_ℤ (pos (3 * suc n / 4)))
-    below n h = omega (arith, ints, clamps)
-
-    within : (n : ℕ) → n ≤ 681 → neg_ℤ (pos (suc n * 3 / 4)) ≡ clamped 511 (neg_ℤ (pos (3 * suc n / 4)))
-    within n h = omega (arith, ints, clamps)
 
 three : (z : ℤ) → IsWithin 682 z → to_z w32 (of_z w32 (to_z w32 (of_z w32 z) *ℤ pos 3)) ≡ z *ℤ pos 3
 three z h = omega (arith, ints)

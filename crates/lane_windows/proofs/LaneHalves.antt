@@ -1,0 +1,125 @@
+-- Halves of a code block whose windows run in lock step.
+use Rattle.std.proofs.Common.{◌≡◌, ℕ, ◌+◌, ◌*◌, ◌/◌, ◌%◌, ◌<◌, ◌≤◌, ◌==◌, ℤ, pos, Bool, true, false, cond, List, [], length, get_or, map, refl, sym, ap, ◌∙◌, subst, arith}
+use Rattle.std.specs.List.{range_with_len}
+use Rattle.std.proofs.Math.Nat.{mul-le-mul_left}
+use Rattle.std.proofs.lemmas.List.FromFn.{fill_by_all, length-map-range_with_len, get_or-map-range_with_len}
+use Rattle.std.proofs.lemmas.Nat.{div_below, mod_below, div-add-mod'}
+use Rattle.lte_bits.specs.declared.block.SoftStreams.{SoftStreams}
+use Rattle.sender_model.specs.Interleaver.{place}
+use Rattle.receiver_model.specs.Borders.{Border, at}
+use Rattle.receiver_model.specs.Paths.{Window}
+use Rattle.receiver_model.specs.Windows.{Extrinsic, zero_cell, cell_at, new_cells, forward_left, backward_left}
+use Rattle.receiver_model.specs.HalfIteration.{Shape, Before, Left, window_width, positions, order, position_of, systematic_at, parity_at, tail_border, left_by, start_border, end_border, window, renewed, left_after, after}
+use Rattle.receiver_model.proofs.PlacesOfPositions.{position-is}
+use Rattle.serial_decode.specs.Runs.{start_of, window_from}
+use Rattle.serial_decode.specs.Views.{AreWhole, by_position}
+use Rattle.serial_decode.proofs.HalfSteps.{same-by_range}
+use Rattle.serial_decode.proofs.StripParts.{position-inside}
+use Rattle.lock_step.specs.Lanes.{column, border_at}
+use Rattle.lane_windows.specs.Lanes.{values_of_window, cells_of_window, window_of_rows, HaveRun}
+use Rattle.lane_windows.specs.Halves.{AreRowsOf, HaveRunHalf}
+
+-- the values of a window, of all values by position
+pub values-of_half : (shape : Shape) (f : ℕ → ℤ) (values : List ℤ) (t : ℕ) → AreWhole shape → t < shape.windows → values ≡ by_position shape f
+    → values_of_window (window_width shape) values t ≡ map f (positions shape t)
+values-of_half shape f values t whole lt e =
+    same-by_range (at values) f (t * window_width shape) (window_width shape) (pos 0)
+    (λ i li. ap (λ (xs : List ℤ). at xs (t * window_width shape + i)) e
+    ∙ get_or-map-range_with_len f 0 shape.k (t * window_width shape + i) (t * window_width shape + i) (pos 0) (position-inside shape t i whole lt li) (omega arith))
+
+-- the halves of one order read the same rows
+pub rows-of_order : (n : ℕ) (soft : SoftStreams) (shape : Shape) (g h : ℕ) (sys par : List (List ℤ)) → (h % 2 == 0) ≡ (g % 2 == 0)
+    → AreRowsOf n soft shape g sys par → AreRowsOf n soft shape h sys par
+rows-of_order n soft shape g h sys par e rows = record {
+  systematic_long = rows.systematic_long;
+  parity_long = rows.parity_long;
+  systematic = λ t lt. subst (λ (b : Bool). column t sys ≡ map (λ i. at soft.d0 (cond b i (place shape.k i))) (positions shape t)) (sym e) (rows.systematic t lt);
+  parity = λ t lt. subst (λ (b : Bool). column t par ≡ map (λ i. cond b (at soft.d1 i) (at soft.d2 i)) (positions shape t)) (sym e) (rows.parity t lt);
+  systematic_soft = rows.systematic_soft;
+  parity_soft = rows.parity_soft;
+}
+
+pub half-ran : (n : ℕ) (soft : SoftStreams) (shape : Shape) (h w : ℕ) (f : ℕ → ℕ) (from to : List Border) (sys par : List (List ℤ)) (old new : List Extrinsic) (ahead back : List Border)
+    → AreRowsOf n soft shape h sys par → w ≡ window_width shape → ((i : ℕ) → f i ≡ order shape.k h i)
+    → HaveRun n w f from to sys par old new ahead back → HaveRunHalf n soft shape h from to old new ahead back
+half-ran n soft shape h w f from to sys par old new ahead back rows ew ef ran = record {
+  long = ran.long;
+  cells = λ t lt. sym (same-cells new t) ∙ (ran.cells t lt ∙ ap new_cells (same-window t lt));
+  forward = λ t lt. ran.forward t lt ∙ ap forward_left (same-window t lt);
+  backward = λ t lt. ran.backward t lt ∙ ap backward_left (same-window t lt);
+}
+  where
+    same-cells : (cells : List Extrinsic) (t : ℕ) → cells_of_window w f cells t ≡ cells_of_window (window_width shape) (order shape.k h) cells t
+    same-cells cells t =
+        ap (λ (k : ℕ). cells_of_window k f cells t) ew
+        ∙ same-by_range (λ i. cell_at cells (f i)) (λ i. cell_at cells (order shape.k h i)) (t * window_width shape) (window_width shape) zero_cell
+        (λ i li. ap (cell_at cells) (ef (t * window_width shape + i)))
+
+    same-window : (t : ℕ) → t < n → window_of_rows w f from to sys par old t ≡ window_from soft shape h t (border_at from t) (border_at to t) old
+    same-window t lt = λ i. record {
+      start = border_at from t;
+      end = border_at to t;
+      sys = rows.systematic t lt i;
+      par = rows.parity t lt i;
+      cells = map (λ c. c.value) (same-cells old t i);
+    }
+
+-- ---- the windows of a half that starts from cells and borders
+
+module _ (soft : SoftStreams) (shape : Shape) (h : ℕ) (old : List Extrinsic) (left : List Left) (from to : List Border)
+    (whole : AreWhole shape) (many : length left ≡ shape.windows)
+    (starts : (t : ℕ) → t < length left → border_at from t ≡ start_border (start_of [] left) t)
+    (ends : (t : ℕ) → t < length left → border_at to t ≡ cond (t + 1 == length left) (tail_border soft shape.k h) (left_by left (t + 1)).backward) where
+  window-between_borders : (t : ℕ) → t < shape.windows
+      → window_from soft shape h t (border_at from t) (border_at to t) old ≡ window soft shape h (start_of old left) t
+  window-between_borders t lt =
+      let l : t < length left = omega (arith, many, lt) in
+      ap (λ (b : Border). window_from soft shape h t b (border_at to t) old) (starts t l)
+      ∙ ap (λ (b : Border). window_from soft shape h t (start_border (start_of old left) t) b old)
+      (ends t l ∙ ap (λ (k : ℕ). cond (t + 1 == k) (tail_border soft shape.k h) (left_by left (t + 1)).backward) many)
+
+  module _ (new : List Extrinsic) (ahead back : List Border) (ran : HaveRunHalf shape.windows soft shape h from to old new ahead back) where
+    cell-renewed : (i : ℕ) → i < shape.k → cell_at new (order shape.k h i) ≡ renewed soft shape h (start_of old left) i
+    cell-renewed i lt =
+        let w : ℕ = window_width shape in
+        let some : 0 < w = omega (arith, whole.wide) in
+        let t : ℕ = i / w in let j : ℕ = i % w in
+        let lj : j < w = mod_below i w some in
+        let lt2 : t < shape.windows = div_below i w shape.windows some (omega (arith, lt, whole.whole)) in
+        let e : t * w + j ≡ i = div-add-mod' i w in
+        sym (get_or-map-range_with_len (λ i. cell_at new (order shape.k h i)) (t * w) w j i zero_cell lj e)
+        ∙ ap (λ (cells : List Extrinsic). cell_at cells j) (ran.cells t lt2 ∙ ap new_cells (window-between_borders t lt2))
+
+    pub cells-after : length old ≡ shape.k → new ≡ (after soft shape h (start_of old left)).cells
+    cells-after long =
+        fill_by_all (λ n. renewed soft shape h (start_of old left) (position_of shape.k h n)) new shape.k zero_cell (ran.long ∙ long)
+        (λ n lt. let p = position-is shape.k h n whole.size lt in
+        ap (cell_at new) (sym p.1) ∙ cell-renewed (position_of shape.k h n) p.0)
+
+    pub left-after : (more : List Left) → more ≡ map (λ t. record { forward = border_at ahead t; backward = border_at back t }) (range_with_len 0 (length left))
+        → more ≡ (after soft shape h (start_of old left)).left
+    left-after more e =
+        e ∙ (ap (λ (k : ℕ). map left_of (range_with_len 0 k)) many
+        ∙ same-by_range left_of (left_after soft shape h (start_of old left)) 0 shape.windows (left_of 0)
+        (λ t lt. same t lt))
+      where
+        left_of : ℕ → Left
+        left_of t = record { forward = border_at ahead t; backward = border_at back t }
+
+        same : (t : ℕ) → t < shape.windows → left_of (0 + t) ≡ left_after soft shape h (start_of old left) (0 + t)
+        same t lt = let z : t ≡ 0 + t = omega arith in subst (λ (k : ℕ). left_of k ≡ left_after soft shape h (start_of old left) k) z (λ i. record {
+          forward = (ran.forward t lt ∙ ap forward_left (window-between_borders t lt)) i;
+          backward = (ran.backward t lt ∙ ap backward_left (window-between_borders t lt)) i;
+        })
+
+-- rows as they are read
+pub rows-read : (n : ℕ) (soft : SoftStreams) (shape : Shape) (h : ℕ) (sys par s p : List (List ℤ)) → s ≡ sys → p ≡ par → AreRowsOf n soft shape h sys par → AreRowsOf n soft shape h s p
+rows-read n soft shape h sys par s p es ep rows =
+    subst (λ (xs : List (List ℤ)). AreRowsOf n soft shape h xs p) (sym es) (subst (λ (xs : List (List ℤ)). AreRowsOf n soft shape h sys xs) (sym ep) rows)
+
+-- windows of a code block that are 8 or more
+pub narrow : (n w k : ℕ) → n * w ≡ k → 8 ≤ n → k ≤ 6144 → w ≤ 768
+narrow n w k e least most = let le : w * 8 ≤ w * n = mul-le-mul_left w least in let c : w * n ≡ n * w = omega arith in omega (arith, le, c, e, most)
+
+pub covers : (shape : Shape) (n w : ℕ) → AreWhole shape → shape.windows ≡ n → w ≡ window_width shape → n * w ≡ shape.k
+covers shape n w whole en ew = ap (λ (x : ℕ). n * x) ew ∙ (ap (λ (x : ℕ). x * window_width shape) (sym en) ∙ whole.whole)

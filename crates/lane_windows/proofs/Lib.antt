@@ -1,0 +1,7 @@
+pub mod BankCells
+pub mod BankRows
+pub mod Columns
+pub mod CrossingLaws
+pub mod CrossingSteps
+pub mod LaneHalves
+pub mod LaneRuns

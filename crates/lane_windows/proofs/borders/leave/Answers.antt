@@ -1,0 +1,10 @@
+use Rattle.std.proofs.Common.{ℕ, length, arith}
+use Rattle.std.proofs.lemmas.List.FromFn.{fill_by_all}
+use Rattle.receiver_model.specs.HalfIteration.{none_left}
+use Rattle.lock_step.specs.Lanes.{border_at}
+use Rattle.lane_windows.proofs.borders.leave.Goals as goal
+
+pub returns : goal.returns
+returns c =
+    fill_by_all (λ (t : ℕ). record { forward = border_at c.args.ahead.now t; backward = border_at c.args.back.now t }) c.loop-t.left (length c.args.left.now) none_left c.loop-t.auto.left
+    (λ t lt. c.loop-t.invariant t (omega (arith, c.loop-t-test.false, c.loop-t.auto.left, lt)))

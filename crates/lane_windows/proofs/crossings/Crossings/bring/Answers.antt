@@ -1,0 +1,49 @@
+use Rattle.std.proofs.Common.{◌≡◌, ◌≢◌, ℕ, ◌*◌, ◌<◌, ℤ, List, length, get_or, sym, ap, ◌∙◌, subst, arith, inl, inr}
+use Rattle.std.specs.Prelude.{slice_index, slice_set}
+use Rattle.std.proofs.lemmas.Bool.{cases_eq, cases_lt}
+use Rattle.std.proofs.lemmas.List.{get_or_default}
+use Rattle.lte_bits.specs.Softs.{IsWithin}
+use Rattle.receiver_model.specs.Borders.{at}
+use Rattle.lock_step.specs.Lanes.{AreWithin}
+use Rattle.lane_windows.specs.Banks.{number_in}
+use Rattle.lane_windows.proofs.CrossingSteps.{bank_at, read-bank, bring-more}
+use Rattle.lane_windows.proofs.BankCells.{fits-twice, fits-once}
+use Rattle.lane_windows.proofs.BankRows.{read-number}
+use Rattle.lane_windows.proofs.Columns.{number-in_same, number-in_other}
+use Rattle.lane_windows.proofs.crossings.Crossings.bring.Goals as goal
+
+pub bring_row-requires : goal.bring_row-requires
+bring_row-requires g c =
+    let n = g.row.N in let l = c.loop-j in let s = c.args.self.now in
+    let w : ℕ = length c.args.to.now in
+    let lj : l.j < w = omega (arith, c.loop-j-test.true, l.auto.to) in
+    let lb : l.j < length s.banks.items = omega (arith, lj, c.requires.banks) in
+    let below : (t : ℕ) → t < n → slice_index c.index-in-loop-j.result.now t < n =
+    λ t lt. subst (λ (b : ℕ). b < n) (sym (read-bank s.banks.items l.j t c.index-in-loop-j.result.now lb c.index-in-loop-j.ensures)) (c.requires.table.1.bank l.j t lj lt) in
+    (fits-twice n c.requires.lanes, (fits-once n c.requires.lanes, below))
+
+pub loop-j-preserved : goal.loop-j-preserved
+loop-j-preserved g c =
+    let n = g.row.N in let l = c.loop-j in let inv = l.invariant in let s = c.args.self.now in
+    let w : ℕ = length c.args.to.now in
+    let lj : l.j < w = omega (arith, c.loop-j-test.true, l.auto.to) in
+    let lb : l.j < length s.banks.items = omega (arith, lj, c.requires.banks) in
+    let lr : l.j < length s.rows.items = omega (arith, lj, c.requires.rows) in
+    let row : c.from-row.result ≡ slice_index s.rows.items l.j = c.from-row.ensures ∙ (c.index.ensures ∙ get_or_default s.rows.items l.j c.index.result.now 0 lr) in
+    let source = c.index-from-row.result in
+    let read : source ≡ get_or c.args.from.now (slice_index s.rows.items l.j) source = c.index-from-row.is ∙ ap (λ (r : ℕ). get_or c.args.from.now r source) row in
+    let brought : (t : ℕ) → t < n → at c.bring_row.new.to t ≡ at source (bank_at s.banks.items l.j t) =
+    λ t lt. c.bring_row.ensures.brought t lt ∙ ap (at source) (read-bank s.banks.items l.j t c.index-in-loop-j.result.now lb c.index-in-loop-j.ensures) in
+    let from-kept : (m : ℕ) → AreWithin n m c.args.from.now → (b : ℕ) → b < n → IsWithin m (at source b) =
+    λ m all b lm. subst (IsWithin m) (sym (read-number c.args.from.now (slice_index s.rows.items l.j) b source (omega (arith, c.requires.from, c.requires.table.1.row l.j lj)) read)) (all (slice_index s.rows.items l.j) b (omega (arith, c.requires.from, c.requires.table.1.row l.j lj)) lm) in
+    record {
+      done = bring-more n w c.requires.table.0 s.rows.items s.banks.items c.requires.table.1 c.args.from.now l.to l.j source c.bring_row.new.to lj l.auto.to c.requires.from read brought inv.done;
+      kept = λ m all i t li lt. elim (cases_eq i l.j) [
+        | inl e ↦ subst (λ (k : ℕ). IsWithin m (number_in (slice_set l.to l.j c.bring_row.new.to) k t)) (sym e)
+            (subst (IsWithin m) (sym (number-in_same l.to l.j t c.bring_row.new.to (omega (arith, l.auto.to, lj)))) (c.bring_row.ensures.kept m (from-kept m all) t lt))
+        | inr ne ↦ subst (IsWithin m) (sym (number-in_other l.to l.j i t c.bring_row.new.to ne)) (inv.kept m all i t (omega (arith, li, ne)) lt)
+      ];
+    }
+
+pub returns-clause-kept : goal.returns-clause-kept
+returns-clause-kept g c = λ m all j t lj lt. c.loop-j.invariant.kept m all j t (omega (arith, c.loop-j-test.false, lj)) lt

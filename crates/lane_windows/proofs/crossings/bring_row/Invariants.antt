@@ -1,0 +1,10 @@
+use Rattle.std.proofs.Common.{◌≡◌, ℕ, ◌<◌, length, slice_index_or}
+use Rattle.lte_bits.specs.Softs.{IsWithin}
+use Rattle.receiver_model.specs.Borders.{at}
+use Rattle.lane_windows.proofs.crossings.bring_row.Given as goal
+
+abbrev pub invariant-loop-t : goal.invariant-loop-t
+invariant-loop-t g l = record {
+  long : length l.to ≡ g.row.N;
+  done : (k : ℕ) → k < l.t → at l.to k ≡ at l.from (slice_index_or l.banks k 0);
+}

@@ -1,0 +1,38 @@
+use Rattle.std.proofs.Common.{◌≡◌, ℕ, ◌≤◌, ◌++◌, List, length, take, drop, refl, sym, ap, ◌∙◌, subst, arith}
+use Rattle.std.proofs.lemmas.List.FromFn.{length-map-range_with_len}
+use Rattle.receiver_model.specs.HalfIteration.{Left, Before, position_of, renewed, after}
+use Rattle.serial_decode.specs.Runs.{start_of}
+use Rattle.serial_decode.proofs.Parts.{written}
+use Rattle.lane_windows.proofs.decoder.LaneDecoderHalfDecoder.half.Goals as goal
+
+-- as many as were written
+still : {X : Type 0} (n len : ℕ) (new slice items : List X) → len ≡ length items → slice ≡ items → length new ≡ length slice → length items ≡ n
+    → length (take len (new ++ drop (length new) items)) ≡ n
+still n len new slice items ok es el en =
+    ap length (written len new items (el ∙ (ap length es ∙ sym ok))) ∙ (el ∙ (ap length es ∙ en))
+
+pub invariant_of-result : goal.invariant_of-result
+invariant_of-result g c =
+    let n = g.row.N in let d = c.args.self in let half = c.decode_half in let b = d.borders in
+    record {
+      room = omega (arith, d.room, half.ensures.room);
+      border_room = record {
+        from = still n b.from.len half.new.from c.as_mut_slice.result.now b.from.items b.from.ok.0 c.as_mut_slice.ensures.value half.auto.from d.border_room.from;
+        to = still n b.to.len half.new.to c.as_mut_slice-2.result.now b.to.items b.to.ok.0 c.as_mut_slice-2.ensures.value half.auto.to d.border_room.to;
+        ahead = still n b.ahead.len half.new.ahead c.as_mut_slice-3.result.now b.ahead.items b.ahead.ok.0 c.as_mut_slice-3.ensures.value half.auto.ahead d.border_room.ahead;
+        back = still n b.back.len half.new.back c.as_mut_slice-4.result.now b.back.items b.back.ok.0 c.as_mut_slice-4.ensures.value half.auto.back d.border_room.back;
+      };
+      all_places = ap length half.ensures.cells
+          ∙ length-map-range_with_len (λ i. renewed d.views.views.streams.now d.views.views.shape c.args.h (start_of d.banks c.as_mut_slice-5.result.now) (position_of d.views.views.shape.k c.args.h i)) 0 d.views.views.shape.k;
+      all_windows = still n d.left_earlier.len half.new.left c.as_mut_slice-5.result.now d.left_earlier.items d.left_earlier.ok.0 c.as_mut_slice-5.ensures.value half.auto.left d.all_windows_earlier;
+      all_windows_earlier = d.all_windows;
+    }
+
+pub returns-clause-before : goal.returns-clause-before
+returns-clause-before g c =
+    let d = c.args.self in let half = c.decode_half in let v = d.views.views in
+    let after-start = λ (left : List Left). after v.streams.now v.shape c.args.h (start_of d.banks left) in
+    let cells = half.ensures.cells ∙ ap (λ (left : List Left). (after-start left).cells) c.as_mut_slice-5.ensures.value in
+    let left = written d.left_earlier.len half.new.left d.left_earlier.items (half.auto.left ∙ (ap length c.as_mut_slice-5.ensures.value ∙ sym d.left_earlier.ok.0))
+    ∙ (half.ensures.left ∙ ap (λ (left : List Left). (after-start left).left) c.as_mut_slice-5.ensures.value) in
+    λ i. record { cells = cells i; left = left i; left_earlier = d.left.items }

@@ -1,0 +1,13 @@
+use Rattle.std.proofs.Common.{◌≡◌, ℕ, ◌+◌, ◌*◌, ◌<◌, length}
+use Rattle.std.specs.Prelude.{slice_index}
+use Rattle.cell_shares.specs.Orders.{place_in}
+use Rattle.lane_windows.specs.Crossings.{place_of}
+use Rattle.lane_windows.proofs.CrossingSteps.{IsTableTo}
+use Rattle.lane_windows.proofs.places.follow.Given as goal
+
+abbrev pub invariant-loop-j : goal.invariant-loop-j
+invariant-loop-j g l = record {
+  rows : length l.crossings.rows.items ≡ length l.fn.crossings.rows.items;
+  banks : length l.crossings.banks.items ≡ length l.fn.crossings.banks.items;
+  table : IsTableTo g.row.N l.width l.j (place_in l.order) l.crossings.rows.items l.crossings.banks.items;
+}

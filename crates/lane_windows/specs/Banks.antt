@@ -1,0 +1,36 @@
+-- Cells in banks: row r has in bank b the cell of place b*W + r.
+use Rattle.std.specs.Prelude.{◌≡◌, ℕ, ◌+◌, ◌*◌, ◌/◌, ◌%◌, ◌≤◌, ℤ, pos, int_lt, List, [], length, map, slice_index_or, nat_lt, if◌then◌else◌}
+use Rattle.std.specs.List.{range_with_len}
+use Rattle.lte_bits.specs.declared.bit.Bit.{Bit}
+use Rattle.lte_bits.specs.declared.bit.Bit.TheVariants.{Zero, One}
+use Rattle.receiver_model.specs.Borders.{at}
+use Rattle.receiver_model.specs.Windows.{Extrinsic}
+use Rattle.lock_step.specs.Lanes.{IsLaneCount, AreWithin}
+
+-- the number in a lane of a row
+abbrev pub number_in : List (List ℤ) → ℕ → ℕ → ℤ
+number_in rows r b = at (slice_index_or rows r []) b
+
+-- the cell of a value, decided by a sum: 1 exactly where the sum is negative
+abbrev pub cell_of : ℤ → ℤ → Extrinsic
+cell_of value sum = record { value = value; one = int_lt sum (pos 0) }
+
+-- the cell in a bank of a row
+abbrev pub cell_in : (values sums : List (List ℤ)) → ℕ → ℕ → Extrinsic
+cell_in values sums r b = cell_of (number_in values r b) (number_in sums r b)
+
+-- the cells of n banks by place, where there are w rows
+abbrev pub cells_by_place : ℕ → ℕ → (values sums : List (List ℤ)) → List Extrinsic
+cells_by_place n w values sums = map (λ i. cell_in values sums (i % w) (i / w)) (range_with_len 0 (n * w))
+
+-- what banks keep
+pub record AreBanks (n : ℕ) (values sums : List (List ℤ)) : Type 0 where
+  pub lanes : IsLaneCount n
+  pub sums_long : length sums ≡ length values
+  pub least : 8 ≤ length values
+  pub most : length values ≤ 768
+  pub within : AreWithin n 511 values
+
+-- the decided bit of a place, by its sum: 0 at the first places, which are fillers
+abbrev pub bit_at_place : (fill i : ℕ) → ℤ → Bit
+bit_at_place fill i sum = if nat_lt i fill then Zero else if int_lt sum (pos 0) then One else Zero

@@ -1,0 +1,38 @@
+-- Windows whose cells stand in banks.
+use Rattle.std.specs.Prelude.{◌≡◌, ℕ, ◌*◌, ◌<◌, ℤ, List, length, map}
+use Rattle.std.specs.List.{range_with_len}
+use Rattle.receiver_model.specs.Borders.{Border, at}
+use Rattle.receiver_model.specs.Paths.{Window}
+use Rattle.receiver_model.specs.Windows.{Extrinsic, window_between, cell_at, new_cells, forward_left, backward_left}
+use Rattle.lock_step.specs.Lanes.{border_at, column}
+
+-- the values of window t, of values by position
+abbrev pub values_of_window : ℕ → List ℤ → ℕ → List ℤ
+values_of_window w values t = map (at values) (range_with_len (t * w) w)
+
+-- its cells, of the cells by place
+abbrev pub cells_of_window : ℕ → (ℕ → ℕ) → List Extrinsic → ℕ → List Extrinsic
+cells_of_window w place cells t = map (λ i. cell_at cells (place i)) (range_with_len (t * w) w)
+
+-- window t of windows that are w wide
+abbrev pub window_of : ℕ → (ℕ → ℕ) → (from to : List Border) → (sys par : List ℤ) → List Extrinsic → ℕ → Window
+window_of w place from to sys par cells t =
+    window_between (border_at from t) (border_at to t) (values_of_window w sys t) (values_of_window w par t)
+    (cells_of_window w place cells t)
+
+-- the same, of soft values by rows
+abbrev pub window_of_rows : ℕ → (ℕ → ℕ) → (from to : List Border) → (sys par : List (List ℤ)) → List Extrinsic → ℕ → Window
+window_of_rows w place from to sys par cells t =
+    window_between (border_at from t) (border_at to t) (column t sys) (column t par)
+    (cells_of_window w place cells t)
+
+-- n windows w wide, whose positions stand at these places, have run: their new cells and the borders that they
+-- leave
+pub record HaveRun
+    (n w : ℕ) (place : ℕ → ℕ) (from to : List Border) (sys par : List (List ℤ))
+    (old new : List Extrinsic) (ahead back : List Border) : Type 0 where
+  pub long : length new ≡ length old
+  pub cells : (t : ℕ) → t < n
+      → cells_of_window w place new t ≡ new_cells (window_of_rows w place from to sys par old t)
+  pub forward : (t : ℕ) → t < n → border_at ahead t ≡ forward_left (window_of_rows w place from to sys par old t)
+  pub backward : (t : ℕ) → t < n → border_at back t ≡ backward_left (window_of_rows w place from to sys par old t)

@@ -1,0 +1,7 @@
+-- What the next half of a decoding in lock step starts from.
+use Rattle.std.specs.Prelude.{ℕ}
+use Rattle.receiver_model.specs.HalfIteration.{Before}
+use Rattle.lane_windows.specs.declared.decoder.LaneDecoder.{LaneDecoder}
+
+abbrev pub before_of : {N : ℕ} → LaneDecoder N → Before
+before_of d = record { cells = d.banks; left = d.left.items; left_earlier = d.left_earlier.items }

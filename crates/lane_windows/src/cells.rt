@@ -1,0 +1,74 @@
+//! Cells as numbers: a value, and a sum that is negative exactly where the decided bit is 1.
+ghost use Rattle.std.specs.Prelude.{◌≡◌, ◌≢◌, ℕ, ◌+◌, ◌*◌, ◌%◌, ◌<◌, pos, int_lt, length, slice_index_or};
+ghost use Rattle.lte_bits.specs.Softs.{IsWithin};
+ghost use Rattle.lte_bits.specs.declared.bit.Bit.TheVariants.{Zero};
+ghost use Rattle.receiver_model.specs.Borders.{at};
+ghost use Rattle.receiver_model.specs.Windows.{cell_at};
+ghost use Rattle.lock_step.specs.Lanes.{IsLaneCount};
+ghost use Rattle.lane_windows.specs.Banks.{cell_of, bit_at_place};
+
+use lte_bits::Bit;
+use serial_decode::bits::decided;
+use window_decode::Ext;
+
+/// The cell of a lane, decided by its sum.
+pub fn lane_cell<const N: usize>(values: &[i16; N], sums: &[i16; N], b: usize) -> Ext
+    requires lane { b < N }
+    requires within { IsWithin 511 (at values.now b) }
+    ensures { result ≡ cell_of (at values.now b) (at sums.now b) }
+{
+    Ext {
+        value: values[b],
+        one: sums[b] < 0,
+    }
+}
+
+/// The decided bit of place `i` in a lane: 0 at the first `fill` places.
+pub fn lane_bit<const N: usize>(fill: usize, i: usize, sums: &[i16; N], b: usize) -> Bit
+    requires { b < N }
+    ensures { result ≡ bit_at_place fill i (at sums.now b) }
+{
+    decided(i < fill, sums[b] < 0)
+}
+
+/// Leaves the decided bits of row `r`, of which each bank has `width`: 0 at the first `fill` places.
+pub fn decide_row<const N: usize>(
+    fill: usize,
+    sums: &[i16; N],
+    width: usize,
+    r: usize,
+    bits: &mut [Bit],
+)
+    requires lanes { IsLaneCount N }
+    requires row { r < width }
+    requires long { length bits.old ≡ N * width }
+    ensures row { (b : ℕ) → b < N → slice_index_or bits.new (b * width + r) Zero
+        ≡ bit_at_place fill (b * width + r) (at sums.now b) }
+    ensures others { (i : ℕ) → i % width ≢ r
+        → slice_index_or bits.new i Zero ≡ slice_index_or bits.old i Zero }
+{
+    for b in 0..N {
+        let place = b * width + r;
+        bits[place] = lane_bit(fill, place, sums, b);
+    }
+}
+
+/// A sum that decides a bit.
+fn sum_of(one: bool) -> i16
+    ensures { int_lt result (pos 0) ≡ one }
+{
+    if one { -1 } else { 0 }
+}
+
+/// Leaves the values and the sums of a row of cells.
+pub fn split<const N: usize>(row: &[Ext; N], values: &mut [i16; N], sums: &mut [i16; N])
+    ensures value { (b : ℕ) → b < N → at values.new b ≡ (cell_at row.now b).value }
+    ensures sum { (b : ℕ) → b < N → int_lt (at sums.new b) (pos 0) ≡ (cell_at row.now b).one }
+    ensures within { (b : ℕ) → IsWithin 511 (at values.new b) }
+{
+    for b in 0..N {
+        let cell = row[b];
+        values[b] = cell.value;
+        sums[b] = sum_of(cell.one);
+    }
+}

@@ -1,0 +1,113 @@
+//! Rows brought from the order of the banks into that of the windows, and back.
+ghost use Rattle.std.specs.Prelude.{◌≡◌, ℕ, ◌+◌, ◌*◌, ◌<◌, ◌≤◌, [], IfOk, length, slice_index, slice_index_or, slice_set};
+ghost use Rattle.lte_bits.specs.Softs.{IsWithin};
+ghost use Rattle.receiver_model.specs.Borders.{at};
+ghost use Rattle.lock_step.specs.Lanes.{IsLaneCount, AreWithin};
+ghost use Rattle.lane_windows.specs.Banks.{number_in};
+ghost use Rattle.lane_windows.specs.Crossings.{IsTable, AreApart};
+
+use lte_bits::NoMemory;
+use std::alloc::Global;
+
+/// The row and the banks in which the cells of N windows stand at each step.
+#[derive(Drop)]
+pub struct Crossings<const N: usize> {
+    pub rows: Vec<u16>,
+    pub banks: Vec<[u8; N]>,
+}
+
+/// Leaves in lane `t` the number of bank `banks[t]`.
+fn bring_row<const N: usize>(from: &[i16; N], banks: &[u8; N], to: &mut [i16; N])
+    requires { (t : ℕ) → t < N → slice_index banks.now t < N }
+    ensures brought { (t : ℕ) → t < N → at to.new t ≡ at from.now (slice_index banks.now t) }
+    ensures kept { (n : ℕ) → ((b : ℕ) → b < N → IsWithin n (at from.now b))
+        → (t : ℕ) → t < N → IsWithin n (at to.new t) }
+{
+    for t in 0..N {
+        to[t] = from[usize::from(banks[t])];
+    }
+}
+
+/// Replaces the number of a bank by that of lane `t`.
+#[inline]
+fn put_number<const N: usize>(from: &[i16; N], t: usize, to: &mut [i16; N], bank: usize)
+    requires lane { t < N }
+    requires bank { bank < N }
+    ensures { to.new ≡ slice_set to.old bank (at from.now t) }
+{
+    to[bank] = from[t];
+}
+
+/// Leaves in bank `banks[t]` the number of lane `t`.
+fn put_row_back<const N: usize>(from: &[i16; N], banks: &[u8; N], to: &mut [i16; N])
+    requires below { (t : ℕ) → t < N → slice_index banks.now t < N }
+    requires apart { (t u : ℕ) → t < N → u < N → slice_index banks.now t ≡ slice_index banks.now u → t ≡ u }
+    ensures put { (t : ℕ) → t < N → at to.new (slice_index banks.now t) ≡ at from.now t }
+    ensures others { (b : ℕ) → ((t : ℕ) → t < N → slice_index banks.now t ≡ b → ⊥) → at to.new b ≡ at to.old b }
+    ensures kept { (n : ℕ) → ((b : ℕ) → b < N → IsWithin n (at from.now b))
+        → ((b : ℕ) → b < N → IsWithin n (at to.old b)) → (b : ℕ) → b < N → IsWithin n (at to.new b) }
+{
+    for t in 0..N {
+        put_number(from, t, to, usize::from(banks[t]));
+    }
+}
+
+impl<const N: usize> Crossings<N> {
+    /// Room for `width` steps.
+    pub fn new(alloc: Global, width: usize) -> Result<Crossings<N>, NoMemory>
+        requires lanes { IsLaneCount N }
+        ensures rows { IfOk result (λ c. length c.rows.items ≡ width) }
+        ensures banks { IfOk result (λ c. length c.banks.items ≡ width) }
+    {
+        let rows = vec![in alloc; 0u16; width]?;
+        let banks = vec![in alloc; [0u8; N]; width]?;
+        Ok(Crossings { rows, banks })
+    }
+
+    /// Replaces the row and the banks of step `j`.
+    pub fn set(&mut self, j: usize, row: u16, banks: [u8; N])
+        requires rows { j < length self.old.rows.items }
+        requires banks { j < length self.old.banks.items }
+        ensures rows { self.new.rows.items ≡ slice_set self.old.rows.items j row }
+        ensures banks { self.new.banks.items ≡ slice_set self.old.banks.items j banks.entry }
+    {
+        self.rows[j] = row;
+        self.banks[j] = banks;
+    }
+
+    /// Brings rows of banks into the order of windows.
+    pub fn bring(&self, from: &[[i16; N]], to: &mut [[i16; N]])
+        requires lanes { IsLaneCount N }
+        requires rows { length to.old ≤ length self.now.rows.items }
+        requires banks { length to.old ≤ length self.now.banks.items }
+        requires from { length from.now ≡ length to.old }
+        requires table { (place : ℕ → ℕ) × IsTable N (length to.old) place self.now.rows.items self.now.banks.items }
+        ensures brought { (j t : ℕ) → j < length to.old → t < N → number_in to.new j t
+            ≡ number_in from.now (slice_index self.now.rows.items j) (slice_index (slice_index_or self.now.banks.items j []) t) }
+        ensures kept { (n : ℕ) → AreWithin N n from.now → AreWithin N n to.new }
+    {
+        for j in 0..to.len() {
+            let row = usize::from(self.rows[j]);
+            bring_row(&from[row], &self.banks[j], &mut to[j]);
+        }
+    }
+
+    /// Puts rows in the order of windows back into banks.
+    pub fn put_back(&self, from: &[[i16; N]], to: &mut [[i16; N]])
+        requires lanes { IsLaneCount N }
+        requires rows { length from.now ≤ length self.now.rows.items }
+        requires banks { length from.now ≤ length self.now.banks.items }
+        requires to { length to.old ≡ length from.now }
+        requires table { (place : ℕ → ℕ) × IsTable N (length from.now) place self.now.rows.items self.now.banks.items
+            × AreApart N (length from.now) place }
+        ensures put { (j t : ℕ) → j < length from.now → t < N
+            → number_in to.new (slice_index self.now.rows.items j) (slice_index (slice_index_or self.now.banks.items j []) t)
+            ≡ number_in from.now j t }
+        ensures kept { (n : ℕ) → AreWithin N n from.now → AreWithin N n to.old → AreWithin N n to.new }
+    {
+        for j in 0..from.len() {
+            let row = usize::from(self.rows[j]);
+            put_row_back(&from[j], &self.banks[j], &mut to[row]);
+        }
+    }
+}

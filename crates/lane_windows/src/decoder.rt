@@ -1,0 +1,113 @@
+//! The decoder of a code block whose windows run in lock step.
+ghost use Rattle.std.specs.Prelude.{◌≡◌, ◌≤◌, IfOk, length};
+ghost use Rattle.receiver_model.specs.HalfIteration.{window_width};
+ghost use Rattle.lane_windows.specs.Borders.{HaveWindows};
+
+use crate::banks::Banks;
+use crate::borders::Borders;
+use crate::halves::decode_half;
+use crate::lane_views::LaneViews;
+use crate::work::Engine;
+use lte_bits::{Bit, NoMemory, SoftStreams};
+use serial_decode::block::HalfDecoder;
+use serial_decode::left::Left;
+use std::alloc::Global;
+use window_decode::Shape;
+
+/// A code block under decoding: the cells of all places in banks, and the borders that each window left in the half
+/// before and in the one before that.
+#[derive(Drop)]
+pub struct LaneDecoder<'a, const N: usize> {
+    views: LaneViews<'a, N>,
+    engine: Engine<N>,
+    borders: Borders,
+    banks: Banks<N>,
+    left: Vec<Left>,
+    left_earlier: Vec<Left>,
+    ghost room: { window_width views.views.shape ≤ engine.kernel },
+    ghost border_room: { HaveWindows N borders },
+    ghost all_places: { length banks ≡ views.views.shape.k },
+    ghost all_windows: { length left.items ≡ N },
+    ghost all_windows_earlier: { length left_earlier.items ≡ N },
+}
+
+impl<'a, const N: usize> LaneDecoder<'a, N> {
+    ghost use Rattle.receiver_model.specs.HalfIteration.{opening};
+    ghost use Rattle.serial_decode.specs.Views.{AreStreams};
+    ghost use Rattle.lock_step.specs.Lanes.{IsLaneCount};
+    ghost use Rattle.lane_windows.specs.Progress.{before_of};
+
+    /// A code block of N windows before its first half.
+    pub fn new(
+        alloc: Global,
+        streams: &'a SoftStreams,
+        shape: &Shape,
+    ) -> Result<LaneDecoder<'a, N>, NoMemory>
+        requires lanes { IsLaneCount N }
+        requires windows { shape.now.windows ≡ N }
+        requires streams { AreStreams streams.now shape.now }
+        ensures streams { IfOk result (λ d. d.views.views.streams.now ≡ streams.now) }
+        ensures shape { IfOk result (λ d. d.views.views.shape ≡ shape.now) }
+        ensures before { IfOk result (λ d. before_of d ≡ opening shape.now) }
+    {
+        let views = LaneViews::<N>::new(alloc, streams, shape)?;
+        let width = views.views.width();
+        let engine = Engine::<N>::new(alloc, width)?;
+        let borders = Borders::new(alloc, N)?;
+        let banks = Banks::<N>::zeros(alloc, width)?;
+        let left = vec![in alloc; Left::none(); N]?;
+        let left_earlier = vec![in alloc; Left::none(); N]?;
+        Ok(LaneDecoder {
+            views,
+            engine,
+            borders,
+            banks,
+            left,
+            left_earlier,
+        })
+    }
+}
+
+impl<const N: usize> HalfDecoder for LaneDecoder<'_, N> {
+    ghost use Rattle.lane_windows.specs.Progress.{before_of};
+
+    ghost streams = { λ d. d.views.views.streams.now };
+
+    ghost shape = { λ d. d.views.views.shape };
+
+    ghost before = { before_of };
+
+    fn half(self, h: usize) -> Self {
+        let LaneDecoder {
+            views,
+            mut engine,
+            mut borders,
+            mut banks,
+            left,
+            mut left_earlier,
+        } = self;
+        decode_half(
+            &views,
+            h,
+            &mut engine,
+            borders.from.as_mut_slice(),
+            borders.to.as_mut_slice(),
+            borders.ahead.as_mut_slice(),
+            borders.back.as_mut_slice(),
+            &mut banks,
+            left_earlier.as_mut_slice(),
+        );
+        LaneDecoder {
+            views,
+            engine,
+            borders,
+            banks,
+            left: left_earlier,
+            left_earlier: left,
+        }
+    }
+
+    fn decide(&self, bits: &mut [Bit]) {
+        self.banks.decide(self.views.views.shape.f(), bits);
+    }
+}

@@ -1,0 +1,53 @@
+//! The decoding of a code block whose windows run in lock step: their cells stand in banks, and those of all
+//! windows at one step in one row.
+#![tactic(auto)]
+
+ghost use Rattle.std.specs.Prelude.{◌≡◌, ◌+◌, IfOk, length};
+ghost use Rattle.receiver_model.specs.Decoding.{code_result};
+ghost use Rattle.lock_step.specs.Lanes.{IsLaneCount};
+
+pub mod banks;
+pub mod borders;
+pub mod cells;
+pub mod crossings;
+pub mod decoder;
+pub mod halves;
+pub mod lane_views;
+pub mod places;
+pub mod rows;
+pub mod running;
+pub mod soft_rows;
+pub mod steps;
+pub mod work;
+pub mod zeros;
+
+pub use banks::Banks;
+pub use cell_shares::Order;
+use decoder::LaneDecoder;
+use lte_bits::{NoMemory, SoftStreams};
+pub use running::run_lock_step;
+use serial_decode::block::decode_halves;
+use std::alloc::Global;
+pub use steps::crossbar;
+use window_decode::{CodeResult, Shape};
+pub use work::LaneWork;
+
+/// Decodes a code block in N windows at once: the result of the first iteration whose check holds, or else of
+/// the last that the shape allows. N is 8, 16 or 32, and the windows of the shape. The streams have length
+/// K + 4, and as many fillers as the shape.
+pub fn decode_block_lanes<const N: usize>(
+    alloc: Global,
+    streams: &SoftStreams,
+    shape: &Shape,
+) -> Result<CodeResult, NoMemory>
+    requires lanes { IsLaneCount N }
+    requires windows { shape.now.windows ≡ N }
+    requires fill { streams.now.fill ≡ shape.now.f }
+    requires d0 { length streams.now.d0 ≡ shape.now.k + 4 }
+    requires d1 { length streams.now.d1 ≡ shape.now.k + 4 }
+    requires d2 { length streams.now.d2 ≡ shape.now.k + 4 }
+    ensures { IfOk result (λ r. r ≡ code_result streams.now shape.now) }
+{
+    let decoder = LaneDecoder::<N>::new(alloc, streams, shape)?;
+    decode_halves(alloc, decoder, shape)
+}

@@ -1,0 +1,115 @@
+//! The crossings of a list of places.
+ghost use Rattle.std.specs.Prelude.{◌≡◌, ℕ, ◌+◌, ◌*◌, ◌/◌, ◌%◌, ◌<◌, ◌≤◌, IfOk, length, map, slice_index};
+ghost use Rattle.std.specs.List.{range_with_len};
+ghost use Rattle.cell_shares.specs.Orders.{place_in, IsOrderOf};
+ghost use Rattle.lock_step.specs.Lanes.{IsLaneCount};
+ghost use Rattle.lane_windows.specs.Crossings.{IsTable};
+
+use crate::crossings::Crossings;
+use crate::steps::crossbar;
+use cell_shares::Order;
+use lte_bits::NoMemory;
+use std::alloc::Global;
+
+/// The bank of each of `size` places, where each bank has `width`.
+fn banks_of_places(alloc: Global, size: usize, width: usize) -> Result<Vec<u8>, NoMemory>
+    requires some { 1 ≤ width }
+    requires few { size ≤ 64 * width }
+    ensures { IfOk result (λ banks. banks.items ≡ map (λ i. i / width) (range_with_len 0 size)) }
+{
+    let mut banks = Vec::with_capacity(alloc, size)?;
+    let mut bank = 0u8;
+    let mut row = 0;
+    for _i in 0..size {
+        banks.push(bank)?;
+        row += 1;
+        if row == width {
+            row = 0;
+            bank += 1;
+        }
+    }
+    Ok(banks)
+}
+
+/// The bank of the place of position `i`, by the banks of all places.
+fn bank_at(places: &[u16], banks: &[u8], width: usize, i: usize) -> u8
+    requires position { i < length places.now }
+    requires place { slice_index places.now i < length banks.now }
+    requires banks { banks.now ≡ map (λ n. n / width) (range_with_len 0 (length banks.now)) }
+    ensures { result ≡ slice_index places.now i / width }
+{
+    banks[usize::from(places[i])]
+}
+
+/// The row of the place of position `i`: what its bank leaves.
+fn row_at(places: &[u16], banks: &[u8], width: usize, i: usize) -> u16
+    requires position { i < length places.now }
+    requires place { slice_index places.now i < length banks.now }
+    requires banks { banks.now ≡ map (λ n. n / width) (range_with_len 0 (length banks.now)) }
+    requires some { 1 ≤ width }
+    ensures { result ≡ slice_index places.now i % width }
+{
+    let bank = usize::from(bank_at(places, banks, width, i));
+    (usize::from(places[i]) - bank * width) as u16
+}
+
+/// The banks of N windows at step `j`.
+fn banks_at<const N: usize>(places: &[u16], banks: &[u8], width: usize, j: usize) -> [u8; N]
+    requires step { j < width }
+    requires places { length places.now ≡ N * width }
+    requires below { (i : ℕ) → i < length places.now → slice_index places.now i < length banks.now }
+    requires banks { banks.now ≡ map (λ n. n / width) (range_with_len 0 (length banks.now)) }
+    ensures { (t : ℕ) → t < N → slice_index result t ≡ slice_index places.now (t * width + j) / width }
+{
+    let mut crossing = [0; N];
+    for t in 0..N {
+        crossing[t] = bank_at(places, banks, width, t * width + j);
+    }
+    crossing
+}
+
+/// The crossings of N windows of `width` positions that stand at these places. It needs no division: each place's
+/// bank is found by counting, and its row is what its bank leaves.
+pub fn crossings_of<const N: usize>(
+    alloc: Global,
+    places: &[u16],
+    width: usize,
+) -> Result<Crossings<N>, NoMemory>
+    requires lanes { IsLaneCount N }
+    requires least { 8 ≤ width }
+    requires most { width ≤ 768 }
+    requires places { length places.now ≡ N * width }
+    requires below { (i : ℕ) → i < N * width → slice_index places.now i < N * width }
+    requires one_row { (t j : ℕ) → t < N → j < width
+        → slice_index places.now (t * width + j) % width ≡ slice_index places.now j % width }
+    ensures rows { IfOk result (λ c. length c.rows.items ≡ width) }
+    ensures banks { IfOk result (λ c. length c.banks.items ≡ width) }
+    ensures table { IfOk result (λ c. IsTable N width (slice_index places.now) c.rows.items c.banks.items) }
+{
+    let banks = banks_of_places(alloc, places.len(), width)?;
+    let mut crossings = Crossings::<N>::new(alloc, width)?;
+    let banks = banks.as_slice();
+    for j in 0..width {
+        let row = row_at(places, banks, width, j);
+        crossings.set(j, row, banks_at(places, banks, width, j));
+    }
+    Ok(crossings)
+}
+
+/// Leaves the crossings of an order.
+pub fn follow<const N: usize>(crossings: &mut Crossings<N>, order: &Order, width: usize)
+    requires lanes { IsLaneCount N }
+    requires order { IsOrderOf (N * width) order.now }
+    requires least { 8 ≤ width }
+    requires most { width ≤ 768 }
+    requires rows { width ≤ length crossings.old.rows.items }
+    requires banks { width ≤ length crossings.old.banks.items }
+    ensures rows { length crossings.new.rows.items ≡ length crossings.old.rows.items }
+    ensures banks { length crossings.new.banks.items ≡ length crossings.old.banks.items }
+    ensures table { IsTable N width (place_in order.now) crossings.new.rows.items crossings.new.banks.items }
+{
+    for j in 0..width {
+        let (row, banks) = crossbar(order, width, j);
+        crossings.set(j, row as u16, banks);
+    }
+}

@@ -1,0 +1,139 @@
+//! Operations on a number of 16 bits for each of N windows, as lanes of one vector.
+ghost use Rattle.std.specs.Prelude.{◌≡◌, ◌<◌, ℕ, pos, ◌+ℤ◌, ◌-ℤ◌, ◌*ℤ◌, int_div};
+ghost use Rattle.std.specs.Int.{int_max};
+ghost use Rattle.lte_bits.specs.Softs.{IsWithin, clamped};
+ghost use Rattle.receiver_model.specs.Borders.{at};
+ghost use Rattle.receiver_model.specs.Windows.{scaled};
+ghost use Rattle.lock_step.specs.Vectors.{IsSmall, IsVector};
+
+use std::simd::prelude::*;
+
+/// The numbers of a row.
+#[inline]
+pub fn loaded<const N: usize>(row: &[i16; N]) -> Simd<i16, N>
+    requires { IsVector N 32767 row.now }
+    ensures { result ≡ row.now }
+{
+    Simd::from_slice(row)
+}
+
+/// Puts the numbers into a row.
+#[inline]
+pub fn store<const N: usize>(lanes: Simd<i16, N>, row: &mut [i16; N])
+    requires { IsVector N 32767 lanes }
+    ensures { row.new ≡ lanes.entry }
+{
+    lanes.copy_to_slice(row);
+}
+
+/// The sums of two numbers.
+#[inline]
+pub fn sum<const N: usize>(a: Simd<i16, N>, b: Simd<i16, N>) -> Simd<i16, N>
+    requires first { IsVector N 32767 a }
+    requires second { IsVector N 32767 b }
+    requires fits { (t : ℕ) → IsWithin 32767 (at a t +ℤ at b t) }
+    ensures vector { IsVector N 32767 result }
+    ensures lanes { (t : ℕ) → t < N → at result t ≡ at a.entry t +ℤ at b.entry t }
+{
+    a.strict_add(b)
+}
+
+/// The differences of two numbers.
+#[inline]
+pub fn difference<const N: usize>(a: Simd<i16, N>, b: Simd<i16, N>) -> Simd<i16, N>
+    requires first { IsVector N 32767 a }
+    requires second { IsVector N 32767 b }
+    requires fits { (t : ℕ) → IsWithin 32767 (at a t -ℤ at b t) }
+    ensures vector { IsVector N 32767 result }
+    ensures lanes { (t : ℕ) → t < N → at result t ≡ at a.entry t -ℤ at b.entry t }
+{
+    a.strict_sub(b)
+}
+
+/// The greater of two numbers.
+#[inline]
+pub fn larger<const N: usize>(a: Simd<i16, N>, b: Simd<i16, N>) -> Simd<i16, N>
+    requires first { IsVector N 32767 a }
+    requires second { IsVector N 32767 b }
+    ensures vector { IsVector N 32767 result }
+    ensures lanes { (t : ℕ) → t < N → at result t ≡ int_max (at a.entry t) (at b.entry t) }
+{
+    a.simd_max(b)
+}
+
+/// The nearest numbers from -682 to 682.
+#[inline]
+fn near<const N: usize>(a: Simd<i16, N>) -> Simd<i16, N>
+    requires { IsVector N 32767 a }
+    ensures vector { IsVector N 682 result }
+    ensures lanes { (t : ℕ) → t < N → at result t ≡ clamped 682 (at a.entry t) }
+{
+    a.simd_min(Simd::splat(682)).simd_max(Simd::splat(-682))
+}
+
+/// Three quarters of the numbers, rounded toward zero.
+#[inline]
+fn three_quarters<const N: usize>(a: Simd<i16, N>) -> Simd<i16, N>
+    requires { IsVector N 682 a }
+    ensures vector { IsVector N 511 result }
+    ensures lanes { (t : ℕ) → t < N → at result t ≡ int_div (at a.entry t *ℤ pos 3) (pos 4) }
+{
+    a.strict_mul(Simd::splat(3)) / Simd::splat(4)
+}
+
+/// Three quarters of the numbers, rounded toward zero and clamped to -511..=511.
+#[inline]
+pub fn scaled<const N: usize>(a: Simd<i16, N>) -> Simd<i16, N>
+    requires { IsVector N 32767 a }
+    ensures vector { IsVector N 511 result }
+    ensures lanes { (t : ℕ) → t < N → at result t ≡ scaled (at a.entry t) }
+{
+    // 682 * 3 / 4 is 511.
+    three_quarters(near(a))
+}
+
+/// The greater of two sums.
+#[inline]
+pub fn better<const N: usize>(
+    a: &[i16; N],
+    x: &[i16; N],
+    b: &[i16; N],
+    y: &[i16; N],
+) -> Simd<i16, N>
+    requires first { IsVector N 6391 a.now × IsVector N 6391 x.now }
+    requires second { IsVector N 6391 b.now × IsVector N 6391 y.now }
+    ensures vector { IsVector N 12782 result }
+    ensures lanes { (t : ℕ) → t < N
+        → at result t ≡ int_max (at a.now t +ℤ at x.now t) (at b.now t +ℤ at y.now t) }
+{
+    larger(sum(loaded(a), loaded(x)), sum(loaded(b), loaded(y)))
+}
+
+/// Leaves the greater of two sums.
+#[inline]
+pub fn greater<const N: usize>(
+    a: &[i16; N],
+    x: &[i16; N],
+    b: &[i16; N],
+    y: &[i16; N],
+    out: &mut [i16; N],
+)
+    requires first { IsVector N 6391 a.now × IsVector N 6391 x.now }
+    requires second { IsVector N 6391 b.now × IsVector N 6391 y.now }
+    ensures vector { IsVector N 12782 out.new }
+    ensures lanes { (t : ℕ) → t < N
+        → at out.new t ≡ int_max (at a.now t +ℤ at x.now t) (at b.now t +ℤ at y.now t) }
+{
+    store(better(a, x, b, y), out);
+}
+
+/// Leaves the sums of small numbers.
+#[inline]
+pub fn add<const N: usize>(a: &[i16; N], b: &[i16; N], out: &mut [i16; N])
+    requires first { IsSmall N 638 a.now }
+    requires second { IsSmall N 511 b.now }
+    ensures vector { IsVector N 1149 out.new }
+    ensures lanes { (t : ℕ) → t < N → at out.new t ≡ at a.now t +ℤ at b.now t }
+{
+    store(sum(loaded(a), loaded(b)), out);
+}

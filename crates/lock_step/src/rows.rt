@@ -1,0 +1,148 @@
+//! N windows by rows.
+ghost use Rattle.std.specs.Prelude.{◌≡◌, ◌<◌, ◌≤◌, ℕ, ℤ, List, pos, ◌+ℤ◌, int_lt, length};
+ghost use Rattle.receiver_model.specs.Borders.{at, number_for, relative};
+ghost use Rattle.receiver_model.specs.Windows.{new_cells, forward_left, backward_left};
+ghost use Rattle.window_decode.specs.Recursions.{step_gain, backward, cell_through};
+ghost use Rattle.window_decode.specs.Metrics.{IsForwardRow, IsBackwardRow};
+ghost use Rattle.lock_step.specs.Lanes.{column, border_at, lane_window, window_at, decided_cells, AreWithin, AreSoft, IsLaneCount};
+ghost use Rattle.lock_step.specs.Vectors.{IsSmall, AreMetrics, AreRelative, AreBorders};
+ghost use Rattle.lock_step.specs.Vectors.{lane_gain, metrics_at, AreForwardRows};
+
+use crate::borders::{put_borders, take_borders};
+use crate::joined::join;
+use crate::lanes::add;
+use crate::metrics::{backward, forward, keep};
+use crate::work::LaneWork;
+use window_decode::Border;
+
+/// Keeps the metrics before each position in the rows, and leaves those after the last.
+fn sweep_forward<const N: usize>(
+    rows: &mut [[[i16; N]; 8]],
+    m: &mut [[i16; N]; 8],
+    sys: &[[i16; N]],
+    par: &[[i16; N]],
+    cells: &[[i16; N]],
+)
+    requires room { length sys.now ≤ length rows.old }
+    requires parities { length par.now ≡ length sys.now }
+    requires cells { length cells.now ≡ length sys.now }
+    requires soft { AreSoft N sys.now par.now cells.now }
+    requires start { AreBorders N m.old }
+    ensures shapes { (j : ℕ) → j < length sys.now → AreMetrics N (metrics_at rows.new j) }
+    ensures rows { (t : ℕ) → t < N
+        → AreForwardRows t (column t m.old) sys.now par.now cells.now rows.new (length sys.now) }
+    ensures shape { AreMetrics N m.new }
+    ensures last { (t : ℕ) → t < N → IsForwardRow (column t m.old)
+        (lane_gain t sys.now par.now cells.now) (length sys.now) (column t m.new) }
+{
+    let mut x = [0; N];
+    for j in 0..sys.len() {
+        keep(m, &mut rows[j]);
+        add(&sys[j], &cells[j], &mut x);
+        forward(&rows[j], &x, &par[j], m);
+    }
+}
+
+/// Leaves the new cells of a position and their sums, and the metrics before it.
+fn step_back<const N: usize>(
+    before: &[[i16; N]; 8],
+    m: &mut [[i16; N]; 8],
+    sys: &[i16; N],
+    par: &[i16; N],
+    cell: &mut [i16; N],
+    sum: &mut [i16; N],
+)
+    requires before { AreRelative N before.now }
+    requires after { AreRelative N m.old }
+    requires systematic { IsSmall N 127 sys.now }
+    requires parity { IsSmall N 127 par.now }
+    requires cell { IsSmall N 511 cell.old }
+    ensures shape { AreMetrics N m.new }
+    ensures metrics { (t : ℕ) → t < N → column t m.new
+        ≡ relative (backward (number_for (column t m.old))
+        (step_gain (at sys.now t +ℤ at cell.old t) (at par.now t))) }
+    ensures cells { (t : ℕ) → t < N
+        → record { value = at cell.new t; one = int_lt (at sum.new t) (pos 0) }
+        ≡ cell_through (column t before.now) (column t m.old)
+        (at sys.now t) (at par.now t) (at cell.old t) }
+{
+    let mut x = [0; N];
+    add(sys, cell, &mut x);
+    join(before, m, par, &x, cell, sum);
+    let mut after = [[0; N]; 8];
+    keep(m, &mut after);
+    backward(&after, &x, par, m);
+}
+
+/// Leaves the new cells with their sums, and the metrics before the first position.
+fn sweep_backward<const N: usize>(
+    rows: &[[[i16; N]; 8]],
+    m: &mut [[i16; N]; 8],
+    sys: &[[i16; N]],
+    par: &[[i16; N]],
+    cells: &mut [[i16; N]],
+    sums: &mut [[i16; N]],
+)
+    requires room { length sys.now ≤ length rows.now }
+    requires parities { length par.now ≡ length sys.now }
+    requires cells { length cells.old ≡ length sys.now }
+    requires sums { length sums.old ≡ length sys.now }
+    requires soft { AreSoft N sys.now par.now cells.old }
+    requires rows { (j : ℕ) → j < length sys.now → AreRelative N (metrics_at rows.now j) }
+    requires end { AreBorders N m.old }
+    ensures shape { AreMetrics N m.new }
+    ensures first { (t : ℕ) → t < N → IsBackwardRow (column t m.old)
+        (lane_gain t sys.now par.now cells.old) 0 (length sys.now) (column t m.new) }
+    ensures cells { (t : ℕ) (start : List ℤ) → t < N
+        → AreForwardRows t start sys.now par.now cells.old rows.now (length sys.now)
+        → decided_cells (column t cells.new) (column t sums.new)
+        ≡ new_cells (lane_window t start (column t m.old) sys.now par.now cells.old) }
+{
+    let width = sys.len();
+    for i in 0..width {
+        let j = width - 1 - i;
+        step_back(&rows[j], m, &sys[j], &par[j], &mut cells[j], &mut sums[j]);
+    }
+}
+
+/// Decodes N windows between their borders: window t has lane t of each row.
+pub fn run_rows<const N: usize>(
+    work: &mut LaneWork<N>,
+    from: &[Border],
+    to: &[Border],
+    sys: &[[i16; N]],
+    par: &[[i16; N]],
+    cells: &mut [[i16; N]],
+    sums: &mut [[i16; N]],
+    ahead: &mut [Border],
+    back: &mut [Border],
+)
+    requires lanes { IsLaneCount N }
+    requires least { 8 ≤ length sys.now }
+    requires room { length sys.now ≤ work.old }
+    requires parities { length par.now ≡ length sys.now }
+    requires cells { length cells.old ≡ length sys.now }
+    requires sums { length sums.old ≡ length sys.now }
+    requires from { length from.now ≡ N }
+    requires to { length to.now ≡ N }
+    requires ahead { length ahead.old ≡ N }
+    requires back { length back.old ≡ N }
+    requires soft { AreSoft N sys.now par.now cells.old }
+    ensures cells { (t : ℕ) → t < N → decided_cells (column t cells.new) (column t sums.new)
+        ≡ new_cells (window_at t from.now to.now sys.now par.now cells.old) }
+    ensures within { AreWithin N 511 cells.new }
+    ensures forward { (t : ℕ) → t < N → border_at ahead.new t
+        ≡ forward_left (window_at t from.now to.now sys.now par.now cells.old) }
+    ensures backward { (t : ℕ) → t < N → border_at back.new t
+        ≡ backward_left (window_at t from.now to.now sys.now par.now cells.old) }
+    ensures room { work.new ≡ work.old }
+{
+    let rows = work.rows.as_mut_slice();
+    let mut m = [[0; N]; 8];
+    put_borders(from, &mut m);
+    sweep_forward(rows, &mut m, sys, par, cells);
+    take_borders(&m, ahead);
+    put_borders(to, &mut m);
+    sweep_backward(rows, &mut m, sys, par, cells, sums);
+    take_borders(&m, back);
+}

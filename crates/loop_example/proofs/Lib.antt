@@ -1,2 +1,0 @@
-mod PairSteps
-mod HeadSteps

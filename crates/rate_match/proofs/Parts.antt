@@ -1,0 +1,39 @@
+-- Parts of a list that are written.
+use Rattle.std.proofs.Common.{◌≡◌, ℕ, ◌+◌, ◌-◌, ◌≤◌, List, ◌++◌, length, take, drop, ap, ◌∙◌, append_assoc, arith}
+use Rattle.std.specs.Prelude.{replicate}
+use Rattle.std.proofs.lemmas.List.{length-append, length-drop, length-take-le, take_all}
+use Rattle.std.proofs.Math.Seq.{take-append-add, take-append_seam}
+use borrow.Rule.Slice.PartMut.{put_mid, post_of}
+
+pub part-long : {X : Type 0} (done run : ℕ) (out : List X) → done + run ≤ length out → length (take (done + run - done) (drop done out)) ≡ run
+part-long done run out fits =
+    length-take-le (done + run - done) (drop done out) (omega (arith, length-drop done out, fits)) ∙ omega arith
+
+-- the part behind those that are done is written
+pub part_written : {X : Type 0} (done run n : ℕ) (out new : List X) → done + run ≤ length out → length new ≡ run → take (done + run) (put_mid done n out new) ≡ take done out ++ new
+part_written done run n out new fits long =
+    let front = take done out in
+    let behind = post_of done n out in
+    ap (λ m. take m (front ++ (new ++ behind))) (let e : done + run ≡ length front + length new = omega (arith, length-take-le done out (omega (arith, fits)), long) in e)
+    ∙ take-append-add front (new ++ behind) (length new)
+    ∙ ap (λ xs. front ++ xs) (take-append_seam new behind)
+
+-- what stands behind a list that got longer is written
+pub behind_written : {X : Type 0} (from n len : ℕ) (old now new post rest : List X) → from ≡ length old → len ≡ from + n → length new ≡ n → take from now ≡ old → take len ((take from now ++ (new ++ post)) ++ rest) ≡ old ++ new
+behind_written {X} from n len old now new post rest first all long kept =
+    ap (λ (xs : List X). take len ((xs ++ (new ++ post)) ++ rest)) kept
+    ∙ ap (take len) regroup
+    ∙ ap (λ m. take m ((old ++ new) ++ (post ++ rest))) (let e : len ≡ length (old ++ new) = omega (arith, length-append old new, first, all, long) in e)
+    ∙ take-append_seam (old ++ new) (post ++ rest)
+  where
+    regroup : (old ++ (new ++ post)) ++ rest ≡ (old ++ new) ++ (post ++ rest)
+    regroup = simp append_assoc
+
+pub longer-kept : {X : Type 0} (from n : ℕ) (x : X) (old now items : List X) → from ≡ length old → now ≡ items → items ≡ take (from + n) old ++ replicate (from + n - from) x → take from now ≡ old
+longer-kept {X} from n x old now items first same is =
+    ap (take from) (same ∙ is ∙ ap (λ (xs : List X). xs ++ replicate (from + n - from) x) (take_all (from + n) old (omega (arith, first))))
+    ∙ ap (λ m. take m (old ++ replicate (from + n - from) x)) first
+    ∙ take-append_seam old (replicate (from + n - from) x)
+
+pub rest-long : {X : Type 0} (from n : ℕ) (now : List X) → length now ≡ from + n → length (take (length now - from) (drop from now)) ≡ n
+rest-long from n now long = length-take-le (length now - from) (drop from now) (omega (arith, length-drop from now)) ∙ omega (arith, long)

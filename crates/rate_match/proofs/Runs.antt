@@ -1,0 +1,195 @@
+-- The places of a run: bits of one column, 32 places apart in their streams.
+use Rattle.std.proofs.Common.{◌≡◌, ℕ, ◌+◌, ◌-◌, ◌*◌, ◌/◌, ◌%◌, ◌<◌, ◌≤◌, min, if◌then◌else◌, slice_index, None, Some, refl, sym, ap, subst, ◌∙◌, inl, inr, arith}
+use Rattle.std.specs.Int.{div_ceil}
+use Rattle.std.proofs.lemmas.Bool.{cases_lt, lt-ltb, le-ltb}
+use Rattle.std.proofs.lemmas.Nat.{div-mul-add, mod-mul-add, mod_below}
+use Rattle.std.proofs.Math.Nat.{div-add-mod, mod-eq_of_lt, div-lt_iff_lt-mul}
+use Rattle.sender_model.specs.declared.spot.Spot.{Spot}
+use Rattle.sender_model.specs.CircularBuffer.{Stream, buffer_size, column_order, padded, padding, read_place, rows_of, spot}
+use Rattle.sender_model.proofs.BufferLaws.{spot-first, spot-second, spot-third, spot-within}
+use Rattle.sender_model.proofs.PaddedStreams.{column-below}
+use Rattle.rate_match.specs.Cursor.{IsRun, order_of, cursor_at, rows_down, spot_down}
+use Rattle.rate_match.specs.declared.cursor.Cursor.{Cursor}
+use Rattle.rate_match.proofs.CursorSteps.{made, order-first, order-behind}
+
+-- ---- down a column
+
+-- a place some rows down the column
+record IsDown (r o j : ℕ) : Type 0 where
+  column : (o + j) / r ≡ o / r
+  place : read_place r (o + j) ≡ read_place r o + 32 * j
+  below : o + j < 32 * r
+
+read-down : (r o j : ℕ) → o < 32 * r → o % r + j < r → IsDown r o j
+read-down r o j within inside =
+    let some : 0 < r = omega (arith, inside) in
+    let whole : r * (o / r) + o % r ≡ o = div-add-mod o r in
+    let split : o + j ≡ o / r * r + (o % r + j) = omega (arith, whole) in
+    let quotient : (o + j) / r ≡ o / r = ap (λ (i : ℕ). i / r) split ∙ div-mul-add (o / r) r (o % r + j) inside in
+    let rest : (o + j) % r ≡ o % r + j = ap (λ (i : ℕ). i % r) split ∙ mod-mul-add (o / r) r (o % r + j) inside in
+    let at : slice_index column_order ((o + j) / r) ≡ slice_index column_order (o / r) = ap (slice_index column_order) quotient in
+    let few : o / r < 32 = (div-lt_iff_lt-mul {k = r} {x = o} {y = 32} some).1 within in
+    record {
+      column = quotient;
+      place = omega (arith, at, rest);
+      below = (div-lt_iff_lt-mul {k = r} {x = o + j} {y = 32} some).0 (omega (arith, quotient, few));
+    }
+
+-- the row of a place
+row-of : (r o p : ℕ) → o < 32 * r → p ≡ read_place r o → p / 32 ≡ o % r
+row-of r o p within is =
+    let some : 0 < r = omega (arith, within) in
+    let small : slice_index column_order (o / r) < 32 = column-below (o / r) ((div-lt_iff_lt-mul {k = r} {x = o} {y = 32} some).1 within) in
+    omega (arith, is, small)
+
+down-first : (r : ℕ) (c : Cursor) (i : ℕ) → c.n < 32 * r → rows_down r c i ≡ i
+down-first r c i front = ap (λ t. if t then i else (c.n % 2 + i) / 2) (lt-ltb c.n (32 * r) front)
+
+down-behind : (r : ℕ) (c : Cursor) (i : ℕ) → 32 * r ≤ c.n → rows_down r c i ≡ (c.n % 2 + i) / 2
+down-behind r c i behind = ap (λ t. if t then i else (c.n % 2 + i) / 2) (le-ltb c.n (32 * r) behind)
+
+-- what stands some places further on in a column
+pub record IsInColumn (r : ℕ) (c : Cursor) (i : ℕ) : Type 0 where
+  pub order : order_of r (c.n + i) ≡ order_of r c.n + rows_down r c i
+  pub column : order_of r (c.n + i) / r ≡ c.column
+  pub place : read_place r (order_of r (c.n + i)) ≡ c.by_rows + 32 * rows_down r c i
+
+pub in_column : (r : ℕ) (c : Cursor) (i : ℕ) → c ≡ cursor_at r c.n → order_of r c.n < 32 * r → c.by_rows / 32 + rows_down r c i < r → IsInColumn r c i
+in_column r c i is within inside =
+    let o : ℕ = order_of r c.n in
+    let j : ℕ = rows_down r c i in
+    let column : c.column ≡ o / r = ap (λ (c : Cursor). c.column) is in
+    let place : c.by_rows ≡ read_place r o = ap (λ (c : Cursor). c.by_rows) is in
+    let down = read-down r o j within (omega (arith, inside, row-of r o c.by_rows within place)) in
+    let order : order_of r (c.n + i) ≡ o + j = elim (cases_lt c.n (32 * r)) [
+      | inl front ↦
+          let a : o ≡ c.n = order-first r c.n front in
+          let b : j ≡ i = down-first r c i front in
+          order-first r (c.n + i) (omega (arith, a, b, down.below)) ∙ omega (arith, a, b)
+      | inr behind ↦ omega (arith, order-behind r c.n behind, down-behind r c i behind, order-behind r (c.n + i) (omega (arith, behind)))
+    ] in
+    record {
+      order = order;
+      column = ap (λ (m : ℕ). m / r) order ∙ down.column ∙ sym column;
+      place = ap (read_place r) order ∙ down.place ∙ omega (arith, place);
+    }
+
+pub down-at : (r : ℕ) (c : Cursor) (i : ℕ) → c ≡ cursor_at r c.n → order_of r c.n < 32 * r → c.by_rows / 32 + rows_down r c i < r
+    → made (c.n + i) c.column (c.by_rows + 32 * rows_down r c i) ≡ cursor_at r (c.n + i)
+down-at r c i is within inside d = let at = in_column r c i is within inside in made (c.n + i) (sym at.column d) (sym at.place d)
+
+-- ---- the bits there
+
+abbrev d0 : ℕ → ℕ → Stream
+d0 k fill = record { k = k; number = 0; nulls = fill }
+
+abbrev d1 : ℕ → ℕ → Stream
+d1 k fill = record { k = k; number = 1; nulls = fill }
+
+abbrev d2 : ℕ → Stream
+d2 k = record { k = k; number = 2; nulls = 0 }
+
+a-bit : (d : Stream) (p i : ℕ) → padding d.k + d.nulls ≤ p → i + padding d.k ≡ p → padded d p ≡ Some (record { stream = d.number; index = i })
+a-bit d p i above at =
+    ap (λ t. if t then None else Some (record { stream = d.number; index = p - padding d.k })) (le-ltb p (padding d.k + d.nulls) above)
+    ∙ ap (λ (j : ℕ). Some (let s : Spot = record { stream = d.number; index = j } in s)) (omega (arith, at))
+
+abbrev pub index_down : ℕ → ℕ → Cursor → ℕ → ℕ
+index_down r k c i = c.by_rows - padding k + 32 * rows_down r c i
+
+pub spot_down-first : (r k : ℕ) (c : Cursor) (i : ℕ) → c.n < 32 * r → spot_down r k c i ≡ record { stream = 0; index = index_down r k c i }
+spot_down-first r k c i front = rw (lt-ltb c.n (32 * r) front) refl
+
+pub spot_down-second : (r k : ℕ) (c : Cursor) (i : ℕ) → 32 * r ≤ c.n → (c.n + i) % 2 ≡ 0 → spot_down r k c i ≡ record { stream = 1; index = index_down r k c i }
+spot_down-second r k c i behind even = rw (le-ltb c.n (32 * r) behind, even) refl
+
+spot_down-third : (r k : ℕ) (c : Cursor) (i : ℕ) → 32 * r ≤ c.n → (c.n + i) % 2 ≡ 1 → spot_down r k c i ≡ record { stream = 2; index = index_down r k c i + 1 }
+spot_down-third r k c i behind odd = rw (le-ltb c.n (32 * r) behind, odd) refl
+
+-- in the rows of a column that are above its last place, bits stand
+pub run-bit : (k fill : ℕ) (c : Cursor) (i : ℕ) → c ≡ cursor_at (rows_of k) c.n → order_of (rows_of k) c.n < 32 * rows_of k → c.by_rows / 32 + rows_down (rows_of k) c i < rows_of k
+    → padding k + fill ≤ c.by_rows → (32 * rows_of k ≤ c.n → c.by_rows + 32 * rows_down (rows_of k) c i + 1 < 32 * rows_of k) → spot k fill (c.n + i) ≡ Some (spot_down (rows_of k) k c i)
+run-bit k fill c i is within inside above inner =
+    let r : ℕ = rows_of k in
+    let j : ℕ = rows_down r c i in
+    let n : ℕ = c.n + i in
+    let o : ℕ = order_of r n in
+    let at = in_column r c i is within inside in
+    elim (cases_lt c.n (32 * r)) [
+      | inl front ↦
+          let b : j ≡ i = down-first r c i front in
+          let low : o < 32 * r = omega (arith, at.order, (read-down r (order_of r c.n) j within (omega (arith, inside, row-of r (order_of r c.n) c.by_rows within (ap (λ (c : Cursor). c.by_rows) is)))).below) in
+          let here : n < 32 * r = omega (arith, low, at.order, b, order-first r c.n front) in
+          spot-first k fill n here
+          ∙ ap (λ (q : ℕ). padded (d0 k fill) (read_place r q)) (sym (order-first r n here))
+          ∙ ap (padded (d0 k fill)) at.place
+          ∙ a-bit (d0 k fill) (c.by_rows + 32 * j) (c.by_rows - padding k + 32 * j) (omega (arith, above)) (omega (arith, above))
+          ∙ sym (ap (λ (s : Spot). Some s) (spot_down-first r k c i front))
+      | inr behind ↦
+          let there : o ≡ (n - 32 * r) / 2 = order-behind r n (omega (arith, behind)) in
+          let rest : n % 2 < 2 = mod_below n 2 (omega arith) in
+          elim (cases_lt (n % 2) 1) [
+            | inl zero ↦
+                let even : n % 2 ≡ 0 = omega (arith, zero) in
+                let e : n ≡ 32 * r + 2 * o = omega (arith, there, even, behind) in
+                ap (spot k fill) e ∙ spot-second k fill o
+                ∙ ap (padded (d1 k fill)) at.place
+                ∙ a-bit (d1 k fill) (c.by_rows + 32 * j) (c.by_rows - padding k + 32 * j) (omega (arith, above)) (omega (arith, above))
+                ∙ sym (ap (λ (s : Spot). Some s) (spot_down-second r k c i behind even))
+            | inr one ↦
+                let odd : n % 2 ≡ 1 = omega (arith, one, rest) in
+                let e : n ≡ 32 * r + 2 * o + 1 = omega (arith, there, odd, behind) in
+                ap (spot k fill) e ∙ spot-third k fill o
+                ∙ ap (λ (q : ℕ). padded (d2 k) ((q + 1) % (32 * r))) at.place
+                ∙ ap (padded (d2 k)) (mod-eq_of_lt (inner behind))
+                ∙ a-bit (d2 k) (c.by_rows + 32 * j + 1) (c.by_rows - padding k + 32 * j + 1) (omega (arith, above)) (omega (arith, above))
+                ∙ sym (ap (λ (s : Spot). Some s) (spot_down-third r k c i behind odd))
+          ]
+    ]
+
+-- ---- how long a run is
+
+-- rows of a column up to an end behind which its places don't reach
+pub rows-left : (r p j : ℕ) → j < div_ceil (32 * r - p) 32 → p / 32 + j < r
+rows-left r p j below = omega (arith, below)
+
+pub first-run : (k fill : ℕ) (c : Cursor) (count : ℕ) → c ≡ cursor_at (rows_of k) c.n → order_of (rows_of k) c.n < 32 * rows_of k → padding k + fill ≤ c.by_rows
+    → c.n < 32 * rows_of k → count ≤ div_ceil (32 * rows_of k - c.by_rows) 32 → IsRun (rows_of k) k fill c count
+first-run k fill c count is within above front few =
+    let r : ℕ = rows_of k in
+    let inside : (i : ℕ) → i < count → c.by_rows / 32 + rows_down r c i < r =
+    λ i below. (let e : rows_down r c i ≡ i = down-first r c i front in omega (arith, e, rows-left r c.by_rows i (omega (arith, below, few)))) in
+    record {
+      above = λ i below. omega (arith, above);
+      column = inside;
+      bits = λ i below. run-bit k fill c i is within (inside i below) above (λ behind. absurd (omega (arith, front, behind)));
+    }
+
+pub later-run : (k fill : ℕ) (c : Cursor) (count : ℕ) → c ≡ cursor_at (rows_of k) c.n → order_of (rows_of k) c.n < 32 * rows_of k → padding k + fill ≤ c.by_rows
+    → 32 * rows_of k ≤ c.n → count ≤ 2 * div_ceil (32 * rows_of k - 1 - c.by_rows) 32 - c.n % 2 → IsRun (rows_of k) k fill c count
+later-run k fill c count is within above behind few =
+    let r : ℕ = rows_of k in
+    let rest : c.n % 2 < 2 = mod_below c.n 2 (omega arith) in
+    let inner : (i : ℕ) → i < count → c.by_rows + 32 * rows_down r c i + 1 < 32 * r =
+    λ i below. (let e : rows_down r c i ≡ (c.n % 2 + i) / 2 = down-behind r c i behind in omega (arith, e, below, few, rest)) in
+    let inside : (i : ℕ) → i < count → c.by_rows / 32 + rows_down r c i < r = λ i below. omega (arith, inner i below) in
+    record {
+      above = λ i below. omega (arith, above);
+      column = inside;
+      bits = λ i below. run-bit k fill c i is within (inside i below) above (λ _. inner i below);
+    }
+
+-- the bit of a run is one of its stream
+pub run-inside : (k fill n size : ℕ) (s t : Spot) → n < size → size ≤ buffer_size k → spot k fill n ≡ Some s → s ≡ t → (t.stream ≤ 2) × (t.index < k + 4)
+run-inside k fill n size s t within most bit same = spot-within k fill n t (omega (arith, within, most)) (bit ∙ ap (λ (u : Spot). Some u) same)
+
+-- a run is no longer than what is left of its column
+pub few-first : (r q p d count column m x most : ℕ) → q ≡ r → d ≡ div_ceil (32 * q - p) 32 → column ≡ d → m ≡ min column x → count ≡ min m most → count ≤ div_ceil (32 * r - p) 32
+few-first r q p d count column m x most height is at least few =
+    let e : d ≡ div_ceil (32 * r - p) 32 = is ∙ ap (λ (n : ℕ). div_ceil (32 * n - p) 32) height in
+    subst (λ (n : ℕ). count ≤ n) e (omega (arith, at, least, few))
+
+pub few-later : (r q p n d column s count m x most : ℕ) → q ≡ r → d ≡ div_ceil (32 * q - 1 - p) 32 → s ≡ 2 * d - n % 2 → column ≡ s → m ≡ min column x → count ≡ min m most → count ≤ 2 * div_ceil (32 * r - 1 - p) 32 - n % 2
+few-later r q p n d column s count m x most height is twice at least few =
+    let e : d ≡ div_ceil (32 * r - 1 - p) 32 = is ∙ ap (λ (n : ℕ). div_ceil (32 * n - 1 - p) 32) height in
+    subst (λ (u : ℕ). count ≤ 2 * u - n % 2) e (omega (arith, twice, at, least, few))

@@ -1,0 +1,8 @@
+use Rattle.std.proofs.Common.{◌≡◌, ℕ, ◌+◌, ◌<◌, get_or}
+use Rattle.lte_bits.specs.declared.bit.Bit.TheVariants.{Zero}
+use Rattle.sender_model.specs.CircularBuffer.{w}
+use Rattle.sender_model.specs.Selection.{bit_of_cell}
+use Rattle.rate_match.proofs.selecting.write_run.Given as goal
+
+abbrev pub invariant-loop-i : goal.invariant-loop-i
+invariant-loop-i l = (k : ℕ) → k < l.i → get_or l.out k Zero ≡ bit_of_cell (w l.ring.k l.ring.fill l.streams (l.cursor.n + k))

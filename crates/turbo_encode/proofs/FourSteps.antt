@@ -1,0 +1,176 @@
+-- Four steps of the coder by tables.
+use Rattle.std.proofs.Common.{◌≡◌, ℕ, ◌<◌, Bool, true, ◌&&◌, List, [], ◌∷◌, ◌++◌, length, get_or, Contains, refl, sym, ap, subst, ◌∙◌, inl, inr, ◌%◌, arith}
+use Rattle.std.specs.Prelude.{◌==◌}
+use Rattle.std.specs.List.{list_all}
+use Rattle.std.proofs.lemmas.Bool.{and_parts, cases_lt, eqb-true}
+use Rattle.std.proofs.lemmas.List.Sums.{AllPass-from_list_all}
+use Rattle.std.proofs.lemmas.List.{map-append}
+use Rattle.lte_bits.specs.Bits.{cell_of, number}
+use Rattle.lte_bits.specs.declared.bit.Bit.{Bit}
+use Rattle.lte_bits.specs.declared.bit.Bit.TheVariants.{Zero, One}
+use Rattle.lte_bits.specs.declared.bit.Cell.{Cell}
+use Rattle.sender_model.specs.ConstituentCoder.{State, next, parity, parities_from, zero_state, parities}
+use Rattle.sender_model.specs.CodedStreams.{cells_of}
+use Rattle.sender_model.specs.Interleaver.{sizes}
+use Rattle.sender_model.proofs.BitNumbers.{digit-lt, same_number}
+use Rattle.sender_model.specs.Tail.{reached}
+use Rattle.rsc_trellis.specs.Number.{number_of}
+use Rattle.turbo_encode.specs.Tables.{entry}
+use Rattle.turbo_encode.specs.declared.fours.TheConstants.{PARITIES, NEXT, CELLS}
+
+-- ---- what holds of both bits holds of all
+
+abbrev all_bits : (Bit → Bool) → Bool
+all_bits f = f Zero && f One
+
+each-bit : (f : Bit → Bool) → all_bits f ≡ true → (b : Bit) → f b ≡ true
+each-bit f h Zero = (and_parts (f Zero) (f One) h).0
+each-bit f h One = (and_parts (f Zero) (f One) h).1
+
+-- ---- the tables
+
+abbrev state_of : Bit → Bit → Bit → State
+state_of x y z = record { a1 = x; a2 = y; a3 = z }
+
+abbrev four : Bit → Bit → Bit → Bit → List Bit
+four a b c d = a ∷ b ∷ c ∷ d ∷ []
+
+abbrev next_test : Bit → Bit → Bit → Bit → Bit → Bit → Bit → Bool
+next_test x y z a b c d = number_of (reached (state_of x y z) (four a b c d)) == entry NEXT (number (four a b c d)) (number_of (state_of x y z))
+
+abbrev parity_test : Bit → Bit → Bit → Bit → Bit → Bit → Bit → Bool
+parity_test x y z a b c d = number (parities_from (state_of x y z) (four a b c d)) == entry PARITIES (number (four a b c d)) (number_of (state_of x y z))
+
+next_passed : all_bits (λ x. all_bits (λ y. all_bits (λ z. all_bits (λ a. all_bits (λ b. all_bits (λ c. all_bits (λ d. next_test x y z a b c d))))))) ≡ true
+next_passed = refl
+
+parity_passed : all_bits (λ x. all_bits (λ y. all_bits (λ z. all_bits (λ a. all_bits (λ b. all_bits (λ c. all_bits (λ d. parity_test x y z a b c d))))))) ≡ true
+parity_passed = refl
+
+next-test : (x y z a b c d : Bit) → next_test x y z a b c d ≡ true
+next-test x y z a b c d =
+    each-bit (λ d. next_test x y z a b c d)
+    (each-bit (λ c. all_bits (λ d. next_test x y z a b c d))
+    (each-bit (λ b. all_bits (λ c. all_bits (λ d. next_test x y z a b c d)))
+    (each-bit (λ a. all_bits (λ b. all_bits (λ c. all_bits (λ d. next_test x y z a b c d))))
+    (each-bit (λ z. all_bits (λ a. all_bits (λ b. all_bits (λ c. all_bits (λ d. next_test x y z a b c d)))))
+    (each-bit (λ y. all_bits (λ z. all_bits (λ a. all_bits (λ b. all_bits (λ c. all_bits (λ d. next_test x y z a b c d))))))
+    (each-bit (λ x. all_bits (λ y. all_bits (λ z. all_bits (λ a. all_bits (λ b. all_bits (λ c. all_bits (λ d. next_test x y z a b c d))))))) next_passed x) y) z) a) b) c) d
+
+parity-test : (x y z a b c d : Bit) → parity_test x y z a b c d ≡ true
+parity-test x y z a b c d =
+    each-bit (λ d. parity_test x y z a b c d)
+    (each-bit (λ c. all_bits (λ d. parity_test x y z a b c d))
+    (each-bit (λ b. all_bits (λ c. all_bits (λ d. parity_test x y z a b c d)))
+    (each-bit (λ a. all_bits (λ b. all_bits (λ c. all_bits (λ d. parity_test x y z a b c d))))
+    (each-bit (λ z. all_bits (λ a. all_bits (λ b. all_bits (λ c. all_bits (λ d. parity_test x y z a b c d)))))
+    (each-bit (λ y. all_bits (λ z. all_bits (λ a. all_bits (λ b. all_bits (λ c. all_bits (λ d. parity_test x y z a b c d))))))
+    (each-bit (λ x. all_bits (λ y. all_bits (λ z. all_bits (λ a. all_bits (λ b. all_bits (λ c. all_bits (λ d. parity_test x y z a b c d))))))) parity_passed x) y) z) a) b) c) d
+
+-- the state after four inputs, and the number of their parity bits
+pub next-entry : (s : State) (bits : List Bit) (n i : ℕ) → length bits ≡ 4 → number_of s ≡ n → i ≡ number bits → number_of (reached s bits) ≡ entry NEXT i n
+next-entry s [] n i long at is = absurd (omega (arith, long))
+next-entry s (a ∷ []) n i long at is = absurd (omega (arith, long))
+next-entry s (a ∷ b ∷ []) n i long at is = absurd (omega (arith, long))
+next-entry s (a ∷ b ∷ c ∷ []) n i long at is = absurd (omega (arith, long))
+next-entry s (a ∷ b ∷ c ∷ d ∷ []) n i long at is =
+    eqb-true (number_of (reached s (four a b c d))) (entry NEXT (number (four a b c d)) (number_of s)) (next-test s.a1 s.a2 s.a3 a b c d)
+    ∙ ap (entry NEXT (number (four a b c d))) at ∙ ap (λ m. entry NEXT m n) (sym is)
+next-entry s (a ∷ b ∷ c ∷ d ∷ e ∷ rest) n i long at is = absurd (omega (arith, long))
+
+pub parity-entry : (s : State) (bits : List Bit) (n i : ℕ) → length bits ≡ 4 → number_of s ≡ n → i ≡ number bits → number (parities_from s bits) ≡ entry PARITIES i n
+parity-entry s [] n i long at is = absurd (omega (arith, long))
+parity-entry s (a ∷ []) n i long at is = absurd (omega (arith, long))
+parity-entry s (a ∷ b ∷ []) n i long at is = absurd (omega (arith, long))
+parity-entry s (a ∷ b ∷ c ∷ []) n i long at is = absurd (omega (arith, long))
+parity-entry s (a ∷ b ∷ c ∷ d ∷ []) n i long at is =
+    eqb-true (number (parities_from s (four a b c d))) (entry PARITIES (number (four a b c d)) (number_of s)) (parity-test s.a1 s.a2 s.a3 a b c d)
+    ∙ ap (entry PARITIES (number (four a b c d))) at ∙ ap (λ m. entry PARITIES m n) (sym is)
+parity-entry s (a ∷ b ∷ c ∷ d ∷ e ∷ rest) n i long at is = absurd (omega (arith, long))
+
+-- the cells of four bits
+cells-four : (a b c d : Bit) → get_or CELLS (number (four a b c d)) [] ≡ cells_of (four a b c d)
+cells-four Zero Zero Zero Zero = refl
+cells-four Zero Zero Zero One = refl
+cells-four Zero Zero One Zero = refl
+cells-four Zero Zero One One = refl
+cells-four Zero One Zero Zero = refl
+cells-four Zero One Zero One = refl
+cells-four Zero One One Zero = refl
+cells-four Zero One One One = refl
+cells-four One Zero Zero Zero = refl
+cells-four One Zero Zero One = refl
+cells-four One Zero One Zero = refl
+cells-four One Zero One One = refl
+cells-four One One Zero Zero = refl
+cells-four One One Zero One = refl
+cells-four One One One Zero = refl
+cells-four One One One One = refl
+
+pub cells-entry : (bits : List Bit) (n : ℕ) → length bits ≡ 4 → number bits ≡ n → get_or CELLS n [] ≡ cells_of bits
+cells-entry [] n long is = absurd (omega (arith, long))
+cells-entry (a ∷ []) n long is = absurd (omega (arith, long))
+cells-entry (a ∷ b ∷ []) n long is = absurd (omega (arith, long))
+cells-entry (a ∷ b ∷ c ∷ []) n long is = absurd (omega (arith, long))
+cells-entry (a ∷ b ∷ c ∷ d ∷ []) n long is = ap (λ m. get_or CELLS m []) (sym is) ∙ cells-four a b c d
+cells-entry (a ∷ b ∷ c ∷ d ∷ e ∷ rest) n long is = absurd (omega (arith, long))
+
+-- ---- states and their numbers
+
+pub numbered : (n : ℕ) → n < 8 → (s : State) × (number_of s ≡ n)
+numbered n below = elim (cases_lt n 4) [
+  | inl low ↦ elim (cases_lt n 2) [
+    | inl lower ↦ elim (cases_lt n 1) [ inl h ↦ (state_of Zero Zero Zero, omega (arith, h)) | inr h ↦ (state_of Zero Zero One, omega (arith, h, lower)) ]
+    | inr higher ↦ elim (cases_lt n 3) [ inl h ↦ (state_of Zero One Zero, omega (arith, h, higher)) | inr h ↦ (state_of Zero One One, omega (arith, h, low)) ]
+  ]
+  | inr high ↦ elim (cases_lt n 6) [
+    | inl lower ↦ elim (cases_lt n 5) [ inl h ↦ (state_of One Zero Zero, omega (arith, h, high)) | inr h ↦ (state_of One Zero One, omega (arith, h, lower)) ]
+    | inr higher ↦ elim (cases_lt n 7) [ inl h ↦ (state_of One One Zero, omega (arith, h, higher)) | inr h ↦ (state_of One One One, omega (arith, h, below)) ]
+  ]
+]
+
+bits_of : State → List Bit
+bits_of s = s.a1 ∷ s.a2 ∷ s.a3 ∷ []
+
+state_with : List Bit → State
+state_with bits = state_of (get_or bits 0 Zero) (get_or bits 1 Zero) (get_or bits 2 Zero)
+
+pub same_state : (s t : State) → number_of s ≡ number_of t → s ≡ t
+unfolding bits_of state_with
+same_state s t e = ap state_with (same_number (bits_of s) (bits_of t) refl (omega (arith, e)))
+
+pub number_of-small : (s : State) → number_of s < 8
+number_of-small s = omega (arith, digit-lt s.a1, digit-lt s.a2, digit-lt s.a3)
+
+-- ---- inputs after inputs
+
+reached-append : (xs ys : List Bit) (s : State) → reached s (xs ++ ys) ≡ reached (reached s xs) ys
+reached-append [] ys s = refl
+reached-append (x ∷ xs) ys s = reached-append xs ys (next s x)
+
+parities-append : (xs ys : List Bit) (s : State) → parities_from s (xs ++ ys) ≡ parities_from s xs ++ parities_from (reached s xs) ys
+parities-append [] ys s = refl
+parities-append (x ∷ xs) ys s = ap (λ zs. parity s x ∷ zs) (parities-append xs ys (next s x))
+
+pub reached_more : (xs ys four : List Bit) (n : ℕ) → ys ≡ xs ++ four → number_of (reached (reached zero_state xs) four) ≡ n → number_of (reached zero_state ys) ≡ n
+reached_more xs ys four n is at = ap (λ zs. number_of (reached zero_state zs)) is ∙ ap number_of (reached-append xs four zero_state) ∙ at
+
+pub cells_more : (xs ys four : List Bit) (old new cells : List Cell) → ys ≡ xs ++ four → old ≡ cells_of (parities xs) → new ≡ old ++ cells → cells ≡ cells_of (parities_from (reached zero_state xs) four) → new ≡ cells_of (parities ys)
+cells_more xs ys four old new cells is before push made =
+    push
+    ∙ ap (λ zs. zs ++ cells) before
+    ∙ ap (λ zs. cells_of (parities xs) ++ zs) made
+    ∙ sym (map-append cell_of (parities xs) (parities_from (reached zero_state xs) four))
+    ∙ ap (λ (zs : List Bit). cells_of zs) (sym (parities-append xs four zero_state))
+    ∙ ap (λ zs. cells_of (parities zs)) (sym is)
+
+-- ---- sizes are whole
+
+eights : list_all (λ k. k % 4 == 0) sizes ≡ true
+unfolding sizes
+eights = refl
+
+pub size-whole : (k : ℕ) → Contains sizes k → k % 4 ≡ 0
+size-whole k inside =
+    let P : ℕ → Type 0 = λ n. (n % 4 == 0) ≡ true in
+    eqb-true (k % 4) 0 (subst P inside.2 (AllPass-from_list_all (λ k. k % 4 == 0) sizes eights inside.0 k inside.1))

@@ -1,0 +1,131 @@
+//! The command `codeword`.
+ghost use Rattle.std.specs.Prelude.{◌≡◌, ◌≤◌, [], IfOk, None, length};
+ghost use Rattle.turbo_run.specs.Codeword.{bits_line, codeword_text};
+ghost use Rattle.turbo_run.specs.CodewordRound.{IsCoded, IsRoundOf};
+
+use crate::input::{Input, read_up_to};
+use edge_io::{Sink, Source};
+use lte_bits::{List, NoMemory, pack};
+use rate_match::Match;
+use run_loop::{Open, Part, Round, Status, Stop, Work, end_line, push_number};
+use std::alloc::Global;
+
+/// The codeword of one transport block, over a full buffer: all in one round.
+#[derive(Debug, Drop)]
+pub struct Codeword {
+    pub m: Match,
+    pub rv: u8,
+    pub ghost full: { m.limit ≡ None },
+    pub ghost version: { rv ≤ 3 },
+}
+
+/// The most bytes of a transport block.
+const MOST_BYTES: usize = 18_722;
+
+/// The codeword as bytes.
+#[tactic(auto, using(crate::proofs::FullBuffer::fits_full))]
+fn codeword_text(alloc: Global, payload: &[u8], m: &Match, rv: u8) -> Result<List<u8>, NoMemory>
+    requires some { 1 ≤ length payload.now }
+    requires few { length payload.now ≤ 18722 }
+    requires full { m.now.limit ≡ None }
+    requires version { rv ≤ 3 }
+    ensures { IfOk result (λ text. text ≡ codeword_text m.now rv payload.now) }
+{
+    let bits = rate_match::codeword(alloc, payload, m, rv)?;
+    pack(alloc, bits.as_slice())
+}
+
+/// `end bits G`.
+fn bits_line(alloc: Global, m: &Match) -> Result<Vec<u8>, NoMemory>
+    ensures { IfOk result (λ line. line.items ≡ bits_line m.now) }
+{
+    let mut line = Vec::new(alloc);
+    push_number(&mut line, b"end bits ", m.g() as u128)?;
+    end_line(&mut line)?;
+    Ok(line)
+}
+
+/// The block of a payload, and the end: all memory is had before anything is written.
+fn coded(alloc: Global, payload: &[u8], m: &Match, rv: u8) -> Result<Round, NoMemory>
+    requires some { 1 ≤ length payload.now }
+    requires few { length payload.now ≤ 18722 }
+    requires full { m.now.limit ≡ None }
+    requires version { rv ≤ 3 }
+    ensures { IfOk result (λ round. IsCoded m.now rv payload.now round.parts.items round.stop) }
+{
+    let text = codeword_text(alloc, payload, m, rv)?;
+    let last = bits_line(alloc, m)?;
+    let mut parts = Vec::new(alloc);
+    parts.push(Part {
+        text: text.into_vec(),
+        line: Vec::new(alloc),
+        size: payload.len(),
+        wants: payload.len() + 1,
+    })?;
+    Ok(Round {
+        parts,
+        stop: Stop::End {
+            closing: Vec::new(alloc),
+            last,
+            failed: false,
+        },
+    })
+}
+
+/// A transport block whose length is refused at a byte.
+fn bad(alloc: Global, place: u64) -> Round
+    ensures parts { result.parts.items ≡ [] }
+    ensures stop { result.stop ≡ Stop.Fails (Status.BadStream 4 place) }
+{
+    Round::stopped(alloc, Stop::Fails(Status::BadStream { number: 4, place }))
+}
+
+/// The one round of an input that was read to its end.
+fn of_input(alloc: Global, input: &[u8], m: &Match, rv: u8) -> Round
+    requires few { length input.now ≤ 18722 }
+    requires full { m.now.limit ≡ None }
+    requires version { rv ≤ 3 }
+    ensures { IsRoundOf m.now rv input.now result }
+{
+    if input.is_empty() {
+        return bad(alloc, 0);
+    }
+    match coded(alloc, input, m, rv) {
+        Ok(round) => round,
+        Err(NoMemory) => Round::stopped(alloc, Stop::Fails(Status::NoMemory)),
+    }
+}
+
+impl Open for Codeword {
+    ghost use Rattle.turbo_run.specs.Codeword.{codeword_answer};
+
+    type Rounds = Codeword;
+
+    ghost answer = { λ s input. codeword_answer s.m s.rv input };
+
+    fn open<S: Source, D: Sink>(
+        self,
+        _alloc: Global,
+        _source: &mut S,
+        _out: &mut D,
+    ) -> Result<Codeword, Status> {
+        Ok(self)
+    }
+}
+
+impl Work for Codeword {
+    ghost use Rattle.turbo_run.specs.Codeword.{block_answer};
+
+    ghost answer = { λ s input. block_answer s.m s.rv input };
+
+    ghost budget = { λ _. 0 };
+
+    fn round<S: Source>(&mut self, alloc: Global, source: &mut S) -> Round {
+        match read_up_to(alloc, source, MOST_BYTES + 1) {
+            Input::Ended(input) => of_input(alloc, input.as_slice(), &self.m, self.rv),
+            Input::Whole(_) => bad(alloc, MOST_BYTES as u64),
+            Input::Fault => Round::stopped(alloc, Stop::Fails(Status::ReadFault)),
+            Input::NoMemory => Round::stopped(alloc, Stop::Fails(Status::NoMemory)),
+        }
+    }
+}
