@@ -8,6 +8,7 @@ ghost use Rattle.lock_step.specs.Lanes.{IsLaneCount};
 
 pub mod banks;
 pub mod borders;
+pub mod by_order;
 pub mod cells;
 pub mod crossings;
 pub mod decoder;
@@ -22,10 +23,10 @@ pub mod work;
 pub mod zeros;
 
 pub use banks::Banks;
+pub use by_order::run_lock_step;
 pub use cell_shares::Order;
 use decoder::LaneDecoder;
 use lte_bits::{NoMemory, SoftStreams};
-pub use running::run_lock_step;
 use serial_decode::block::decode_halves;
 use std::alloc::Global;
 pub use steps::crossbar;

@@ -7,8 +7,8 @@ use Rattle.lock_step.specs.Lanes.{column, AreWithin}
 use Rattle.lane_windows.specs.Lanes.{values_of_window, window_of, window_of_rows}
 use Rattle.lane_windows.proofs.BankCells.{fits-twice}
 use Rattle.lane_windows.proofs.LaneRuns.{by-position}
-use Rattle.lane_windows.proofs.running.run_lock_step.Given.{Over}
-use Rattle.lane_windows.proofs.running.run_lock_step.Goals as goal
+use Rattle.lane_windows.proofs.by_order.run_lock_step.Given.{Over}
+use Rattle.lane_windows.proofs.by_order.run_lock_step.Goals as goal
 
 pub lay_front-requires : goal.lay_front-requires
 lay_front-requires g c =

@@ -4,7 +4,7 @@ use Rattle.cell_shares.specs.Orders.{place_in}
 use Rattle.lane_windows.specs.Lanes.{HaveRun}
 use Rattle.lane_windows.proofs.BankCells.{fits-twice}
 use Rattle.lane_windows.proofs.CrossingLaws.{order-apart}
-use Rattle.lane_windows.proofs.running.run_in_order.Goals as goal
+use Rattle.lane_windows.proofs.by_order.run_in_order.Goals as goal
 
 pub follow-requires : goal.follow-requires
 follow-requires g c = let r = c.requires in
