@@ -1,8 +1,9 @@
 //! A walk round the circular buffer, from place to place by additions alone.
 ghost use Rattle.std.specs.Prelude.{◌≡◌, ◌+◌, ◌*◌, ◌/◌, ◌%◌, ◌<◌, ◌≤◌, slice_index, IfSome, Some};
-ghost use Rattle.sender_model.specs.CircularBuffer.{column_order, rows_of, buffer_size, padded, padding, spot};
+ghost use Rattle.sender_model.specs.CircularBuffer.{column_order, padded, padding, spot};
 ghost use Rattle.rate_match.specs.Cursor.{IsRun, cursor_at, order_of, rows_down, spot_down};
 
+use crate::rings::Ring;
 use sender_model::Spot;
 
 /// P, the order in which the 32 columns are read.
@@ -18,21 +19,6 @@ fn column(i: usize) -> usize
     ensures small { result < 32 }
 {
     COLUMN_ORDER[i]
-}
-
-/// The first `size` places of the circular buffer of a block of `k` bits, whose first `fill` are
-/// fillers and whose streams take `rows` rows.
-#[derive(Clone, Copy)]
-pub struct Ring {
-    pub k: usize,
-    pub fill: usize,
-    pub rows: usize,
-    pub size: usize,
-    pub ghost few: { k ≤ 6144 },
-    pub ghost fills: { fill ≤ k },
-    pub ghost height: { rows ≡ rows_of k },
-    pub ghost some: { 0 < size },
-    pub ghost within: { size ≤ buffer_size k },
 }
 
 /// The bit at place `p` of stream `number` behind its padding, where `nulls` of the stream are NULL.

@@ -12,11 +12,11 @@ pub mod selecting;
 pub mod sends;
 
 pub use codewords::codeword;
-pub use cursor::{Cursor, Ring};
+pub use cursor::Cursor;
 pub use fitting::{fits, fits_buffer, fits_plan};
 pub use matching::{BadMatch, Buffer, Match};
 pub use numbers::{buffer_len, piece_len, start};
-pub use rings::ring_of;
+pub use rings::{Ring, ring_of};
 pub use selecting::{select, spot};
 pub use sender_model::Spot;
 pub use sends::Sends;

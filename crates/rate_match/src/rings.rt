@@ -1,13 +1,27 @@
 //! The part of a code block's circular buffer that is sent (36.212 5.1.4.1.2).
-ghost use Rattle.std.specs.Prelude.{◌≡◌, ◌<◌};
+ghost use Rattle.std.specs.Prelude.{◌≡◌, ◌<◌, ◌≤◌};
 ghost use Rattle.sender_model.specs.Segmentation.{plan_of, size, fill};
-ghost use Rattle.sender_model.specs.CircularBuffer.{Fits, buffer_length};
+ghost use Rattle.sender_model.specs.CircularBuffer.{Fits, buffer_length, buffer_size, rows_of};
 
-use crate::cursor::Ring;
 use crate::matching::Match;
 use crate::numbers::{buffer_len, rows_of};
 use segmentation::planning::{fill, size};
 use segmentation::plans::Plan;
+
+/// The first `size` places of the circular buffer of a block of `k` bits, whose first `fill` are
+/// fillers and whose streams take `rows` rows.
+#[derive(Clone, Copy)]
+pub struct Ring {
+    pub k: usize,
+    pub fill: usize,
+    pub rows: usize,
+    pub size: usize,
+    pub ghost few: { k ≤ 6144 },
+    pub ghost fills: { fill ≤ k },
+    pub ghost height: { rows ≡ rows_of k },
+    pub ghost some: { 0 < size },
+    pub ghost within: { size ≤ buffer_size k },
+}
 
 /// The first N_cb places of the circular buffer of block `r`, from which it is sent. `r` is below C,
 /// and the buffer fits the plan.

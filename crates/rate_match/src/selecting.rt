@@ -8,9 +8,10 @@ ghost use Rattle.sender_model.specs.CircularBuffer.{AreStreams, Fits, buffer_siz
 ghost use Rattle.sender_model.specs.Selection.{bit_of_cell, bits_from, holds_bit, repeated, sent};
 ghost use Rattle.rate_match.specs.Cursor.{IsRun};
 
-use crate::cursor::{Cursor, Ring};
+use crate::cursor::Cursor;
 use crate::matching::Match;
 use crate::numbers::{buffer_len, piece_len, rows_of, start};
+use crate::rings::Ring;
 use lte_bits::{Bit, Cell, List, NoMemory, Streams};
 use segmentation::planning::{fill, size};
 use segmentation::plans::Plan;

@@ -2,7 +2,7 @@ use Rattle.std.proofs.Common.{ℕ, ◌≡◌, ◌-◌, ◌*◌, ◌<◌, sym, ap
 use Rattle.sender_model.specs.CircularBuffer.{rows_of}
 use Rattle.rate_match.specs.Cursor.{IsRun, cursor_at, order_of}
 use Rattle.rate_match.specs.declared.cursor.Cursor.{Cursor}
-use Rattle.rate_match.specs.declared.cursor.Ring.{Ring}
+use Rattle.rate_match.specs.declared.rings.Ring.{Ring}
 use Rattle.rate_match.proofs.CursorSteps.{IsPlaced, placed, order-below}
 use Rattle.rate_match.proofs.Runs.{few-first, few-later, first-run, later-run}
 use Rattle.rate_match.proofs.cursor.Cursor.run.Goals as goal

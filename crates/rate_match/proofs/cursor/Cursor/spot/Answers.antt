@@ -1,7 +1,7 @@
 use Rattle.std.proofs.Common.{◌≡◌, ◌<◌, ◌∙◌, arith}
 use Rattle.rate_match.specs.Cursor.{cursor_at}
 use Rattle.rate_match.specs.declared.cursor.Cursor.{Cursor}
-use Rattle.rate_match.specs.declared.cursor.Ring.{Ring}
+use Rattle.rate_match.specs.declared.rings.Ring.{Ring}
 use Rattle.rate_match.proofs.CursorSteps.{IsPlaced, placed, third-first, third-later}
 use Rattle.rate_match.proofs.cursor.Cursor.spot.Goals as goal
 
