@@ -1,7 +1,6 @@
-use Rattle.std.proofs.Common.{◌≡◌, ℕ, zero, suc, ◌*◌, ◌/◌, ◌<◌, ◌≤◌, ℤ, pos, negsuc, neg_ℤ, ◌+ℤ◌, ◌*ℤ◌, refl, ap, sym, ◌∙◌, Bool, FitsSigned, to_z, of_z, w16, w32, inl, inr, arith}
+use Rattle.std.proofs.Common.{◌≡◌, ℤ, pos, negsuc, ◌+ℤ◌, ◌*ℤ◌, ap, ◌∙◌, Bool, FitsSigned, to_z, of_z, w16, w32, arith}
 use Rattle.std.specs.Prelude.{int_div, int_lt}
 use Rattle.std.specs.Int.{int_max, int_min}
-use Rattle.std.proofs.lemmas.Bool.{cases_lt}
 use Rattle.std.proofs.lemmas.Int.{ints, clamps}
 use Rattle.lte_bits.specs.Softs.{IsWithin, clamped}
 use Rattle.receiver_model.specs.Windows.{Extrinsic, scaled}
