@@ -84,3 +84,10 @@ returns-clause-values g c =
     sym (all_dealt name order c.args.shares.items l.split.width l.part j (values c.arrange.result.cells)
     (tells_shuffled_back (values c.arrange.result.cells) l.part.cells c.arrange.result.cells a.2 (tells_all l.part.count c.arrange.result.cells at))
     (sym (values-long 0 l.part.count c.arrange.result.cells at) ∙ j.count))
+
+pub returns-clause-length : goal.returns-clause-length
+returns-clause-length g c =
+    let l = c.loop-share in let inv = l.invariant in
+    let none : vec_len l.shares ≡ 0 = (let k = c.in_default-pop.ensures.cases in k.0) in let empty : l.shares.items ≡ [] = empty_list l.shares.items (sym l.shares.ok.0 ∙ none) in
+    λ name order are. let j = subst (Gathering name order c.args.shares.items l.split.width 0 l.part) empty (subst (λ (k : ℕ). Gathering name order c.args.shares.items l.split.width k l.part l.shares.items) none (inv.0 name order are).0) in
+    sym (values-long 0 l.part.count c.arrange.result.cells (c.arrange.ensures.3 ∙ natural_places l.part.count)) ∙ j.count
