@@ -61,6 +61,7 @@ invariant_of-result g c =
       numbered = a.3 ∙ (natural_places l.part.count ∙ ap (range_with_len 0) k);
       counted = sym (a.1 ∙ k);
       whole = l.split.whole;
+      some_cell = l.split.some_cell;
       small = l.split.small;
       some_window = subst (λ (m : ℕ). 1 ≤ m) (sym x.in_windows) r.2.0;
       frees = (let f = (inv.2.0 c.in-Some-right.right c.in-Some-right.is).1 in (f.0 ∙ sym a.0, f.1, f.2));
