@@ -1,4 +1,5 @@
 mod Alone
+mod Apart
 mod Changed
 mod Dealing
 pub mod Dealt

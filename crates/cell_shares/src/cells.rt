@@ -2,6 +2,7 @@
 ghost use Rattle.std.specs.Prelude.{◌≡◌, ◌≢◌, ℕ, ◌+◌, ◌-◌, ◌*◌, ◌/◌, ◌^◌, ◌<◌, ◌≤◌, [], map, length, slice_index_or, vec_capacity, OnOk, IfOk};
 ghost use Prim.Native.Nat.{◌∣◌};
 ghost use Rattle.std.specs.List.{range_with_len};
+ghost use Rattle.core.specs.Mem.{type_size};
 ghost use Rattle.core.specs.Mem.Slots.{slots_items, slots_ptr, slots_len, IsFull};
 ghost use Rattle.cell_shares.specs.Deal.{deal};
 ghost use Rattle.cell_shares.specs.Orders.{IsOrderOf};
@@ -28,6 +29,7 @@ pub struct Cells<T: Copy> {
     pub ghost numbered: { places part.cells ≡ range_with_len 0 count },
     pub ghost counted: { count ≡ part.count },
     pub ghost whole: { count ≡ windows * width },
+    pub ghost some_cell: { 0 < count },
     pub ghost small: { count < 2 ^ 64 },
     pub ghost some_window: { 1 ≤ windows },
     pub ghost frees: { IsRightTo part.ptr count heap right },
@@ -90,6 +92,14 @@ impl<T: Copy> Cells<T> {
         ensures { result ≡ slice_index_or (cell_values self.now) n result }
     {
         *self.part.get(n, n)
+    }
+
+    /// Two cells that exist at once have different names if `T` has a size: each owns its buffer.
+    pub fn tell_apart(&mut self, other: &mut Cells<T>)
+        ensures kept { (self.new ≡ self.old) × (other.new ≡ other.old) }
+        ensures names { 0 < type_size T.row → name_of self.old ≢ name_of other.old }
+    {
+        self.part.tell_apart(&mut other.part);
     }
 
     /// The M shares of an order, in order of their numbers. An interleaved order has size K.

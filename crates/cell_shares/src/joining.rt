@@ -1,5 +1,5 @@
 //! Shares become cells again.
-ghost use Rattle.std.specs.Prelude.{◌≡◌, ◌≤◌, ◌<◌, map};
+ghost use Rattle.std.specs.Prelude.{◌≡◌, ◌≤◌, ◌<◌, map, length};
 ghost use Rattle.cell_shares.specs.declared.order.Order.{Order};
 ghost use Rattle.cell_shares.specs.Deal.{deal};
 ghost use Rattle.cell_shares.specs.Names.{Name};
@@ -16,6 +16,8 @@ pub fn join<T: Copy>(shares: Vec<Share<T>>) -> Cells<T>
         → name_of result ≡ name }
     ensures values { (name : Name) (order : Order) → AreAllOf name order shares.items
         → deal order name.windows (cell_values result) ≡ map share_values shares.items }
+    ensures length { (name : Name) (order : Order) → AreAllOf name order shares.items
+        → length (cell_values result) ≡ name.count }
 {
     let mut shares = shares;
     let Some(last) = shares.pop() else {

@@ -1,7 +1,8 @@
 //! Some cells of one buffer, owned through a raw pointer.
-ghost use Rattle.std.specs.Prelude.{◌≡◌, ℕ, ◌<◌, ◌≤◌, ◌++◌, List, length, take, drop};
+ghost use Rattle.std.specs.Prelude.{◌≡◌, ◌≢◌, ℕ, ◌<◌, ◌≤◌, ◌++◌, List, length, take, drop};
 ghost use Rattle.std.specs.Coded.{coded×, coded_ℕ, coded_list};
 ghost use Rattle.std.specs.List.{range_with_len};
+ghost use Rattle.core.specs.Mem.{type_size};
 ghost use Rattle.core.specs.Mem.Slots.{slots_items, slots_ptr, slots_len, IsFull};
 ghost use Rattle.cell_shares.specs.Orders.{order_places};
 ghost use Rattle.cell_shares.specs.Ownership.{part_owns, part_lent};
@@ -92,6 +93,13 @@ impl<T> Part<T> {
     {
         unsafe { self.ptr.add(place).write(x) }
     }
+
+    /// Two parts that each have the first place of their buffer, in two buffers if `T` has a size.
+    pub(crate) fn tell_apart(&mut self, _other: &mut Part<T>)
+        requires { ((x : T) × IsCell self.old.cells 0 0 x) × ((y : T) × IsCell _other.old.cells 0 0 y) }
+        ensures { (self.new ≡ self.old) × (_other.new ≡ _other.old)
+            × (0 < type_size T.row → self.old.ptr ≢ _other.old.ptr) }
+    {}
 }
 
 unsafe impl<T: Send> Send for Part<T> {}

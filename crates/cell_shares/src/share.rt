@@ -19,6 +19,7 @@ pub(crate) struct Split {
     pub(crate) width: usize,
     pub(crate) heap: Global,
     pub ghost whole: { count ≡ windows * width },
+    pub ghost some_cell: { 0 < count },
     pub ghost small: { count < 2 ^ 64 },
     pub ghost fits: { IsOrderOf count order },
 }

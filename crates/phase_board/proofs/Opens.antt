@@ -22,8 +22,8 @@ use Rattle.phase_board.proofs.Rule.{Law}
 one_more : (a b : ℕ) → a ≡ b → suc a ≡ b + 1
 one_more a b e = omega arith
 
-module _ {J P C : Type 0} (windows : J → ℕ) (ready done : J → ℕ → ℕ → P → Type 0) (common ended : J → ℕ → C → Type 0) (job : J) where
-  pub opens : (ps : List P) (c : C) (room : Vec P Global) (xs : List (Slot P C)) → xs ≡ Common c room ∷ map Piece ps → HasRoom (length ps) room → Opens windows ready common job ps c
+module _ {J P C : Type 0} (own : P → J) (windows : J → ℕ) (ready done : J → ℕ → ℕ → P → Type 0) (common ended : J → ℕ → C → Type 0) (job : J) where
+  pub opens : (ps : List P) (c : C) (room : Vec P Global) (xs : List (Slot P C)) → xs ≡ Common c room ∷ map Piece ps → HasRoom (length ps) room → Opens own windows ready common job ps c
       → Law windows ready done common ended job (opening (0 ∷ 0 ∷ []) xs (opening_view job))
   opens ps c room xs is fits given =
       let m : ℕ = windows job in let count : length ps ≡ m = given.2.0 in
@@ -45,7 +45,7 @@ module _ {J P C : Type 0} (windows : J → ℕ) (ready done : J → ℕ → ℕ 
         dones = λ x. sym (none_marked (0 * m) x ∙ beyond_is (0 * m) x (omega arith));
         in_phase = (
           refl,
-          λ t l. let p = there ps t (let a = count in omega arith) in (omega arith, bit_at-zero t, (p.0, at_map some (map Piece ps) t (Piece p.0) (at_map Piece ps t p.0 p.1), given.2.1 t p.0 p.1)),
+          λ t l. let p = there ps t (let a = count in omega arith) in (omega arith, bit_at-zero t, (p.0, at_map some (map Piece ps) t (Piece p.0) (at_map Piece ps t p.0 p.1), (given.2.1 t p.0 p.1).1)),
           (0, given.0, bit_at-zero 0),
           (c, room, refl, (given.3, subst (λ (k : ℕ). HasRoom k room) count fits)),
         );

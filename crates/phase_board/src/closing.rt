@@ -1,5 +1,5 @@
 //! A stopped board is taken apart.
-ghost use Rattle.std.specs.Prelude.{◌≡◌, ◌+◌, ◌*◌};
+ghost use Rattle.std.specs.Prelude.{◌≡◌};
 ghost use Rattle.phase_board.specs.ClaimWord.{half_of, IsStopped};
 
 use crate::board::Board;
@@ -21,7 +21,7 @@ impl<P: Piece> Board<P> {
         ensures common { P.ended (board_job P.job self) (half_of (idle_view seat).found) result.0 }
         ensures closed { (closed_job P.job result.1 ≡ board_job P.job self) × (result.1.half ≡ half_of (idle_view seat).found) }
         ensures once { DrawnOnce (P.windows (board_job P.job self)) (idle_view seat) }
-        ensures count { AllDrawnAndDone ((half_of (idle_view seat).found + 1) * P.windows (board_job P.job self)) (idle_view seat) }
+        ensures count { AllDrawnAndDone (board_job P.job self) (half_of (idle_view seat).found) seat result.0 }
     {
         let Board {
             table,

@@ -78,7 +78,7 @@ impl<P: Piece> Board<P> {
         pieces: Vec<P>,
         common: P::Common,
     ) -> Result<(Board<P>, Idle<P>), NewRefused<P>>
-        requires { IsSomeAnd (job_of P.job pieces.items) (λ job. Opens P.windows P.ready P.common job pieces.items common) }
+        requires { IsSomeAnd (job_of P.job pieces.items) (λ job. Opens P.job P.windows P.ready P.common job pieces.items common) }
         ensures made { IfOk result (λ made. (job_of P.job pieces.items ≡ Some (board_job P.job made.0)) × IsIdleOf made.0 made.1
             × (idle_view made.1 ≡ opening_view (board_job P.job made.0))) }
         ensures refused { IfErr result (λ r. (r.pieces.items ≡ pieces.items) × (r.common ≡ common)) }

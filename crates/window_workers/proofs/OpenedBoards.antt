@@ -54,12 +54,12 @@ new_job soft shape cells = record { streams = soft; shape = shape; name = name_o
 
 -- what a board is opened with
 pub opens : (job : DecodingJob) (ps : List WindowPiece) (c : WindowCommon) → IsJob job → AreAllReady job 0 ps → IsCommonOf job 0 c
-    → IsSomeAnd (job_of job_of_piece ps) (λ j. Opens (λ (x : DecodingJob). x.shape.windows) (λ j h t p. IsReady j h t p) IsCommonOf j ps c)
+    → IsSomeAnd (job_of job_of_piece ps) (λ j. Opens job_of_piece (λ (x : DecodingJob). x.shape.windows) (λ j h t p. IsReady j h t p) IsCommonOf j ps c)
 opens job [] c lawful ready common = let a = ready.0 in let b = lawful.shape.some_windows in absurd (omega (arith, a, b))
 opens job (p ∷ ps) c lawful ready common =
-    subst (λ (j : DecodingJob). Opens (λ (x : DecodingJob). x.shape.windows) (λ j h t p. IsReady j h t p) IsCommonOf j (p ∷ ps) c)
+    subst (λ (j : DecodingJob). Opens job_of_piece (λ (x : DecodingJob). x.shape.windows) (λ j h t p. IsReady j h t p) IsCommonOf j (p ∷ ps) c)
     (sym (job-of_held job 0 0 p (ready.1 0 p refl).held))
-    ((let b = lawful.shape.some_windows in omega (arith, b)), lawful.shape.few_windows, ready, common)
+    ((let b = lawful.shape.some_windows in omega (arith, b)), lawful.shape.few_windows, (ready.0, λ t q is. let r = ready.1 t q is in (job-of_held job 0 t q r.held, r)), common)
 
 abbrev job_or : DecodingJob → Option DecodingJob → DecodingJob
 job_or d None = d

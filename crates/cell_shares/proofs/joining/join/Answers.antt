@@ -61,6 +61,7 @@ invariant_of-result g c =
       numbered = a.3 ∙ (natural_places l.part.count ∙ ap (range_with_len 0) k);
       counted = sym (a.1 ∙ k);
       whole = l.split.whole;
+      some_cell = l.split.some_cell;
       small = l.split.small;
       some_window = subst (λ (m : ℕ). 1 ≤ m) (sym x.in_windows) r.2.0;
       frees = (let f = (inv.2.0 c.in-Some-right.right c.in-Some-right.is).1 in (f.0 ∙ sym a.0, f.1, f.2));
@@ -84,3 +85,10 @@ returns-clause-values g c =
     sym (all_dealt name order c.args.shares.items l.split.width l.part j (values c.arrange.result.cells)
     (tells_shuffled_back (values c.arrange.result.cells) l.part.cells c.arrange.result.cells a.2 (tells_all l.part.count c.arrange.result.cells at))
     (sym (values-long 0 l.part.count c.arrange.result.cells at) ∙ j.count))
+
+pub returns-clause-length : goal.returns-clause-length
+returns-clause-length g c =
+    let l = c.loop-share in let inv = l.invariant in
+    let none : vec_len l.shares ≡ 0 = (let k = c.in_default-pop.ensures.cases in k.0) in let empty : l.shares.items ≡ [] = empty_list l.shares.items (sym l.shares.ok.0 ∙ none) in
+    λ name order are. let j = subst (Gathering name order c.args.shares.items l.split.width 0 l.part) empty (subst (λ (k : ℕ). Gathering name order c.args.shares.items l.split.width k l.part l.shares.items) none (inv.0 name order are).0) in
+    sym (values-long 0 l.part.count c.arrange.result.cells (c.arrange.ensures.3 ∙ natural_places l.part.count)) ∙ j.count

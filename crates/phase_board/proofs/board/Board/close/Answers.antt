@@ -5,6 +5,7 @@ use native.Mathlib.Decide.{ℕ_discrete}
 use mathlib.Core.Option.{some, some-injective}
 use lib.ListN.{get_elem?}
 use Rattle.phase_board.specs.ClaimWord.{half_of}
+use Rattle.phase_board.specs.Closings.{AllDrawnAndDone}
 use Rattle.phase_board.proofs.Closes.{closed_slots}
 use Rattle.phase_board.proofs.board.Board.close.Goals as goal
 
@@ -88,4 +89,6 @@ pub returns-clause-once : goal.returns-clause-once
 returns-clause-once g c = (closed_slots _ _ _ _ _ _ _ _ _ _ c.close_with-closed.ensures.values.2 c.requires.over).4
 
 pub returns-clause-count : goal.returns-clause-count
-returns-clause-count g c = (closed_slots _ _ _ _ _ _ _ _ _ _ c.close_with-closed.ensures.values.2 c.requires.over).5
+returns-clause-count g c =
+    let t = closed_slots _ _ _ _ _ _ _ _ _ _ c.close_with-closed.ensures.values.2 c.requires.over in let first = sym c.take.ensures.value ∙ t.0.2 in let e = ap some (sym c.in-Common.is) ∙ first in
+    let same : t.0.0 ≡ c.in-Common.common = cc in subst (λ x. AllDrawnAndDone (g.P.Piece.job c.args.self.table.shared.key.value) (half_of c.args.seat.seat.me.0.found) c.args.seat x) same t.0.5
