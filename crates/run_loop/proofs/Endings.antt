@@ -70,9 +70,9 @@ stopped whole b front mid old new status.SomeFailed w some at = absurd at
 stopped whole b front mid old new (status.WriteFault sink) w some at = absurd at
 
 -- in a round without parts
-pub ended_so : (whole : Answer) (answer : List ℕ → Answer) (old mid : Edges) (left : Option (List ℕ)) (reads : ℕ) (ending : Status) →
+pub failed_alone : (whole : Answer) (answer : List ℕ → Answer) (old mid : Edges) (left : Option (List ℕ)) (reads : ℕ) (ending : Status) →
     (r : Reached whole answer old mid) → Stopped (answer r.rest) mid.left left ending → Ended whole old (record mid { left = left; reads = reads }) ending
-ended_so whole answer old mid left reads ending r at =
+failed_alone whole answer old mid left reads ending r at =
     stopped whole (answer r.rest) r.front mid.left old (record mid { left = left; reads = reads }) ending
     (record { split = r.stands.split; took = r.stands.took; out = r.stands.out; report = r.stands.report }) r.some at
 

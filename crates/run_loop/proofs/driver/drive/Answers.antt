@@ -3,7 +3,7 @@ use Rattle.run_loop.specs.Edges.{edges}
 use Rattle.run_loop.specs.Puts.{HasSinkCause}
 use Rattle.run_loop.specs.Reply.{reading, Ends}
 use Rattle.run_loop.specs.Step.{StopsBy}
-use Rattle.run_loop.proofs.Endings.{wrote, went_on, failed, ended_so, blocked, closed_done, ends_done, unclosed}
+use Rattle.run_loop.proofs.Endings.{wrote, went_on, failed, failed_alone, blocked, closed_done, ends_done, unclosed}
 use Rattle.run_loop.proofs.Rises.{causes_failing, causes_writing, later_then}
 use Rattle.run_loop.proofs.driver.drive.Goals as goal
 
@@ -27,7 +27,7 @@ returns-in-Err-round g c =
     record {
       ended = λ input is.
           let r = was.reached input is in
-          ended_so (g.O.Open.answer c.args.command input) (g.O.Rounds.Work.answer c.loop-round.work) old mid new.left new.reads status r (c.in-Err-round.ensures.step r.rest r.left);
+          failed_alone (g.O.Open.answer c.args.command input) (g.O.Rounds.Work.answer c.loop-round.work) old mid new.left new.reads status r (c.in-Err-round.ensures.step r.rest r.left);
       causes = causes_failing old new mid.reads status was.later.reads c.in-Err-round.ensures.fails;
       later = later_then old mid new was.later c.round.ensures.later (omega arith) (omega arith);
     }
