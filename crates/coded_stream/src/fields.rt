@@ -6,6 +6,7 @@ ghost use Rattle.coded_stream.specs.Header.{limit_of_code};
 ghost use Rattle.coded_stream.specs.Opening.{first_size, fields, further_fields, size_fields};
 ghost use Rattle.coded_stream.specs.Fields.{AreRead, BufferIsRead, has_good_g};
 
+use crate::cause;
 use crate::kind::Want;
 use crate::unit::{half_word, word};
 use crate::version::Version;
@@ -71,7 +72,10 @@ fn read_buffer(limit: u32, tb: usize) -> Option<Buffer>
 fn bad_field(place: u64) -> Fields
     ensures { result ≡ Fields.Bad 3 place }
 {
-    Fields::Bad { number: 3, place }
+    Fields::Bad {
+        number: cause::BAD_FIELD,
+        place,
+    }
 }
 
 /// The fields of version One from the number of transmissions on. `good` tells whether G is
@@ -139,13 +143,13 @@ pub fn read_fields(version: Version, unit: &[u8], want: Want) -> Fields
 {
     if word(unit, 0) != version.magic() {
         return Fields::Bad {
-            number: 1,
+            number: cause::BAD_MAGIC,
             place: 0,
         };
     }
     if !want.takes(unit[4]) {
         return Fields::Bad {
-            number: 2,
+            number: cause::BAD_KIND,
             place: 4,
         };
     }

@@ -3,6 +3,7 @@
 #![tactic(auto)]
 
 mod block;
+pub mod cause;
 mod fields;
 pub mod header;
 pub mod kind;
@@ -21,7 +22,7 @@ mod writing;
 
 pub use header::Header;
 pub use kind::{Kind, Want};
-pub use reader::StreamReader;
+pub use reader::{MOST_BLOCKS, StreamReader};
 pub use stop::StreamStop;
 pub use transmission::transmission_size;
 pub use version::Version;

@@ -6,6 +6,7 @@ ghost use Rattle.coded_stream.specs.Opening.{version_of, first_size, limit_in, c
 ghost use Rattle.coded_stream.specs.Fields.{IsFirst};
 ghost use Rattle.coded_stream.specs.Takes.{TakesFirst, TakesSends, AreSent};
 
+use crate::cause;
 use crate::sendings::{SendsRead, read_sends};
 use crate::unit::{Unit, read_unit, word};
 use crate::version::Version;
@@ -94,12 +95,12 @@ pub fn read_second<S: Source>(
         Unit::Whole => match read_sends(version, unit, buffer, count, bytes) {
             SendsRead::Good { sends } => Second::Good { sends },
             SendsRead::Bad { at } => Second::Bad {
-                number: 3,
+                number: cause::BAD_FIELD,
                 place: start + at as u64,
             },
         },
         Unit::Short { got } => Second::Bad {
-            number: 6,
+            number: cause::TRUNCATED,
             place: start + got as u64,
         },
         Unit::Fault => Second::Fault,

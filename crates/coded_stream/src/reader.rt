@@ -6,6 +6,7 @@ ghost use Rattle.coded_stream.specs.Shown.{header_of};
 ghost use Rattle.coded_stream.specs.Steps.{Begins, IsBegun, GoesOn, Advances, remaining};
 
 use crate::block::{Next, read_block};
+use crate::cause;
 use crate::fields::{Fields, read_fields};
 use crate::header::Header;
 use crate::kind::{Kind, Want};
@@ -17,7 +18,7 @@ use lte_bits::List;
 use std::marker::Model;
 
 /// The most blocks of a stream.
-const MOST_BLOCKS: usize = 4096;
+pub const MOST_BLOCKS: usize = 4096;
 
 /// A stream whose header was read.
 #[derive(Debug, Drop)]
@@ -61,7 +62,7 @@ impl StreamReader {
             First::Whole { version } => version,
             First::Short { got } => {
                 return Err(StreamStop::Bad {
-                    number: 6,
+                    number: cause::TRUNCATED,
                     place: got as u64,
                 });
             }

@@ -7,6 +7,7 @@ ghost use Rattle.coded_stream.specs.Shown.{header_of};
 ghost use Rattle.coded_stream.specs.Takes.{TakesStep, AreTaken};
 
 use crate::block::Next;
+use crate::cause;
 use crate::header::Header;
 use crate::transmission::{Transmission, read_transmission, transmission_size};
 use edge_io::Source;
@@ -61,13 +62,13 @@ pub fn read_transmissions<S: Source>(
             Transmission::Whole => {}
             Transmission::BadBit => {
                 return Next::Bad {
-                    number: 5,
+                    number: cause::BAD_BIT,
                     place: place + (size as u64 - 1),
                 };
             }
             Transmission::Short { got } => {
                 return Next::Bad {
-                    number: 6,
+                    number: cause::TRUNCATED,
                     place: place + got as u64,
                 };
             }

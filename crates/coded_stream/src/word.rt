@@ -8,6 +8,7 @@ ghost use Rattle.coded_stream.specs.Takes.{TakesWord, TakesStep, IsNoBlock};
 ghost use Rattle.coded_stream.specs.Words.{IsPayload};
 
 use crate::block::Next;
+use crate::cause;
 use crate::header::Header;
 use crate::unit::{Unit, read_unit, word};
 use edge_io::Source;
@@ -41,7 +42,7 @@ pub fn read_word<S: Source>(source: &mut S, header: &Header, more: usize, start:
         Unit::Whole => {}
         Unit::Short { got } => {
             return Word::Bad {
-                number: 6,
+                number: cause::TRUNCATED,
                 place: start + got as u64,
             };
         }
@@ -52,12 +53,12 @@ pub fn read_word<S: Source>(source: &mut S, header: &Header, more: usize, start:
         Word::End
     } else if more == 0 {
         Word::Bad {
-            number: 8,
+            number: cause::TOO_MANY_BLOCKS,
             place: start,
         }
     } else if bytes > header.tb {
         Word::Bad {
-            number: 4,
+            number: cause::BAD_BLOCK_LENGTH,
             place: start,
         }
     } else {
@@ -77,7 +78,7 @@ pub fn read_end<S: Source>(source: &mut S, start: u64) -> Next
     let mut unit = [0u8; 1];
     match read_unit(source, &mut unit) {
         Unit::Whole => Next::Bad {
-            number: 7,
+            number: cause::TRAILING,
             place: start + 4,
         },
         Unit::Short { .. } => Next::End,

@@ -3,14 +3,14 @@ use Rattle.std.proofs.Common.{◌≡◌, ℕ, List, [], sym, ap, subst}
 use Rattle.std.specs.declared.option.Option.{Option}
 use Rattle.edge_io.proofs.Known.{takes_none}
 use Rattle.run_loop.specs.Answer.{Answer, behind, size_of}
-use Rattle.run_loop.specs.Step.{Steps, Stops, parts_of}
+use Rattle.run_loop.specs.Step.{Gives, Stops, parts_of}
 use Rattle.run_loop.specs.declared.work.Part.{Part}
 use Rattle.run_loop.specs.declared.work.Round.{Round}
 use Rattle.run_loop.specs.declared.work.Stop.{Stop}
 
-pub step_alone : (a : Answer) (after : List ℕ → Answer) (old new : Option (List ℕ)) (round : Round) (stop : Stop) →
-    round.parts.items ≡ [] → round.stop ≡ stop → Stops a after old new stop → Steps a after old new round
-step_alone a after old new round stop none is at =
+pub gives_alone : (a : Answer) (after : List ℕ → Answer) (old new : Option (List ℕ)) (round : Round) (stop : Stop) →
+    round.parts.items ≡ [] → round.stop ≡ stop → Stops a after old new stop → Gives a after old new round
+gives_alone a after old new round stop none is at =
     let P : Stop → Type 0 = λ k. Stops a after old new k in (
       a,
       old,

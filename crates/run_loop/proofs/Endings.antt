@@ -1,5 +1,5 @@
 -- Each way in which a run ends, once a round's parts were written.
-use Rattle.std.proofs.Common.{◌≡◌, ℕ, ◌+◌, ◌<◌, List, [], ◌∷◌, ◌++◌, length, take, Bool, true, false, Some, Ok, Err, ap, sym, subst, ◌∙◌, append_assoc, ◌⊎◌, inl, inr, arith}
+use Rattle.std.proofs.Common.{◌≡◌, ℕ, ◌+◌, ◌<◌, List, [], ◌∷◌, ◌++◌, length, take, Bool, true, false, Some, Ok, Err, ap, sym, subst, ◌∙◌, append_assoc, arith}
 use Rattle.std.proofs.lemmas.List.{append-nil, length-append}
 use Rattle.std.specs.declared.option.Option.{Option}
 use Rattle.std.specs.Global.{Vec}
@@ -11,7 +11,7 @@ use Rattle.run_loop.specs.Edges.{Edges, IsLater}
 use Rattle.run_loop.specs.Ended.{Ended, IsWhole, Stands}
 use Rattle.run_loop.specs.Puts.{Puts, PutsEach}
 use Rattle.run_loop.specs.Reply.{reading, Ends}
-use Rattle.run_loop.specs.Step.{Reached, Steps, Stops, done, ending_of, parts_of}
+use Rattle.run_loop.specs.Step.{Gives, Reached, Stops, done, ending_of, parts_of}
 use Rattle.run_loop.specs.declared.work.Part as rust
 use Rattle.run_loop.specs.declared.work.Round.{Round}
 use Rattle.run_loop.specs.declared.work.Stop.{Stop}
@@ -24,7 +24,7 @@ use Rattle.run_loop.proofs.Parts.{texts_then, lines_then, size_then}
 
 -- all parts of a round were written
 pub wrote : (whole : Answer) (answer after : List ℕ → Answer) (old mid new : Edges) (round : Round) (shown : List rust.Part) →
-    (r : Reached whole answer old mid) → (s : Steps (answer r.rest) after mid.left new.left round) → shown ≡ round.parts.items →
+    (r : Reached whole answer old mid) → (s : Gives (answer r.rest) after mid.left new.left round) → shown ≡ round.parts.items →
     PutsEach {T = Unit {0}} mid.out new.out mid.report new.report (parts_of shown) (Ok tt) →
     Stands whole (r.front ++ parts_of round.parts.items) s.0 s.1 old new
 wrote whole answer after old mid new round shown r s is putting =
@@ -68,6 +68,13 @@ stopped whole b front mid old new (status.BadWords number place) w some at = abs
 stopped whole b front mid old new status.Done w some at = absurd at
 stopped whole b front mid old new status.SomeFailed w some at = absurd at
 stopped whole b front mid old new (status.WriteFault sink) w some at = absurd at
+
+-- in a round without parts
+pub failed_alone : (whole : Answer) (answer : List ℕ → Answer) (old mid : Edges) (left : Option (List ℕ)) (reads : ℕ) (ending : Status) →
+    (r : Reached whole answer old mid) → Stopped (answer r.rest) mid.left left ending → Ended whole old (record mid { left = left; reads = reads }) ending
+failed_alone whole answer old mid left reads ending r at =
+    stopped whole (answer r.rest) r.front mid.left old (record mid { left = left; reads = reads }) ending
+    (record { split = r.stands.split; took = r.stands.took; out = r.stands.out; report = r.stands.report }) r.some at
 
 pub failed : (whole b : Answer) (after : List ℕ → Answer) (front parts : List Part) (mid : Option (List ℕ)) (old new : Edges) (stop : Stop) (ending : Status) →
     Stands whole (front ++ parts) b mid old new → 0 < length front → stop ≡ Fails ending → Stops b after mid new.left stop → Ended whole old new ending
@@ -144,7 +151,7 @@ divided front parts f aft rest p e =
 
 -- a part that couldn't be written whole
 blocked_at : (whole : Answer) (answer after : List ℕ → Answer) (old mid new : Edges) (left : Option (List ℕ)) (round : Round) (sink : SinkName) →
-    (r : Reached whole answer old mid) → Steps (answer r.rest) after mid.left left round →
+    (r : Reached whole answer old mid) → Gives (answer r.rest) after mid.left left round →
     PutsEach {T = Unit {0}} mid.out new.out mid.report new.report (parts_of round.parts.items) (Err sink) →
     Ended whole old new (status.WriteFault sink)
 blocked_at whole answer after old mid new left round Out r s (f, aft, p, n, e, added, line, some) =
@@ -178,7 +185,7 @@ blocked_at whole answer after old mid new left round Report r s (f, aft, p, n, e
     )
 
 pub blocked : (whole : Answer) (answer after : List ℕ → Answer) (old mid new : Edges) (round : Round) (shown : List rust.Part) (sink : SinkName) →
-    (r : Reached whole answer old mid) → Steps (answer r.rest) after mid.left new.left round → shown ≡ round.parts.items →
+    (r : Reached whole answer old mid) → Gives (answer r.rest) after mid.left new.left round → shown ≡ round.parts.items →
     PutsEach {T = Unit {0}} mid.out new.out mid.report new.report (parts_of shown) (Err sink) →
     Ended whole old new (status.WriteFault sink)
 blocked whole answer after old mid new round shown sink r s is put =

@@ -10,7 +10,6 @@ use Rattle.run_loop.specs.declared.status.SinkName.TheVariants.{Out, Report}
 use Rattle.run_loop.specs.declared.status.SinkName.{SinkName}
 use Rattle.run_loop.specs.declared.status.Status.{Status}
 use Rattle.run_loop.specs.declared.status.Status.TheVariants as status
-use Rattle.run_loop.specs.declared.work.Stop.TheVariants.{Fails}
 
 pub rose_since : (before mid now : ℕ) → before ≤ mid → Rose mid now → Rose before now
 rose_since before mid now later (inl less) = inl (omega (arith, later, less))
@@ -37,7 +36,7 @@ causes_until before mid report now status.ReadFault later more cause = cause
 causes_until before mid report now status.NoMemory later more cause = cause
 
 -- what a round failed by is a cause
-pub causes_failing : (before now : Edges) (mid : ℕ) (ending : Status) → before.reads ≤ mid → FailsBy mid now.reads (Fails ending) → Causes before now ending
+pub causes_failing : (before now : Edges) (mid : ℕ) (ending : Status) → before.reads ≤ mid → FailsBy mid now.reads ending → Causes before now ending
 causes_failing before now mid status.ReadFault later by = rose_since before.reads mid now.reads later by
 causes_failing before now mid (status.BadStream number place) later by = tt
 causes_failing before now mid status.NoMemory later by = tt

@@ -64,11 +64,16 @@ Stops b after mid new (End closing last failed) = (new ≡ Some []) × (b.parts 
 Stops b after mid new (Fails status) = Stopped b mid new status
 
 -- A round that began with the answer `a` still to come took the input of its parts, and then stopped.
-abbrev pub Steps : (a : Answer) → (after : List ℕ → Answer) → (old new : Option (List ℕ)) → Round → Type 0
-Steps a after old new round = (b : Answer) × (mid : Option (List ℕ))
+abbrev pub Gives : (a : Answer) → (after : List ℕ → Answer) → (old new : Option (List ℕ)) → Round → Type 0
+Gives a after old new round = (b : Answer) × (mid : Option (List ℕ))
     × (a ≡ behind (parts_of round.parts.items) b)
     × TakesSome old mid (λ n. n ≡ size_of (parts_of round.parts.items))
     × Stops b after mid new round.stop
+
+-- it gave that, or the run stopped before it had a part
+abbrev pub Steps : (a : Answer) → (after : List ℕ → Answer) → (old new : Option (List ℕ)) → Result Round Status → Type 0
+Steps a after old new (Ok round) = Gives a after old new round
+Steps a after old new (Err status) = Stopped a old new status
 
 -- a round that goes on lowers the number of rounds that may still come
 abbrev pub Fewer : (before now : ℕ) → Stop → Type 0
@@ -76,9 +81,13 @@ Fewer before now Go = now < before
 Fewer before now _ = Unit {0}
 
 -- a round fails by its input, the source or memory alone, and by the source where it counted a fault
-abbrev pub FailsBy : (before now : ℕ) → Stop → Type 0
-FailsBy before now (Fails (BadStream number place)) = Unit {0}
-FailsBy before now (Fails ReadFault) = Rose before now
-FailsBy before now (Fails NoMemory) = Unit {0}
-FailsBy before now (Fails _) = ⊥
-FailsBy before now _ = Unit {0}
+abbrev pub FailsBy : (before now : ℕ) → Status → Type 0
+FailsBy before now (BadStream number place) = Unit {0}
+FailsBy before now ReadFault = Rose before now
+FailsBy before now NoMemory = Unit {0}
+FailsBy before now _ = ⊥
+
+-- so does one that fails behind its parts
+abbrev pub StopsBy : (before now : ℕ) → Stop → Type 0
+StopsBy before now (Fails status) = FailsBy before now status
+StopsBy before now _ = Unit {0}

@@ -45,7 +45,10 @@ pub fn drive<O: Open, S: Source, D: Sink, R: Sink>(
         Err(status) => return status,
     };
     loop {
-        let Round { parts, stop } = work.round(alloc, source);
+        let Round { parts, stop } = match work.round(alloc, source) {
+            Ok(round) => round,
+            Err(status) => return status,
+        };
         if let Err(sink) = put_all(out, report, parts.as_slice()) {
             return Status::WriteFault { sink };
         }

@@ -1,6 +1,9 @@
 //! How a run ends.
 ghost use Rattle.std.specs.Prelude.{◌≡◌};
 ghost use Rattle.run_loop.specs.Exit.{exit_of};
+ghost use Rattle.run_loop.specs.declared.status.Status.TheVariants as status;
+
+use lte_bits::NoMemory;
 
 /// One of the two sinks of a run.
 #[derive(Clone, Copy, Debug, PartialEq, Eq, Hash)]
@@ -26,6 +29,14 @@ pub enum Status {
     WriteFault { sink: SinkName },
     /// Memory was wanting.
     NoMemory,
+}
+
+impl From<NoMemory> for Status {
+    ghost from_gives = { λ _ s. s ≡ status.NoMemory };
+
+    fn from(_error: NoMemory) -> Status {
+        Status::NoMemory
+    }
 }
 
 impl Status {

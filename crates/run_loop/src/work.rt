@@ -1,5 +1,5 @@
 //! The work of a command, a round at a time.
-ghost use Rattle.std.specs.Prelude.{◌≡◌, ◌≤◌, ◌<◌, ℕ, List, [], Some, IfOk};
+ghost use Rattle.std.specs.Prelude.{◌≡◌, ◌≤◌, ◌<◌, ℕ, List, [], Some, IfOk, IfErr};
 ghost use Rattle.std.specs.declared.option.Option.{Option};
 ghost use Rattle.run_loop.specs.Answer.{Answer};
 ghost use Rattle.run_loop.specs.Edges.{told};
@@ -34,7 +34,8 @@ pub enum Stop {
         last: Vec<u8>,
         failed: bool,
     },
-    /// The run ends so: the input is refused at a byte, the source failed, or memory was wanting.
+    /// The run ends so behind these parts: the input is refused at a byte, the source failed, or
+    /// memory was wanting.
     Fails(Status),
 }
 
@@ -61,7 +62,7 @@ impl Round {
 /// The work of a command once it was opened, a round at a time. A round reads one block or several,
 /// and they are written before the next round begins.
 pub trait Work: Drop {
-    ghost use Rattle.run_loop.specs.Step.{FailsBy, Fewer, Steps};
+    ghost use Rattle.run_loop.specs.Step.{FailsBy, Fewer, Steps, StopsBy};
 
     // The answer that is still to come, for the input that is left.
     ghost answer: { Self → List ℕ → Answer };
@@ -73,15 +74,17 @@ pub trait Work: Drop {
     ghost budget: { Self → ℕ };
 
     /// Reads the input of the next blocks and computes them. All memory that the ending needs is
-    /// had before its bytes are read.
-    fn round<S: Source>(&mut self, alloc: Global, source: &mut S) -> Round
+    /// had before its bytes are read. An `Err` says how the run ends where the round has no part:
+    /// the input is refused at a byte, the source failed, or memory was wanting.
+    fn round<S: Source>(&mut self, alloc: Global, source: &mut S) -> Result<Round, Status>
         requires { ready self.old }
         ensures step { (input : List ℕ) → S.left source.old ≡ Some input →
             Steps (answer self.old input) (answer self.new) (S.left source.old) (S.left source.new) result }
-        ensures ready { result.stop ≡ Stop.Go → ready self.new }
-        ensures fewer { Fewer (budget self.old) (budget self.new) result.stop }
+        ensures ready { IfOk result (λ round. round.stop ≡ Stop.Go → ready self.new) }
+        ensures fewer { IfOk result (λ round. Fewer (budget self.old) (budget self.new) round.stop) }
         ensures later { S.faults source.old ≤ S.faults source.new }
-        ensures fails { FailsBy (S.faults source.old) (S.faults source.new) result.stop };
+        ensures stops { IfOk result (λ round. StopsBy (S.faults source.old) (S.faults source.new) round.stop) }
+        ensures fails { IfErr result (FailsBy (S.faults source.old) (S.faults source.new)) };
 }
 
 /// A command that reads a source.

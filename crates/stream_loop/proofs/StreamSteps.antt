@@ -5,18 +5,18 @@ use Rattle.edge_io.specs.Edge.{Takes}
 use Rattle.edge_io.proofs.Known.{takes_none}
 use Rattle.coded_stream.specs.Header.{Header}
 use Rattle.coded_stream.specs.Blocks.{Block}
-use Rattle.coded_stream.specs.Body.{Body, onto, no_more, whole, bad, next_start}
+use Rattle.coded_stream.specs.Body.{Body, onto, no_more, whole, next_start}
 use Rattle.coded_stream.specs.Steps.{Reading, remaining, GoesOn, Advances}
 use Rattle.coded_stream.specs.declared.stop.StreamStop.{StreamStop}
 use Rattle.coded_stream.specs.declared.stop.StreamStop.TheVariants as reader
 use Rattle.run_loop.specs.Answer.{Part, Answer, behind, size_of}
-use Rattle.run_loop.specs.Due.{IsWithin}
-use Rattle.run_loop.specs.Step.{Steps, Stops, ending_of}
+use Rattle.run_loop.specs.Due.{IsWithin, Stopped}
+use Rattle.run_loop.specs.Step.{Gives, Stops, ending_of}
 use Rattle.run_loop.specs.declared.work.Round.{Round}
 use Rattle.run_loop.specs.declared.work.Stop.{Stop}
 use Rattle.run_loop.specs.declared.work.Stop.TheVariants.{Go, End, Fails}
-use Rattle.run_loop.specs.declared.status.Status.TheVariants.{BadStream, ReadFault, NoMemory}
-use Rattle.run_loop.proofs.Alone.{step_alone}
+use Rattle.run_loop.specs.declared.status.Status.TheVariants.{BadStream, NoMemory}
+use Rattle.run_loop.proofs.Alone.{gives_alone}
 use Rattle.run_loop.proofs.Within.{within_next}
 use Rattle.stream_loop.specs.Handling.{Handling, part, one_if, body_answer}
 use Rattle.stream_loop.specs.Rounds.{answer_ahead, block_of, status_of, IsEnding, IsGoing}
@@ -55,11 +55,11 @@ answered : (w : Handling) (r : Reading) (failed : ℕ) (input : List ℕ) (b : B
 answered w r failed input b old new read = ap (body_answer w r.header r.blocks failed) read.says
 
 -- the block was made, and more is to come
-pub step_of_block : (w : Handling) (r r' : Reading) (failed failed' : ℕ) (input into : List ℕ) (n : ℕ) (old new : Option (List ℕ)) (round : Round) (fails : Bool) →
+pub gives_block : (w : Handling) (r r' : Reading) (failed failed' : ℕ) (input into : List ℕ) (n : ℕ) (old new : Option (List ℕ)) (round : Round) (fails : Bool) →
     GoesOn (remaining r input) (remaining r') into old new (Ok (Some n)) → Advances r r' into (Ok (Some n)) →
     IsGoing (w.block r.header r.blocks (block_of n into)) (block_of n into) round fails → failed' ≡ failed + one_if fails →
-    Steps (answer_ahead w r failed input) (answer_ahead w r' failed') old new round
-step_of_block w r r' failed failed' input into n old new round fails on moved made counted =
+    Gives (answer_ahead w r failed input) (answer_ahead w r' failed') old new round
+gives_block w r r' failed failed' input into n old new round fails on moved made counted =
     let b = block_of n into in
     let p = part (w.block r.header r.blocks b) b in
     let read = block_read r r' input into n old new on moved in
@@ -78,15 +78,14 @@ step_of_block w r r' failed failed' input into n old new round fails on moved ma
     )
 
 -- memory was wanting once it was read
-pub step_of_want : (w : Handling) (r r' : Reading) (failed : ℕ) (input into : List ℕ) (n : ℕ) (after : List ℕ → Answer) (old new : Option (List ℕ)) (round : Round) →
+pub stopped_starved : (w : Handling) (r r' : Reading) (failed : ℕ) (input into : List ℕ) (n : ℕ) (old new : Option (List ℕ)) →
     GoesOn (remaining r input) (remaining r') into old new (Ok (Some n)) → Advances r r' into (Ok (Some n)) →
-    round.parts.items ≡ [] → round.stop ≡ Fails NoMemory → Steps (answer_ahead w r failed input) after old new round
-step_of_want w r r' failed input into n after old new round on moved none is =
+    Stopped (answer_ahead w r failed input) old new NoMemory
+stopped_starved w r r' failed input into n old new on moved =
     let b = block_of n into in
     let read = block_read r r' input into n old new on moved in
     let P : Answer → Type 0 = λ a. IsWithin a (length read.bytes) in
-    let more = answer_ahead w (past r b) (failed + one_if (w.block r.header r.blocks b).failed) read.left in
-    step_alone (answer_ahead w r failed input) after old new round (Fails NoMemory) none is (
+    let more = answer_ahead w (past r b) (failed + one_if (w.block r.header r.blocks b).failed) read.left in (
       read.bytes,
       taken old new read.bytes read.left read.old_is read.new_is,
       subst P (sym (answered w r failed input b old new read))
@@ -96,26 +95,20 @@ step_of_want w r r' failed input into n after old new round on moved none is =
 -- ---- no block
 
 -- memory was wanting before anything was read
-pub step_of_none : (w : Handling) (r : Reading) (failed : ℕ) (input : List ℕ) (after : List ℕ → Answer) (old new : Option (List ℕ)) (round : Round) →
-    round.parts.items ≡ [] → round.stop ≡ Fails NoMemory → new ≡ old → Steps (answer_ahead w r failed input) after old new round
-step_of_none w r failed input after old new round none is same =
+pub stopped_before : (w : Handling) (r : Reading) (failed : ℕ) (input : List ℕ) (old new : Option (List ℕ)) → new ≡ old →
+    Stopped (answer_ahead w r failed input) old new NoMemory
+stopped_before w r failed input old new same =
     let P : Option (List ℕ) → Type 0 = λ o. Takes old o [] in
-    step_alone (answer_ahead w r failed input) after old new round (Fails NoMemory) none is ([], subst P (sym same) (takes_none old), within_ahead w r failed input)
+    ([], subst P (sym same) (takes_none old), within_ahead w r failed input)
 
 -- the reader stopped
-pub step_of_stop : (w : Handling) (r r' : Reading) (failed : ℕ) (input into : List ℕ) (stop : StreamStop) (after : List ℕ → Answer) (old new : Option (List ℕ)) (round : Round) →
-    GoesOn (remaining r input) (remaining r') into old new (Err stop) →
-    round.parts.items ≡ [] → round.stop ≡ Fails (status_of stop) → Steps (answer_ahead w r failed input) after old new round
-step_of_stop w r r' failed input into (reader.Bad number place) after old new round (bytes, left, due, old_is, new_is, says) none is =
-    let refusal = no_more (bad (record { number = number; place = place; size = length bytes; due = due })) in
-    let P : Body → Type 0 = λ rest. Steps (body_answer w r.header r.blocks failed rest) after old new round in
-    subst P (sym says)
-    (step_alone (body_answer w r.header r.blocks failed refusal) after old new round (Fails (BadStream number place)) none is
-    (refl, refl, (bytes, taken old new bytes left old_is new_is, refl)))
-step_of_stop w r r' failed input into reader.Fault after old new round (bytes, took, few) none is =
-    step_alone (answer_ahead w r failed input) after old new round (Fails ReadFault) none is (bytes, took, due_ahead w r failed input (length bytes) few)
-step_of_stop w r r' failed input into reader.NoMemory after old new round same none is =
-    step_of_none w r failed input after old new round none is same
+pub stopped_reading : (w : Handling) (r r' : Reading) (failed : ℕ) (input into : List ℕ) (stop : StreamStop) (old new : Option (List ℕ)) →
+    GoesOn (remaining r input) (remaining r') into old new (Err stop) → Stopped (answer_ahead w r failed input) old new (status_of stop)
+stopped_reading w r r' failed input into (reader.Bad number place) old new (bytes, left, due, old_is, new_is, says) =
+    let P : Body → Type 0 = λ rest. Stopped (body_answer w r.header r.blocks failed rest) old new (BadStream number place) in
+    subst P (sym says) (refl, refl, (bytes, taken old new bytes left old_is new_is, refl))
+stopped_reading w r r' failed input into reader.Fault old new (bytes, took, few) = (bytes, took, due_ahead w r failed input (length bytes) few)
+stopped_reading w r r' failed input into reader.NoMemory old new same = stopped_before w r failed input old new same
 
 ends : (w : Handling) (h : Header) (number failed : ℕ) (after : List ℕ → Answer) (old new : Option (List ℕ)) (stop : Stop) → IsEnding w h number failed stop → new ≡ Some [] →
     Stops (body_answer w h number failed (no_more whole)) after old new stop
@@ -124,11 +117,11 @@ ends w h number failed after old new Go is at = absurd is
 ends w h number failed after old new (Fails status) is at = absurd is
 
 -- the stream ended
-pub step_of_end : (w : Handling) (r r' : Reading) (failed : ℕ) (input into : List ℕ) (after : List ℕ → Answer) (old new : Option (List ℕ)) (round : Round) (stop : Stop) →
+pub gives_end : (w : Handling) (r r' : Reading) (failed : ℕ) (input into : List ℕ) (after : List ℕ → Answer) (old new : Option (List ℕ)) (round : Round) (stop : Stop) →
     GoesOn (remaining r input) (remaining r') into old new (Ok None) →
-    IsEnding w r.header r.blocks failed stop → round.parts.items ≡ [] → round.stop ≡ stop → Steps (answer_ahead w r failed input) after old new round
-step_of_end w r r' failed input into after old new round stop (bytes, old_is, new_is, size, says) end none is =
-    let P : Body → Type 0 = λ rest. Steps (body_answer w r.header r.blocks failed rest) after old new round in
+    IsEnding w r.header r.blocks failed stop → round.parts.items ≡ [] → round.stop ≡ stop → Gives (answer_ahead w r failed input) after old new round
+gives_end w r r' failed input into after old new round stop (bytes, old_is, new_is, size, says) end none is =
+    let P : Body → Type 0 = λ rest. Gives (body_answer w r.header r.blocks failed rest) after old new round in
     subst P (sym says)
-    (step_alone (body_answer w r.header r.blocks failed (no_more whole)) after old new round stop none is
+    (gives_alone (body_answer w r.header r.blocks failed (no_more whole)) after old new round stop none is
     (ends w r.header r.blocks failed after old new stop end new_is))

@@ -131,31 +131,25 @@ impl<H: Handler> Work for StreamRounds<H> {
 
     ghost budget = { λ s. most_blocks - s.reader.blocks };
 
-    fn round<S: Source>(&mut self, alloc: Global, source: &mut S) -> Round {
+    fn round<S: Source>(&mut self, alloc: Global, source: &mut S) -> Result<Round, Status> {
         let number = self.reader.blocks();
         // What the end takes is had before its bytes are read.
-        let Ok(end) = ending(
+        let end = ending(
             alloc,
             &self.handler,
             self.reader.header(),
             number,
             self.failed,
-        ) else {
-            return Round::stopped(alloc, Stop::Fails(Status::NoMemory));
-        };
+        )?;
         let payload = match self.reader.next_block(source, &mut self.room) {
             Ok(Some(payload)) => payload,
-            Ok(None) => return Round::stopped(alloc, end),
-            Err(stop) => return Round::stopped(alloc, Stop::Fails(status_of(stop))),
+            Ok(None) => return Ok(Round::stopped(alloc, end)),
+            Err(stop) => return Err(status_of(stop)),
         };
         let header = self.reader.header();
         let bytes = self.room.as_slice();
-        match going(alloc, &self.handler, header, number, payload, bytes) {
-            Ok((round, failed)) => {
-                self.failed = counted(self.failed, failed);
-                round
-            }
-            Err(NoMemory) => Round::stopped(alloc, Stop::Fails(Status::NoMemory)),
-        }
+        let (round, failed) = going(alloc, &self.handler, header, number, payload, bytes)?;
+        self.failed = counted(self.failed, failed);
+        Ok(round)
     }
 }

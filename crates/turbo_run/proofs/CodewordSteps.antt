@@ -1,5 +1,5 @@
 -- The one round of `codeword`'s work.
-use Rattle.std.proofs.Common.{◌≡◌, ℕ, inl, inr, ◌<◌, ◌≤◌, List, [], ◌∷◌, ◌++◌, length, Some, refl, ap, sym, subst, ◌∙◌, arith}
+use Rattle.std.proofs.Common.{◌≡◌, ℕ, inl, inr, ◌<◌, ◌≤◌, List, [], ◌∷◌, ◌++◌, length, Some, Err, refl, ap, sym, subst, ◌∙◌, arith}
 use Rattle.std.proofs.lemmas.Grind.{common_steps}
 use Rattle.std.proofs.lemmas.List.{length-append}
 use Rattle.std.specs.declared.option.Option.{Option}
@@ -9,17 +9,18 @@ use Rattle.edge_io.proofs.Known.{takes_none}
 use Rattle.sender_model.specs.CircularBuffer.{Match}
 use Rattle.std.proofs.lemmas.Bool.{cases_lt}
 use Rattle.run_loop.specs.Answer.{Part, Answer, finished, behind, refusal, closed, size_of}
-use Rattle.run_loop.specs.Due.{IsDue, IsWithin}
-use Rattle.run_loop.specs.Step.{Steps, Stops, parts_of, ending_of}
+use Rattle.run_loop.specs.Due.{IsDue, IsWithin, Stopped}
+use Rattle.run_loop.specs.Step.{Gives, Stops, parts_of, ending_of}
 use Rattle.run_loop.specs.declared.work.Part as rust
 use Rattle.run_loop.specs.declared.work.Round.{Round}
 use Rattle.run_loop.specs.declared.work.Stop.{Stop}
 use Rattle.run_loop.specs.declared.work.Stop.TheVariants.{Go, End, Fails}
-use Rattle.run_loop.specs.declared.status.Status.TheVariants.{BadStream, ReadFault, NoMemory}
-use Rattle.run_loop.proofs.Alone.{step_alone}
+use Rattle.run_loop.specs.declared.status.Status.{Status}
+use Rattle.run_loop.specs.declared.status.Status.TheVariants.{Done, SomeFailed, BadWords, BadStream, ReadFault, WriteFault, NoMemory}
 use Rattle.edge_io.proofs.Told.{told_rest, told_all}
 use Rattle.turbo_run.specs.Codeword.{block_answer, codeword_part, bits_line}
-use Rattle.turbo_run.specs.CodewordRound.{IsCoded, IsRoundOf}
+use Rattle.turbo_run.specs.CodewordRound.{IsCoded}
+use Rattle.turbo_run.specs.Input.{IsInput}
 
 -- a payload that isn't too long
 accepted : (m : Match) (rv : ℕ) (payload : List ℕ) → 0 < length payload → length payload ≤ 18722 →
@@ -67,44 +68,43 @@ all_read m rv payload some few =
     let P : Answer → Type 0 = λ a. IsWithin a (length payload) in
     subst P (sym (accepted m rv payload some few)) (omega arith, λ none. cc)
 
-pub step_of_empty : (m : Match) (rv : ℕ) (input : List ℕ) (after : List ℕ → Answer) (old new : Option (List ℕ)) (round : Round) →
-    round.parts.items ≡ [] → round.stop ≡ Fails (BadStream 4 0) → Takes old new [] → IsAtEnd new → old ≡ Some input →
-    Steps (block_answer m rv input) after old new round
-step_of_empty m rv input after old new round none is took ended told =
-    let P : List ℕ → Type 0 = λ bytes. Steps (block_answer m rv bytes) after old new round in
-    subst P (sym (told_all old new [] input took ended told).input_is)
-    (step_alone (block_answer m rv []) after old new round (Fails (BadStream 4 0)) none is (refl, refl, ([], took, refl)))
-
-pub step_of_long : (m : Match) (rv : ℕ) (input bytes : List ℕ) (after : List ℕ → Answer) (old new : Option (List ℕ)) (round : Round) →
-    round.parts.items ≡ [] → round.stop ≡ Fails (BadStream 4 18722) → length bytes ≡ 18723 → Takes old new bytes → old ≡ Some input →
-    Steps (block_answer m rv input) after old new round
-step_of_long m rv input bytes after old new round none is three took told =
+-- the payload couldn't be read
+pub stopped_unread : (m : Match) (rv : ℕ) (input : List ℕ) (old new : Option (List ℕ)) (status : Status) →
+    IsInput 18723 old new (Err status) → old ≡ Some input → Stopped (block_answer m rv input) old new status
+stopped_unread m rv input old new ReadFault (bytes, short, took) told =
     let rest = told_rest old new bytes input took told in
-    let same : block_answer m rv input ≡ refusal 4 18722 18723 18723 = ap (block_answer m rv) rest.input_is ∙ too_long m rv bytes rest.left three in
-    let P : Answer → Type 0 = λ a. Steps a after old new round in
-    subst P (sym same) (step_alone (refusal 4 18722 18723 18723) after old new round (Fails (BadStream 4 18722)) none is (refl, refl, (bytes, took, three)))
-
-pub step_of_fault : (m : Match) (rv : ℕ) (input bytes : List ℕ) (after : List ℕ → Answer) (old new : Option (List ℕ)) (round : Round) →
-    round.parts.items ≡ [] → round.stop ≡ Fails ReadFault → length bytes ≤ 18722 → Takes old new bytes → old ≡ Some input →
-    Steps (block_answer m rv input) after old new round
-step_of_fault m rv input bytes after old new round none is few took told =
-    let rest = told_rest old new bytes input took told in
-    step_alone (block_answer m rv input) after old new round (Fails ReadFault) none is
-    (bytes, took, not_whole m rv (length bytes) input few (omega (arith, ap length rest.input_is, length-append bytes rest.left)))
-
-pub step_of_none : (m : Match) (rv : ℕ) (input : List ℕ) (after : List ℕ → Answer) (old new : Option (List ℕ)) (round : Round) →
-    round.parts.items ≡ [] → round.stop ≡ Fails NoMemory → new ≡ old → Steps (block_answer m rv input) after old new round
-step_of_none m rv input after old new round none is same =
+    (bytes, took, not_whole m rv (length bytes) input (omega (arith, short)) (omega (arith, ap length rest.input_is, length-append bytes rest.left)))
+stopped_unread m rv input old new NoMemory same told =
     let P : Option (List ℕ) → Type 0 = λ o. Takes old o [] in
-    step_alone (block_answer m rv input) after old new round (Fails NoMemory) none is ([], subst P (sym same) (takes_none old), none_read m rv input)
+    ([], subst P (sym same) (takes_none old), none_read m rv input)
+stopped_unread m rv input old new Done read told = absurd read
+stopped_unread m rv input old new SomeFailed read told = absurd read
+stopped_unread m rv input old new (BadWords number place) read told = absurd read
+stopped_unread m rv input old new (BadStream number place) read told = absurd read
+stopped_unread m rv input old new (WriteFault sink) read told = absurd read
 
-pub step_of_starved : (m : Match) (rv : ℕ) (input payload : List ℕ) (after : List ℕ → Answer) (old new : Option (List ℕ)) (round : Round) →
-    round.parts.items ≡ [] → round.stop ≡ Fails NoMemory → 0 < length payload → length payload ≤ 18722 → Takes old new payload → IsAtEnd new → old ≡ Some input →
-    Steps (block_answer m rv input) after old new round
-step_of_starved m rv input payload after old new round none is some few took ended told =
-    let P : List ℕ → Type 0 = λ bytes. Steps (block_answer m rv bytes) after old new round in
-    subst P (sym (told_all old new payload input took ended told).input_is)
-    (step_alone (block_answer m rv payload) after old new round (Fails NoMemory) none is (payload, took, all_read m rv payload some few))
+pub stopped_empty : (m : Match) (rv : ℕ) (input payload : List ℕ) (old new : Option (List ℕ)) →
+    length payload ≡ 0 → Takes old new payload → IsAtEnd new → old ≡ Some input → Stopped (block_answer m rv input) old new (BadStream 4 0)
+stopped_empty m rv input payload old new zero_long took ended told =
+    let P : List ℕ → Type 0 = λ bytes. Stopped (block_answer m rv bytes) old new (BadStream 4 0) in
+    let none : block_answer m rv payload ≡ refusal 4 0 0 1 = grind (arith, common_steps, zero_long) in
+    let Q : Answer → Type 0 = λ a. Stopped a old new (BadStream 4 0) in
+    subst P (sym (told_all old new payload input took ended told).input_is) (subst Q (sym none) (refl, refl, (payload, took, zero_long)))
+
+pub stopped_long : (m : Match) (rv : ℕ) (input bytes : List ℕ) (old new : Option (List ℕ)) →
+    length bytes ≡ 18723 → Takes old new bytes → old ≡ Some input → Stopped (block_answer m rv input) old new (BadStream 4 18722)
+stopped_long m rv input bytes old new long took told =
+    let rest = told_rest old new bytes input took told in
+    let same : block_answer m rv input ≡ refusal 4 18722 18723 18723 = ap (block_answer m rv) rest.input_is ∙ too_long m rv bytes rest.left long in
+    let P : Answer → Type 0 = λ a. Stopped a old new (BadStream 4 18722) in
+    subst P (sym same) (refl, refl, (bytes, took, long))
+
+-- memory was wanting once the payload was read
+pub stopped_starved : (m : Match) (rv : ℕ) (input payload : List ℕ) (old new : Option (List ℕ)) →
+    0 < length payload → length payload ≤ 18722 → Takes old new payload → IsAtEnd new → old ≡ Some input → Stopped (block_answer m rv input) old new NoMemory
+stopped_starved m rv input payload old new some few took ended told =
+    let P : List ℕ → Type 0 = λ bytes. Stopped (block_answer m rv bytes) old new NoMemory in
+    subst P (sym (told_all old new payload input took ended told).input_is) (payload, took, all_read m rv payload some few)
 
 coded_stop : (m : Match) (rv : ℕ) (payload : List ℕ) (after : List ℕ → Answer) (new : Option (List ℕ)) (blocks : List rust.Part) (stop : Stop) →
     IsCoded m rv payload blocks stop → new ≡ Some [] →
@@ -114,10 +114,10 @@ coded_stop m rv payload after new blocks (End closing last failed) is at =
 coded_stop m rv payload after new blocks Go is at = absurd is
 coded_stop m rv payload after new blocks (Fails status) is at = absurd is
 
-pub step_of_coded : (m : Match) (rv : ℕ) (input payload : List ℕ) (after : List ℕ → Answer) (old new : Option (List ℕ)) (round : Round) →
+pub gives_coded : (m : Match) (rv : ℕ) (input payload : List ℕ) (after : List ℕ → Answer) (old new : Option (List ℕ)) (round : Round) →
     IsCoded m rv payload round.parts.items round.stop → 0 < length payload → length payload ≤ 18722 → Takes old new payload → IsAtEnd new → old ≡ Some input →
-    Steps (block_answer m rv input) after old new round
-step_of_coded m rv input payload after old new round is some few took ended told =
+    Gives (block_answer m rv input) after old new round
+gives_coded m rv input payload after old new round is some few took ended told =
     let end = told_all old new payload input took ended told in
     let coded = coded_stop m rv payload after new round.parts.items round.stop is end.new_is in
     let one : length payload ≡ size_of (codeword_part m rv payload ∷ []) = omega arith in
@@ -128,22 +128,3 @@ step_of_coded m rv input payload after old new round is some few took ended told
       (payload, took, one ∙ sym (ap size_of coded.0)),
       coded.1,
     )
-
--- the whole input was read
-pub step_of_input : (m : Match) (rv : ℕ) (input payload : List ℕ) (after : List ℕ → Answer) (old new : Option (List ℕ)) (round : Round) →
-    IsRoundOf m rv payload round → length payload ≤ 18722 → Takes old new payload → IsAtEnd new → old ≡ Some input →
-    Steps (block_answer m rv input) after old new round
-step_of_input m rv input payload after old new round is few took ended told = elim is [
-  | inl empty ↦ (
-      let P : List ℕ → Type 0 = λ bytes. Takes old new bytes in
-      step_of_empty m rv input after old new round empty.1 empty.2 (subst P (none_of payload empty.0) took) ended told
-      )
-  | inr some ↦ elim some [
-    | inl made ↦ step_of_coded m rv input payload after old new round made.1 made.0 few took ended told
-    | inr starved ↦ step_of_starved m rv input payload after old new round starved.1 starved.2 starved.0 few took ended told
-  ]
-]
-  where
-    none_of : (bytes : List ℕ) → length bytes ≡ 0 → bytes ≡ []
-    none_of [] none = refl
-    none_of (b ∷ bytes) none = absurd (omega (arith, none))

@@ -1,13 +1,15 @@
 -- What a round of `encode` gives.
-use Rattle.std.specs.Prelude.{◌≡◌, ◌⊎◌, ℕ, ◌+◌, ◌*◌, ◌<◌, List, [], ◌∷◌, length, false}
+use Rattle.std.specs.Prelude.{◌≡◌, ◌⊎◌, ℕ, ◌+◌, ◌*◌, ◌<◌, List, [], ◌∷◌, length, false, Ok, Err}
 use Rattle.std.specs.declared.option.Option.{Option}
+use Rattle.std.specs.declared.result.Result.{Result}
 use Rattle.std.specs.Io.KnownBytes.{IsAtEnd}
 use Rattle.edge_io.specs.Edge.{Takes}
 use Rattle.coded_stream.specs.Header.{Header, word_text}
 use Rattle.run_loop.specs.Step.{parts_of}
 use Rattle.run_loop.specs.declared.work.Round.{Round}
 use Rattle.run_loop.specs.declared.work.Stop.{Stop}
-use Rattle.run_loop.specs.declared.work.Stop.TheVariants.{Go, End, Fails}
+use Rattle.run_loop.specs.declared.work.Stop.TheVariants.{End}
+use Rattle.run_loop.specs.declared.status.Status.{Status}
 use Rattle.run_loop.specs.declared.status.Status.TheVariants.{BadStream, ReadFault, NoMemory}
 use Rattle.run_loop.specs.Lines.{blocks_line}
 use Rattle.turbo_run.specs.Encode.{block_part}
@@ -18,35 +20,22 @@ IsEnd count (End closing last failed) = (closing.items ≡ word_text 0) × (last
     × (failed ≡ false)
 IsEnd count _ = ⊥
 
--- want of memory, and no block
-abbrev pub IsStarved : Round → Type 0
-IsStarved round = (round.parts.items ≡ []) × (round.stop ≡ Fails NoMemory)
-
 -- one block, and how the round stops
 abbrev pub IsOfBlock : Header → (payload : List ℕ) → (wants : ℕ) → Stop → Round → Type 0
 IsOfBlock h payload wants stop round =
     (parts_of round.parts.items ≡ block_part h payload wants ∷ []) × (round.stop ≡ stop)
 
--- a shorter block, and the end
-abbrev pub IsShort : Header → (count : ℕ) → (payload : List ℕ) → Round → Type 0
-IsShort h count payload round = (parts_of round.parts.items ≡ block_part h payload (length payload + 1) ∷ [])
-    × IsEnd (count + 1) round.stop
-
--- of a whole block
-abbrev pub IsGoing : Header → (payload : List ℕ) → Round → Type 0
-IsGoing h payload round = IsStarved round
-    ⊎ IsOfBlock h payload (length payload) Go round
-
--- of what is left behind so many blocks, which is no whole block
+-- of what is left behind so many blocks, which is no whole block: the end alone, or a shorter block and the end
 abbrev pub IsLast : Header → (count : ℕ) → (payload : List ℕ) → Round → Type 0
-IsLast h count payload round = IsStarved round
-    ⊎ ((length payload ≡ 0) × (round.parts.items ≡ []) × IsEnd count round.stop)
-    ⊎ ((0 < length payload) × IsShort h count payload round)
+IsLast h count payload round = ((length payload ≡ 0) × (round.parts.items ≡ []) × IsEnd count round.stop)
+    ⊎ ((0 < length payload) × (parts_of round.parts.items ≡ block_part h payload (length payload + 1) ∷ [])
+    × IsEnd (count + 1) round.stop)
 
--- the byte that is refused, a fault before it came, or the end
-abbrev pub IsBehindAll : Header → (old new : Option (List ℕ)) → Round → Type 0
-IsBehindAll h old new round =
-    ((bytes : List ℕ) × (length bytes ≡ 1) × Takes old new bytes × (round.parts.items ≡ [])
-    × (round.stop ≡ Fails (BadStream 8 (4096 * h.tb))))
-    ⊎ (Takes old new [] × (round.parts.items ≡ []) × (round.stop ≡ Fails ReadFault))
-    ⊎ (Takes old new [] × IsAtEnd new × IsLast h 4096 [] round)
+-- the end, the byte that is refused, a fault before it came, or want of memory for the end
+abbrev pub IsBehindAll : Header → (old new : Option (List ℕ)) → Result Round Status → Type 0
+IsBehindAll h old new (Ok round) = Takes old new [] × IsAtEnd new × IsLast h 4096 [] round
+IsBehindAll h old new (Err (BadStream number place)) = (number ≡ 8) × (place ≡ 4096 * h.tb)
+    × ((bytes : List ℕ) × (length bytes ≡ 1) × Takes old new bytes)
+IsBehindAll h old new (Err ReadFault) = Takes old new []
+IsBehindAll h old new (Err NoMemory) = Takes old new [] × IsAtEnd new
+IsBehindAll h old new (Err _) = ⊥

@@ -1,9 +1,10 @@
 //! The command `codeword`.
-ghost use Rattle.std.specs.Prelude.{◌≡◌, ◌≤◌, [], IfOk, None, length};
+ghost use Rattle.std.specs.Prelude.{◌≡◌, ◌≤◌, IfOk, None, length};
 ghost use Rattle.turbo_run.specs.Codeword.{bits_line, codeword_text};
-ghost use Rattle.turbo_run.specs.CodewordRound.{IsCoded, IsRoundOf};
+ghost use Rattle.turbo_run.specs.CodewordRound.{IsCoded};
 
 use crate::input::{Input, read_up_to};
+use coded_stream::cause;
 use edge_io::{Sink, Source};
 use lte_bits::{List, NoMemory, pack};
 use rate_match::Match;
@@ -73,26 +74,12 @@ fn coded(alloc: Global, payload: &[u8], m: &Match, rv: u8) -> Result<Round, NoMe
 }
 
 /// A transport block whose length is refused at a byte.
-fn bad(alloc: Global, place: u64) -> Round
-    ensures parts { result.parts.items ≡ [] }
-    ensures stop { result.stop ≡ Stop.Fails (Status.BadStream 4 place) }
+fn bad_length(place: u64) -> Status
+    ensures { result ≡ Status.BadStream 4 place }
 {
-    Round::stopped(alloc, Stop::Fails(Status::BadStream { number: 4, place }))
-}
-
-/// The one round of an input that was read to its end.
-fn of_input(alloc: Global, input: &[u8], m: &Match, rv: u8) -> Round
-    requires few { length input.now ≤ 18722 }
-    requires full { m.now.limit ≡ None }
-    requires version { rv ≤ 3 }
-    ensures { IsRoundOf m.now rv input.now result }
-{
-    if input.is_empty() {
-        return bad(alloc, 0);
-    }
-    match coded(alloc, input, m, rv) {
-        Ok(round) => round,
-        Err(NoMemory) => Round::stopped(alloc, Stop::Fails(Status::NoMemory)),
+    Status::BadStream {
+        number: cause::BAD_BLOCK_LENGTH,
+        place,
     }
 }
 
@@ -120,12 +107,14 @@ impl Work for Codeword {
 
     ghost budget = { λ _. 0 };
 
-    fn round<S: Source>(&mut self, alloc: Global, source: &mut S) -> Round {
-        match read_up_to(alloc, source, MOST_BYTES + 1) {
-            Input::Ended(input) => of_input(alloc, input.as_slice(), &self.m, self.rv),
-            Input::Whole(_) => bad(alloc, MOST_BYTES as u64),
-            Input::Fault => Round::stopped(alloc, Stop::Fails(Status::ReadFault)),
-            Input::NoMemory => Round::stopped(alloc, Stop::Fails(Status::NoMemory)),
+    fn round<S: Source>(&mut self, alloc: Global, source: &mut S) -> Result<Round, Status> {
+        let payload = match read_up_to(alloc, source, MOST_BYTES + 1)? {
+            Input::Ended(payload) => payload,
+            Input::Whole(_) => return Err(bad_length(MOST_BYTES as u64)),
+        };
+        if payload.is_empty() {
+            return Err(bad_length(0));
         }
+        Ok(coded(alloc, payload.as_slice(), &self.m, self.rv)?)
     }
 }

@@ -1,19 +1,16 @@
 //! The command `encode`.
-ghost use Rattle.std.specs.Prelude.{◌≡◌, ◌≤◌, ◌<◌, ◌+◌, ◌*◌, [], IfOk, length};
-ghost use Rattle.edge_io.specs.Edge.{Rose};
+ghost use Rattle.std.specs.Prelude.{◌≡◌, ◌≤◌, ◌<◌, ◌+◌, IfOk, IfErr, length};
 ghost use Rattle.coded_stream.specs.Shown.{header_of};
-ghost use Rattle.turbo_run.specs.EncodeRounds.{IsBehindAll, IsEnd, IsGoing, IsLast, IsOfBlock, IsShort};
+ghost use Rattle.run_loop.specs.Step.{FailsBy};
+ghost use Rattle.turbo_run.specs.EncodeRounds.{IsBehindAll, IsEnd, IsLast, IsOfBlock};
 
 use crate::blocks::block;
 use crate::input::{Input, read_up_to};
-use coded_stream::{Header, length_word, write_header};
+use coded_stream::{Header, MOST_BLOCKS, cause, length_word, write_header};
 use edge_io::{ReadStop, Sink, SinkFault, Source, read_exactly};
 use lte_bits::NoMemory;
 use run_loop::{Open, Round, SinkName, Status, Stop, Work, blocks_line};
 use std::alloc::Global;
-
-/// The most blocks of a stream.
-const MOST_BLOCKS: u32 = 4096;
 
 /// The hard stream of an input's blocks.
 #[derive(Debug, Drop)]
@@ -26,18 +23,18 @@ pub struct Encode {
 pub struct EncodeRounds {
     header: Header,
     /// How many blocks were taken.
-    count: u32,
+    count: usize,
     /// How many more may come.
-    more: u32,
+    more: usize,
     ghost most: { more + count ≡ 4096 },
 }
 
 /// The end behind so many blocks.
-fn end(alloc: Global, count: u32) -> Result<Stop, NoMemory>
+fn end(alloc: Global, count: usize) -> Result<Stop, NoMemory>
     ensures { IfOk result (IsEnd count) }
 {
     let closing = length_word(alloc, 0)?;
-    let last = blocks_line(alloc, count as usize)?;
+    let last = blocks_line(alloc, count)?;
     Ok(Stop::End {
         closing,
         last,
@@ -62,65 +59,34 @@ fn of_block(
     Ok(Round { parts, stop })
 }
 
-/// The round of a whole block.
-fn going(alloc: Global, header: &Header, payload: &[u8]) -> Round
-    requires some { 1 ≤ length payload.now }
+/// The last round, of what is left behind so many blocks.
+fn last(alloc: Global, header: &Header, count: usize, payload: &[u8]) -> Result<Round, NoMemory>
     requires few { length payload.now ≤ header.now.tb }
-    ensures { IsGoing (header_of header.now) payload.now result }
+    requires count { 0 < length payload.now → count < 4096 }
+    ensures { IfOk result (IsLast (header_of header.now) count payload.now) }
 {
-    match of_block(alloc, header, payload, payload.len(), Stop::Go) {
-        Ok(round) => round,
-        Err(NoMemory) => Round::stopped(alloc, Stop::Fails(Status::NoMemory)),
+    if payload.is_empty() {
+        return Ok(Round::stopped(alloc, end(alloc, count)?));
     }
-}
-
-/// The round of a shorter block, and the end.
-fn short(alloc: Global, header: &Header, count: u32, payload: &[u8]) -> Result<Round, NoMemory>
-    requires some { 1 ≤ length payload.now }
-    requires few { length payload.now ≤ header.now.tb }
-    requires count { count < 4096 }
-    ensures { IfOk result (IsShort (header_of header.now) count payload.now) }
-{
     let stop = end(alloc, count + 1)?;
     of_block(alloc, header, payload, payload.len() + 1, stop)
 }
 
-/// The last round, of what is left behind so many blocks.
-fn last(alloc: Global, header: &Header, count: u32, payload: &[u8]) -> Round
-    requires few { length payload.now ≤ header.now.tb }
-    requires count { 0 < length payload.now → count < 4096 }
-    ensures { IsLast (header_of header.now) count payload.now result }
-{
-    if payload.is_empty() {
-        return match end(alloc, count) {
-            Ok(stop) => Round::stopped(alloc, stop),
-            Err(NoMemory) => Round::stopped(alloc, Stop::Fails(Status::NoMemory)),
-        };
-    }
-    match short(alloc, header, count, payload) {
-        Ok(round) => round,
-        Err(NoMemory) => Round::stopped(alloc, Stop::Fails(Status::NoMemory)),
-    }
-}
-
 /// The round behind the last block that may come: a byte more is refused, and it is read without
 /// memory of its own.
-fn behind_all<S: Source>(alloc: Global, header: &Header, source: &mut S) -> Round
+fn behind_all<S: Source>(alloc: Global, header: &Header, source: &mut S) -> Result<Round, Status>
     ensures bytes { IsBehindAll (header_of header.now) (S.left source.old) (S.left source.new) result }
     ensures later { S.faults source.old ≤ S.faults source.new }
-    ensures fault { result.stop ≡ Stop.Fails Status.ReadFault → Rose (S.faults source.old) (S.faults source.new) }
+    ensures fails { IfErr result (FailsBy (S.faults source.old) (S.faults source.new)) }
 {
     match read_exactly(source, &mut [0u8; 1]) {
-        Ok(()) => Round::stopped(
-            alloc,
-            Stop::Fails(Status::BadStream {
-                number: 8,
-                place: 4096 * header.tb as u64,
-            }),
-        ),
+        Ok(()) => Err(Status::BadStream {
+            number: cause::TOO_MANY_BLOCKS,
+            place: (MOST_BLOCKS * header.tb) as u64,
+        }),
         Err(stop) => match stop {
-            ReadStop::Fault => Round::stopped(alloc, Stop::Fails(Status::ReadFault)),
-            ReadStop::Ended { .. } => last(alloc, header, MOST_BLOCKS, &[]),
+            ReadStop::Fault => Err(Status::ReadFault),
+            ReadStop::Ended { .. } => Ok(last(alloc, header, MOST_BLOCKS, &[])?),
         },
     }
 }
@@ -159,19 +125,19 @@ impl Work for EncodeRounds {
 
     ghost budget = { λ s. s.more };
 
-    fn round<S: Source>(&mut self, alloc: Global, source: &mut S) -> Round {
+    fn round<S: Source>(&mut self, alloc: Global, source: &mut S) -> Result<Round, Status> {
         if self.more == 0 {
             return behind_all(alloc, &self.header, source);
         }
-        match read_up_to(alloc, source, self.header.tb) {
+        let round = match read_up_to(alloc, source, self.header.tb)? {
             Input::Whole(payload) => {
                 self.more -= 1;
                 self.count += 1;
-                going(alloc, &self.header, payload.as_slice())
+                let payload = payload.as_slice();
+                of_block(alloc, &self.header, payload, payload.len(), Stop::Go)?
             }
-            Input::Ended(payload) => last(alloc, &self.header, self.count, payload.as_slice()),
-            Input::Fault => Round::stopped(alloc, Stop::Fails(Status::ReadFault)),
-            Input::NoMemory => Round::stopped(alloc, Stop::Fails(Status::NoMemory)),
-        }
+            Input::Ended(payload) => last(alloc, &self.header, self.count, payload.as_slice())?,
+        };
+        Ok(round)
     }
 }

@@ -1,9 +1,10 @@
 //! The next bytes of the input.
-ghost use Rattle.std.specs.Prelude.{◌≡◌, ◌≤◌};
-ghost use Rattle.edge_io.specs.Edge.{Rose};
+ghost use Rattle.std.specs.Prelude.{◌≤◌, IfErr};
+ghost use Rattle.run_loop.specs.Step.{FailsBy};
 ghost use Rattle.turbo_run.specs.Input.{IsInput};
 
 use edge_io::{ReadStop, Source, read_exactly};
+use run_loop::Status;
 use std::alloc::Global;
 
 /// What came of so many bytes.
@@ -13,28 +14,25 @@ pub enum Input {
     Whole(Vec<u8>),
     /// Fewer, and then the input ended.
     Ended(Vec<u8>),
-    /// The source failed.
-    Fault,
-    /// Memory was wanting, and nothing was read.
-    NoMemory,
 }
 
-/// Reads so many bytes, or all that are left where they are fewer.
-pub fn read_up_to<S: Source>(alloc: Global, source: &mut S, size: usize) -> Input
+/// Reads so many bytes, or all that are left where they are fewer. It answers `NoMemory` before
+/// anything is read.
+pub fn read_up_to<S: Source>(alloc: Global, source: &mut S, size: usize) -> Result<Input, Status>
     ensures bytes { IsInput size (S.left source.old) (S.left source.new) result }
     ensures later { S.faults source.old ≤ S.faults source.new }
-    ensures cause { result ≡ Input.Fault → Rose (S.faults source.old) (S.faults source.new) }
+    ensures fails { IfErr result (FailsBy (S.faults source.old) (S.faults source.new)) }
 {
     let Ok(mut bytes) = vec![in alloc; 0u8; size] else {
-        return Input::NoMemory;
+        return Err(Status::NoMemory);
     };
     match read_exactly(source, &mut bytes) {
-        Ok(()) => Input::Whole(bytes),
+        Ok(()) => Ok(Input::Whole(bytes)),
         Err(stop) => match stop {
-            ReadStop::Fault => Input::Fault,
+            ReadStop::Fault => Err(Status::ReadFault),
             ReadStop::Ended { got } => {
                 bytes.truncate(got);
-                Input::Ended(bytes)
+                Ok(Input::Ended(bytes))
             }
         },
     }

@@ -1,9 +1,9 @@
-use Rattle.std.proofs.Common.{◌≡◌, ℕ, List, Some, subst, sym, arith}
+use Rattle.std.proofs.Common.{subst, sym, arith}
 use Rattle.run_loop.specs.Edges.{edges}
 use Rattle.run_loop.specs.Puts.{HasSinkCause}
 use Rattle.run_loop.specs.Reply.{reading, Ends}
-use Rattle.run_loop.specs.Step.{FailsBy}
-use Rattle.run_loop.proofs.Endings.{wrote, went_on, failed, blocked, closed_done, ends_done, unclosed}
+use Rattle.run_loop.specs.Step.{StopsBy}
+use Rattle.run_loop.proofs.Endings.{wrote, went_on, failed, failed_alone, blocked, closed_done, ends_done, unclosed}
 use Rattle.run_loop.proofs.Rises.{causes_failing, causes_writing, later_then}
 use Rattle.run_loop.proofs.driver.drive.Goals as goal
 
@@ -12,45 +12,60 @@ returns-in-Err g c =
     let o = c.in-Err.ensures.opens (g.R.Sink.held c.args.report.now) (g.R.Sink.faults c.args.report.now) in
     record { ended = o.opens; causes = o.causes; later = o.later }
 
-pub loop-sink-init : goal.loop-sink-init
-loop-sink-init g c =
+pub loop-round-init : goal.loop-round-init
+loop-round-init g c =
     let o = c.in-Ok.ensures.opens (g.R.Sink.held c.args.report.now) (g.R.Sink.faults c.args.report.now) in
     record { reached = o.opens; ready = c.in-Ok.ensures.ready; later = o.later }
 
-pub returns-in-Err-put_all : goal.returns-in-Err-put_all
-returns-in-Err-put_all g c =
-    let was = c.loop-sink.invariant in
-    let whole = g.O.Open.answer c.args.command in
+pub returns-in-Err-round : goal.returns-in-Err-round
+returns-in-Err-round g c =
+    let was = c.loop-round.invariant in
     let old = edges g.S.Source g.D.Sink g.R.Sink c.args.source.now c.args.out.now c.args.report.now in
-    let mid = edges g.S.Source g.D.Sink g.R.Sink c.loop-sink.source c.loop-sink.out c.loop-sink.report in
-    let new = edges g.S.Source g.D.Sink g.R.Sink c.round-parts.new.source c.put_all.new.out c.put_all.new.report in
+    let mid = edges g.S.Source g.D.Sink g.R.Sink c.loop-round.source c.loop-round.out c.loop-round.report in
+    let new = edges g.S.Source g.D.Sink g.R.Sink c.round.new.source c.loop-round.out c.loop-round.report in
+    let status = c.in-Err-round.status in
     record {
       ended = λ input is.
           let r = was.reached input is in
-          blocked (whole input) (g.O.Rounds.Work.answer c.loop-sink.work) (g.O.Rounds.Work.answer c.round-parts.new.self) old mid new c.round-parts.result c.as_slice.result.now
-          c.in-Err-put_all.sink r (c.round-parts.ensures.step r.rest r.left) c.as_slice.ensures.value c.in-Err-put_all.ensures.bytes;
+          failed_alone (g.O.Open.answer c.args.command input) (g.O.Rounds.Work.answer c.loop-round.work) old mid new.left new.reads status r (c.in-Err-round.ensures.step r.rest r.left);
+      causes = causes_failing old new mid.reads status was.later.reads c.in-Err-round.ensures.fails;
+      later = later_then old mid new was.later c.round.ensures.later (omega arith) (omega arith);
+    }
+
+pub returns-in-Err-put_all : goal.returns-in-Err-put_all
+returns-in-Err-put_all g c =
+    let was = c.loop-round.invariant in
+    let whole = g.O.Open.answer c.args.command in
+    let old = edges g.S.Source g.D.Sink g.R.Sink c.args.source.now c.args.out.now c.args.report.now in
+    let mid = edges g.S.Source g.D.Sink g.R.Sink c.loop-round.source c.loop-round.out c.loop-round.report in
+    let new = edges g.S.Source g.D.Sink g.R.Sink c.round.new.source c.put_all.new.out c.put_all.new.report in
+    record {
+      ended = λ input is.
+          let r = was.reached input is in
+          blocked (whole input) (g.O.Rounds.Work.answer c.loop-round.work) (g.O.Rounds.Work.answer c.round.new.self) old mid new c.in-Ok-round.round c.as_slice.result.now
+          c.in-Err-put_all.sink r (c.in-Ok-round.ensures.step r.rest r.left) c.as_slice.ensures.value c.in-Err-put_all.ensures.bytes;
       causes = causes_writing old mid new c.in-Err-put_all.sink was.later (subst (HasSinkCause mid.outs new.outs mid.reports new.reports) c.in-Err-put_all.is c.put_all.ensures.cause);
-      later = later_then old mid new was.later c.round-parts.ensures.later c.put_all.ensures.cause.out_later c.put_all.ensures.cause.report_later;
+      later = later_then old mid new was.later c.round.ensures.later c.put_all.ensures.cause.out_later c.put_all.ensures.cause.report_later;
     }
 
 pub returns-in-Err-put : goal.returns-in-Err-put
 returns-in-Err-put g c =
-    let was = c.loop-sink.invariant in
+    let was = c.loop-round.invariant in
     let whole = g.O.Open.answer c.args.command in
-    let answer = g.O.Rounds.Work.answer c.loop-sink.work in
-    let after = g.O.Rounds.Work.answer c.round-parts.new.self in
+    let answer = g.O.Rounds.Work.answer c.loop-round.work in
+    let after = g.O.Rounds.Work.answer c.round.new.self in
     let old = edges g.S.Source g.D.Sink g.R.Sink c.args.source.now c.args.out.now c.args.report.now in
-    let mid = edges g.S.Source g.D.Sink g.R.Sink c.loop-sink.source c.loop-sink.out c.loop-sink.report in
-    let between = edges g.S.Source g.D.Sink g.R.Sink c.round-parts.new.source c.put_all.new.out c.put_all.new.report in
-    let new = edges g.S.Source g.D.Sink g.R.Sink c.round-parts.new.source c.put.new.out c.put.new.report in
-    let later = later_then old mid between was.later c.round-parts.ensures.later c.put_all.ensures.cause.out_later c.put_all.ensures.cause.report_later in
+    let mid = edges g.S.Source g.D.Sink g.R.Sink c.loop-round.source c.loop-round.out c.loop-round.report in
+    let between = edges g.S.Source g.D.Sink g.R.Sink c.round.new.source c.put_all.new.out c.put_all.new.report in
+    let new = edges g.S.Source g.D.Sink g.R.Sink c.round.new.source c.put.new.out c.put.new.report in
+    let later = later_then old mid between was.later c.round.ensures.later c.put_all.ensures.cause.out_later c.put_all.ensures.cause.report_later in
     let end = c.in-End in
     record {
       ended = λ input is.
           let r = was.reached input is in
-          let step = c.round-parts.ensures.step r.rest r.left in
-          let w = wrote (whole input) answer after old mid between c.round-parts.result c.as_slice.result.now r step c.as_slice.ensures.value c.in_default.ensures.bytes in
-          unclosed (whole input) step.0 after _ step.1 old between new c.round-parts.result.stop end.closing end.last end.failed c.as_slice-in-End.result.now c.as_slice-in-End-2.result.now
+          let step = c.in-Ok-round.ensures.step r.rest r.left in
+          let w = wrote (whole input) answer after old mid between c.in-Ok-round.round c.as_slice.result.now r step c.as_slice.ensures.value c.in_default.ensures.bytes in
+          unclosed (whole input) step.0 after _ step.1 old between new c.in-Ok-round.round.stop end.closing end.last end.failed c.as_slice-in-End.result.now c.as_slice-in-End-2.result.now
           c.in-Err-put.sink w end.is step.4 c.as_slice-in-End.ensures.value c.as_slice-in-End-2.ensures.value c.in-Err-put.ensures.bytes;
       causes = causes_writing old between new c.in-Err-put.sink later (subst (HasSinkCause between.outs new.outs between.reports new.reports) c.in-Err-put.is c.put.ensures.cause);
       later = later_then old between new later (omega arith) c.put.ensures.cause.out_later c.put.ensures.cause.report_later;
@@ -58,57 +73,57 @@ returns-in-Err-put g c =
 
 pub returns-in-End : goal.returns-in-End
 returns-in-End g c =
-    let was = c.loop-sink.invariant in
+    let was = c.loop-round.invariant in
     let whole = g.O.Open.answer c.args.command in
-    let answer = g.O.Rounds.Work.answer c.loop-sink.work in
-    let after = g.O.Rounds.Work.answer c.round-parts.new.self in
+    let answer = g.O.Rounds.Work.answer c.loop-round.work in
+    let after = g.O.Rounds.Work.answer c.round.new.self in
     let old = edges g.S.Source g.D.Sink g.R.Sink c.args.source.now c.args.out.now c.args.report.now in
-    let mid = edges g.S.Source g.D.Sink g.R.Sink c.loop-sink.source c.loop-sink.out c.loop-sink.report in
-    let between = edges g.S.Source g.D.Sink g.R.Sink c.round-parts.new.source c.put_all.new.out c.put_all.new.report in
-    let new = edges g.S.Source g.D.Sink g.R.Sink c.round-parts.new.source c.put.new.out c.put.new.report in
-    let later = later_then old mid between was.later c.round-parts.ensures.later c.put_all.ensures.cause.out_later c.put_all.ensures.cause.report_later in
+    let mid = edges g.S.Source g.D.Sink g.R.Sink c.loop-round.source c.loop-round.out c.loop-round.report in
+    let between = edges g.S.Source g.D.Sink g.R.Sink c.round.new.source c.put_all.new.out c.put_all.new.report in
+    let new = edges g.S.Source g.D.Sink g.R.Sink c.round.new.source c.put.new.out c.put.new.report in
+    let later = later_then old mid between was.later c.round.ensures.later c.put_all.ensures.cause.out_later c.put_all.ensures.cause.report_later in
     let end = c.in-End in
     subst (Ends (λ input. reading (whole input)) old new) (sym c.done.ensures)
     (ends_done whole old new end.failed (later_then old between new later (omega arith) c.put.ensures.cause.out_later c.put.ensures.cause.report_later)
     (λ input is.
     let r = was.reached input is in
-    let step = c.round-parts.ensures.step r.rest r.left in
-    let w = wrote (whole input) answer after old mid between c.round-parts.result c.as_slice.result.now r step c.as_slice.ensures.value c.in_default.ensures.bytes in
-    closed_done (whole input) step.0 after _ step.1 old between new c.round-parts.result.stop end.closing end.last end.failed c.as_slice-in-End.result.now c.as_slice-in-End-2.result.now
+    let step = c.in-Ok-round.ensures.step r.rest r.left in
+    let w = wrote (whole input) answer after old mid between c.in-Ok-round.round c.as_slice.result.now r step c.as_slice.ensures.value c.in_default.ensures.bytes in
+    closed_done (whole input) step.0 after _ step.1 old between new c.in-Ok-round.round.stop end.closing end.last end.failed c.as_slice-in-End.result.now c.as_slice-in-End-2.result.now
     w end.is step.4 c.as_slice-in-End.ensures.value c.as_slice-in-End-2.ensures.value c.in_default-put.ensures.bytes))
 
 pub returns-in-Fails : goal.returns-in-Fails
 returns-in-Fails g c =
-    let was = c.loop-sink.invariant in
+    let was = c.loop-round.invariant in
     let whole = g.O.Open.answer c.args.command in
-    let after = g.O.Rounds.Work.answer c.round-parts.new.self in
+    let after = g.O.Rounds.Work.answer c.round.new.self in
     let old = edges g.S.Source g.D.Sink g.R.Sink c.args.source.now c.args.out.now c.args.report.now in
-    let mid = edges g.S.Source g.D.Sink g.R.Sink c.loop-sink.source c.loop-sink.out c.loop-sink.report in
-    let new = edges g.S.Source g.D.Sink g.R.Sink c.round-parts.new.source c.put_all.new.out c.put_all.new.report in
+    let mid = edges g.S.Source g.D.Sink g.R.Sink c.loop-round.source c.loop-round.out c.loop-round.report in
+    let new = edges g.S.Source g.D.Sink g.R.Sink c.round.new.source c.put_all.new.out c.put_all.new.report in
     record {
       ended = λ input is.
           let r = was.reached input is in
-          let step = c.round-parts.ensures.step r.rest r.left in
-          let w = wrote (whole input) (g.O.Rounds.Work.answer c.loop-sink.work) after old mid new c.round-parts.result c.as_slice.result.now r step c.as_slice.ensures.value c.in_default.ensures.bytes in
-          failed (whole input) step.0 after r.front _ step.1 old new c.round-parts.result.stop c.in-Fails.status w r.some c.in-Fails.is step.4;
-      causes = causes_failing old new mid.reads c.in-Fails.status was.later.reads (subst (FailsBy mid.reads new.reads) c.in-Fails.is c.round-parts.ensures.fails);
-      later = later_then old mid new was.later c.round-parts.ensures.later c.put_all.ensures.cause.out_later c.put_all.ensures.cause.report_later;
+          let step = c.in-Ok-round.ensures.step r.rest r.left in
+          let w = wrote (whole input) (g.O.Rounds.Work.answer c.loop-round.work) after old mid new c.in-Ok-round.round c.as_slice.result.now r step c.as_slice.ensures.value c.in_default.ensures.bytes in
+          failed (whole input) step.0 after r.front _ step.1 old new c.in-Ok-round.round.stop c.in-Fails.status w r.some c.in-Fails.is step.4;
+      causes = causes_failing old new mid.reads c.in-Fails.status was.later.reads (subst (StopsBy mid.reads new.reads) c.in-Fails.is c.in-Ok-round.ensures.stops);
+      later = later_then old mid new was.later c.round.ensures.later c.put_all.ensures.cause.out_later c.put_all.ensures.cause.report_later;
     }
 
-pub loop-sink-preserved : goal.loop-sink-preserved
-loop-sink-preserved g c =
-    let was = c.loop-sink.invariant in
+pub loop-round-preserved : goal.loop-round-preserved
+loop-round-preserved g c =
+    let was = c.loop-round.invariant in
     let whole = g.O.Open.answer c.args.command in
-    let after = g.O.Rounds.Work.answer c.round-parts.new.self in
+    let after = g.O.Rounds.Work.answer c.round.new.self in
     let old = edges g.S.Source g.D.Sink g.R.Sink c.args.source.now c.args.out.now c.args.report.now in
-    let mid = edges g.S.Source g.D.Sink g.R.Sink c.loop-sink.source c.loop-sink.out c.loop-sink.report in
-    let new = edges g.S.Source g.D.Sink g.R.Sink c.round-parts.new.source c.put_all.new.out c.put_all.new.report in
+    let mid = edges g.S.Source g.D.Sink g.R.Sink c.loop-round.source c.loop-round.out c.loop-round.report in
+    let new = edges g.S.Source g.D.Sink g.R.Sink c.round.new.source c.put_all.new.out c.put_all.new.report in
     record {
       reached = λ input is.
           let r = was.reached input is in
-          let step = c.round-parts.ensures.step r.rest r.left in
-          let w = wrote (whole input) (g.O.Rounds.Work.answer c.loop-sink.work) after old mid new c.round-parts.result c.as_slice.result.now r step c.as_slice.ensures.value c.in_default.ensures.bytes in
-          went_on (whole input) step.0 after r.front _ step.1 old new c.round-parts.result.stop w r.some c.in-Go.is step.4;
-      ready = c.round-parts.ensures.ready c.in-Go.is;
-      later = later_then old mid new was.later c.round-parts.ensures.later c.put_all.ensures.cause.out_later c.put_all.ensures.cause.report_later;
+          let step = c.in-Ok-round.ensures.step r.rest r.left in
+          let w = wrote (whole input) (g.O.Rounds.Work.answer c.loop-round.work) after old mid new c.in-Ok-round.round c.as_slice.result.now r step c.as_slice.ensures.value c.in_default.ensures.bytes in
+          went_on (whole input) step.0 after r.front _ step.1 old new c.in-Ok-round.round.stop w r.some c.in-Go.is step.4;
+      ready = c.in-Ok-round.ensures.ready c.in-Go.is;
+      later = later_then old mid new was.later c.round.ensures.later c.put_all.ensures.cause.out_later c.put_all.ensures.cause.report_later;
     }
