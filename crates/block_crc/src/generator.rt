@@ -5,7 +5,7 @@ ghost use Rattle.sender_model.specs.CheckBits.{IsCrc, IsMonic, IsMultiple, crc, 
 ghost use Rattle.block_crc.specs.Table.{is_table};
 
 use crate::tables::{REMAINDERS_A, REMAINDERS_B};
-use lte_bits::Bit;
+use lte_bits::{Bit, byte_of};
 
 /// A polynomial of degree 24, as the number whose binary digits are its coefficients.
 #[derive(Clone, Copy)]
@@ -64,7 +64,7 @@ impl Generator {
         ensures small { result < 2 ^ 24 }
     {
         let top = (start >> 16) as usize;
-        self.remainders[top] ^ (start % (1 << 16) * 256 + number(byte))
+        self.remainders[top] ^ (start % (1 << 16) * 256 + u32::from(byte_of(byte)))
     }
 
     /// `start`, followed by the bits, modulo the generator.
@@ -96,22 +96,6 @@ impl Generator {
     {
         self.remainder(0, bits) == 0
     }
-}
-
-/// The number with eight digits, the highest first.
-fn number(byte: &[Bit; 8]) -> u32
-    ensures value { result ≡ number byte.now }
-    ensures small { result < 256 }
-{
-    let [b7, b6, b5, b4, b3, b2, b1, b0] = *byte;
-    128 * u32::from(b7)
-        + 64 * u32::from(b6)
-        + 32 * u32::from(b5)
-        + 16 * u32::from(b4)
-        + 8 * u32::from(b3)
-        + 4 * u32::from(b2)
-        + 2 * u32::from(b1)
-        + u32::from(b0)
 }
 
 /// The lowest digit of a number.

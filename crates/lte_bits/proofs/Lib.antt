@@ -1,4 +1,4 @@
-mod Eight
 pub mod Chunks
+mod PackedBytes
 pub mod Pushes
 pub mod Unpacking

@@ -7,6 +7,10 @@ use Rattle.lte_bits.specs.Lists.{resized}
 use Rattle.lte_bits.specs.declared.bit.Bit.{Bit}
 use Rattle.lte_bits.specs.declared.bit.Bit.TheVariants.{Zero}
 
+-- the bits of weight 8 to 1
+abbrev pub four_bits : ℕ → List Bit
+four_bits n = map (λ i. bit_of (bit_at n i)) (3 ∷ 2 ∷ 1 ∷ 0 ∷ [])
+
 -- the bits of weight 128 to 1
 abbrev pub bits_of : ℕ → List Bit
 bits_of byte = map (λ i. bit_of (bit_at byte i)) (7 ∷ 6 ∷ 5 ∷ 4 ∷ 3 ∷ 2 ∷ 1 ∷ 0 ∷ [])

@@ -1,95 +1,108 @@
 //! Bits out of bytes, and bytes out of bits.
-ghost use Rattle.std.specs.Prelude.{◌*◌, ◌≡◌, ◌≤◌, ◌<◌, IfOk, length, slice_index_or};
-ghost use Rattle.std.specs.Int.{bit_at};
-ghost use Rattle.lte_bits.specs.Bits.{bit_of, digit, number};
+ghost use Rattle.std.specs.Prelude.{◌+◌, ◌*◌, ◌/◌, ◌≡◌, ◌≤◌, ◌<◌, IfOk, length};
+ghost use Rattle.lte_bits.specs.Bits.{number};
 ghost use Rattle.lte_bits.specs.Lists.{resized};
-ghost use Rattle.lte_bits.specs.Packing.{bits_of, unpacked, byte_at, packed};
+ghost use Rattle.lte_bits.specs.Packing.{four_bits, unpacked, packed};
 
 use crate::bit::Bit;
 use crate::list::{List, NoMemory};
 use std::alloc::Global;
 
-/// The bit of weight 2^i in a byte.
-fn bit_at(byte: u8, i: u32) -> Bit
-    requires { i < 8 }
-    ensures { result ≡ bit_of (bit_at byte i) }
+/// The bits of four, in the order of their number.
+static ROWS: [[Bit; 4]; 16] = [
+    [Bit::Zero, Bit::Zero, Bit::Zero, Bit::Zero],
+    [Bit::Zero, Bit::Zero, Bit::Zero, Bit::One],
+    [Bit::Zero, Bit::Zero, Bit::One, Bit::Zero],
+    [Bit::Zero, Bit::Zero, Bit::One, Bit::One],
+    [Bit::Zero, Bit::One, Bit::Zero, Bit::Zero],
+    [Bit::Zero, Bit::One, Bit::Zero, Bit::One],
+    [Bit::Zero, Bit::One, Bit::One, Bit::Zero],
+    [Bit::Zero, Bit::One, Bit::One, Bit::One],
+    [Bit::One, Bit::Zero, Bit::Zero, Bit::Zero],
+    [Bit::One, Bit::Zero, Bit::Zero, Bit::One],
+    [Bit::One, Bit::Zero, Bit::One, Bit::Zero],
+    [Bit::One, Bit::Zero, Bit::One, Bit::One],
+    [Bit::One, Bit::One, Bit::Zero, Bit::Zero],
+    [Bit::One, Bit::One, Bit::Zero, Bit::One],
+    [Bit::One, Bit::One, Bit::One, Bit::Zero],
+    [Bit::One, Bit::One, Bit::One, Bit::One],
+];
+
+/// The four bits of a number, the highest first.
+fn row(n: usize) -> [Bit; 4]
+    requires { n < 16 }
+    ensures { result ≡ four_bits n }
 {
-    match (byte >> i) % 2 {
-        0 => Bit::Zero,
-        _ => Bit::One,
-    }
+    ROWS[n]
 }
 
-/// The eight bits of a byte, the highest first.
-fn bits_of(byte: u8) -> [Bit; 8]
-    ensures { result ≡ bits_of byte }
+/// Writes the bits of each byte, the highest first.
+fn write_unpacked(bits: &mut [Bit], bytes: &[u8])
+    requires { length bits.old ≡ 8 * length bytes.now }
+    ensures { bits.new ≡ unpacked bytes.now }
 {
-    [
-        bit_at(byte, 7),
-        bit_at(byte, 6),
-        bit_at(byte, 5),
-        bit_at(byte, 4),
-        bit_at(byte, 3),
-        bit_at(byte, 2),
-        bit_at(byte, 1),
-        bit_at(byte, 0),
-    ]
+    for (i, byte) in bytes.iter().enumerate() {
+        let byte = usize::from(*byte);
+        let at = 8 * i;
+        bits[at..at + 4].copy_from_slice(&row(byte / 16));
+        bits[at + 4..at + 8].copy_from_slice(&row(byte % 16));
+    }
 }
 
 /// The bits of each byte, the highest first.
 pub fn unpack(alloc: Global, bytes: &[u8]) -> Result<List<Bit>, NoMemory>
     ensures { IfOk result (λ bits. bits ≡ unpacked bytes.now) }
 {
-    let mut bits = Vec::with_capacity(alloc, bytes.len().saturating_mul(8))?;
-    for byte in bytes {
-        bits.extend_from_slice(&bits_of(*byte))?;
-    }
+    let count = bytes.len().checked_mul(8).ok_or(NoMemory)?;
+    let mut bits = vec![in alloc; Bit::Zero; count]?;
+    write_unpacked(bits.as_mut_slice(), bytes);
     Ok(List::from_vec(bits))
 }
 
-/// The bit at a place as a number, and 0 past the end.
-fn digit_at(bits: &[Bit], i: usize) -> u8
-    ensures value { result ≡ digit (slice_index_or bits.now i Bit.Zero) }
-    ensures small { result ≤ 1 }
+/// The byte with eight digits, the highest first.
+pub fn byte_of(digits: &[Bit; 8]) -> u8
+    ensures { result ≡ number digits.now }
 {
-    match bits.get(i) {
-        Some(Bit::One) => 1,
-        _ => 0,
-    }
+    let [b7, b6, b5, b4, b3, b2, b1, b0] = *digits;
+    128 * u8::from(b7)
+        + 64 * u8::from(b6)
+        + 32 * u8::from(b5)
+        + 16 * u8::from(b4)
+        + 8 * u8::from(b3)
+        + 4 * u8::from(b2)
+        + 2 * u8::from(b1)
+        + u8::from(b0)
 }
 
-/// A byte of at most eight bits, the highest first; what is missing is 0.
-fn byte_of(bits: &[Bit]) -> u8
+/// At most eight bits, filled up with `Zero`.
+fn filled_up(bits: &[Bit]) -> [Bit; 8]
     requires { length bits.now ≤ 8 }
-    ensures { result ≡ number (resized bits.now 8 Bit.Zero) }
+    ensures { result ≡ resized bits.now 8 Bit.Zero }
 {
-    128 * digit_at(bits, 0)
-        + 64 * digit_at(bits, 1)
-        + 32 * digit_at(bits, 2)
-        + 16 * digit_at(bits, 3)
-        + 8 * digit_at(bits, 4)
-        + 4 * digit_at(bits, 5)
-        + 2 * digit_at(bits, 6)
-        + digit_at(bits, 7)
+    let mut digits = [Bit::Zero; 8];
+    digits[..bits.len()].copy_from_slice(bits);
+    digits
 }
 
-/// Byte `i` of the bits: those from place 8i on.
-fn byte_at(bits: &[Bit], i: usize) -> u8
-    requires { 8 * i ≤ length bits.now }
-    ensures { result ≡ byte_at bits.now i }
+/// Writes the bits as bytes, the highest first.
+fn write_packed(bytes: &mut [u8], bits: &[Bit])
+    requires { length bytes.old ≡ (length bits.now + 7) / 8 }
+    ensures { bytes.new ≡ packed bits.now }
 {
-    let rest = &bits[8 * i..];
-    byte_of(&rest[..rest.len().min(8)])
+    let (whole, last) = bits.as_chunks::<8>();
+    for (i, digits) in whole.iter().enumerate() {
+        bytes[i] = byte_of(digits);
+    }
+    if !last.is_empty() {
+        bytes[whole.len()] = byte_of(&filled_up(last));
+    }
 }
 
 /// The bits as bytes, the highest first. The unused low bits of the last byte are 0.
 pub fn pack(alloc: Global, bits: &[Bit]) -> Result<List<u8>, NoMemory>
     ensures { IfOk result (λ bytes. bytes ≡ packed bits.now) }
 {
-    let count = bits.len().div_ceil(8);
-    let mut bytes = Vec::with_capacity(alloc, count)?;
-    for i in 0..count {
-        bytes.push(byte_at(bits, i))?;
-    }
+    let mut bytes = vec![in alloc; 0; bits.len().div_ceil(8)]?;
+    write_packed(bytes.as_mut_slice(), bits);
     Ok(List::from_vec(bytes))
 }
