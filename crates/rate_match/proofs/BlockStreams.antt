@@ -21,15 +21,6 @@ at-map : {X Y : Type 0} (f : X → Y) (g : ℕ → Y) (xs : List X) (c r : ℕ) 
 at-map f g xs c r x same within is =
     ap f is ∙ sym (get_or-map f xs r x) ∙ ap (λ ys. get_or ys r (f x)) same ∙ get_or-map-range_with_len g 0 c r r (f x) within (omega arith)
 
-at-range : {X : Type 0} (g : ℕ → X) (xs : List X) (c r : ℕ) (x : X) → xs ≡ map g (range_with_len 0 c) → r < c → x ≡ get_or xs r x → x ≡ g r
-at-range g xs c r x same within is = is ∙ ap (λ ys. get_or ys r x) same ∙ get_or-map-range_with_len g 0 c r r x within (omega arith)
-
--- block r of a list of them, and what it is coded to
-pub record IsCoded (p : Plan) (payload : List ℕ) (r : ℕ) (b : Block) : Type 0 where
-  pub is : b ≡ block p payload r
-  pub inside : Contains sizes (length b.bits)
-  pub are : AreStreams (size p r) (fill p r) (streams b)
-
 -- what blocks of a plan's shape are coded to
 pub block-streams : (p : Plan) (bs : List Block) (r : ℕ) (b : Block) → IsBlockOf p r → AreBlocksOf p bs → r < p.c → b ≡ get_or bs r b → AreStreams (size p r) (fill p r) (streams b)
 block-streams p bs r b numbers shape within is =
@@ -40,14 +31,11 @@ block-streams p bs r b numbers shape within is =
     placed : {k l f g : ℕ} → k ≡ l → f ≡ g → AreStreams k f (streams b) → AreStreams l g (streams b)
     placed {k} {l} {f} {g} size fill are = subst (λ (n : ℕ). AreStreams l n (streams b)) fill (subst (λ (n : ℕ). AreStreams n f (streams b)) size are)
 
-pub block-coded : (p : Plan) (payload : List ℕ) (bs : List Block) (r : ℕ) (b : Block) → IsBlockOf p r → bs ≡ blocks p payload → AreBlocksOf p bs → r < p.c → b ≡ get_or bs r b → IsCoded p payload r b
-block-coded p payload bs r b numbers all shape within is =
+-- they can be coded
+pub block-inside : (p : Plan) (bs : List Block) (r : ℕ) (b : Block) → IsBlockOf p r → AreBlocksOf p bs → r < p.c → b ≡ get_or bs r b → Contains sizes (length b.bits)
+block-inside p bs r b numbers shape within is =
     let long : length b.bits ≡ size p r = at-map (λ (x : Block). length x.bits) (size p) bs p.c r b shape.sizes within is in
-    record {
-      is = at-range (block p payload) bs p.c r b all within is;
-      inside = subst (λ (k : ℕ). Contains sizes k) (sym long) numbers.inside;
-      are = block-streams p bs r b numbers shape within is;
-    }
+    subst (λ (k : ℕ). Contains sizes k) (sym long) numbers.inside
 
 pub shape-count : (p : Plan) (bs : List Block) → AreBlocksOf p bs → length bs ≡ p.c
 shape-count p bs shape = sym (length-map bs (λ (b : Block). length b.bits)) ∙ ap length shape.sizes ∙ length-map-range_with_len (size p) 0 p.c

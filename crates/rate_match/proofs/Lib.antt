@@ -11,3 +11,4 @@ pub mod Parts
 pub mod BlockStreams
 pub mod Lengths
 pub mod EachSending
+pub mod CodedPayload

@@ -4,3 +4,4 @@ pub mod Sendings
 pub mod Held
 pub mod Fitting
 pub mod Cursor
+pub mod Coded

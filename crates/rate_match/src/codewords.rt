@@ -4,12 +4,10 @@ ghost use Rattle.sender_model.specs.Segmentation.{plan_of};
 ghost use Rattle.sender_model.specs.CircularBuffer.{Fits};
 ghost use Rattle.sender_model.specs.Codeword.{codeword};
 
+use crate::coded::Coded;
 use crate::matching::Match;
-use crate::selecting::push_piece;
 use lte_bits::{Bit, List, NoMemory};
-use segmentation::{cut, plan};
 use std::alloc::Global;
-use turbo_encode::encode;
 
 /// The G bits that redundancy version `rv`, 0 to 3, sends of a payload of 1 to 18,722 bytes, whose
 /// plan the buffer fits.
@@ -21,12 +19,5 @@ pub fn codeword(alloc: Global, payload: &[u8], m: &Match, rv: u8) -> Result<List
     ensures codeword { IfOk result (λ bits. bits ≡ codeword payload.now m.now rv) }
     ensures long { IfOk result (λ bits. length bits ≡ m.now.g) }
 {
-    let plan = plan(payload.len()).unwrap();
-    let blocks = cut(alloc, payload, &plan)?;
-    let mut bits = Vec::with_capacity(alloc, m.g())?;
-    for (r, block) in blocks.as_slice().iter().enumerate() {
-        let streams = encode(alloc, block)?;
-        push_piece(&mut bits, &streams, m, r, &plan, rv)?;
-    }
-    Ok(List::from_vec(bits))
+    Coded::new(alloc, payload)?.codeword(alloc, m, rv)
 }

@@ -2,6 +2,7 @@
 //! transmissions are sent, which soft buffers are large enough, and the bits that are sent.
 #![tactic(auto)]
 
+mod coded;
 mod codewords;
 pub mod cursor;
 pub mod fitting;
@@ -11,6 +12,7 @@ pub mod rings;
 pub mod selecting;
 pub mod sends;
 
+pub use coded::Coded;
 pub use codewords::codeword;
 pub use cursor::Cursor;
 pub use fitting::{fits, fits_buffer, fits_plan};

@@ -9,7 +9,7 @@ ghost use Rattle.trial_command.specs.Trials.{block_outcome, payload, received, s
 use crate::trial::Trial;
 use block_receive::receive_alone;
 use lte_bits::{NoMemory, Soft};
-use rate_match::codeword;
+use rate_match::Coded;
 use rate_match::sends::Sending;
 use receiver_model::TbOutcome;
 use segmentation::plan;
@@ -26,7 +26,7 @@ impl Trial {
         sending: &Sending,
         block: usize,
         number: usize,
-        sent: &[u8],
+        sent: &Coded,
     ) -> Result<(), NoMemory>
         requires block { block < 4096 }
         requires number { number < 8 }
@@ -39,7 +39,7 @@ impl Trial {
         ensures count { IfOk result (λ _. length values.new.items
             ≡ length values.old.items + sending.now.m.g) }
     {
-        let bits = codeword(alloc, sent, &sending.m, sending.rv)?;
+        let bits = sent.codeword(alloc, &sending.m, sending.rv)?;
         let block = block as u32;
         let number = number as u8;
         let softs = noisy(
@@ -63,11 +63,12 @@ impl Trial {
         ensures values { IfOk result (λ values. values.items ≡ softs (trial_of self.now) block) }
         ensures count { IfOk result (λ values. length values.items ≡ value_count self.now.sends) }
     {
+        let coded = Coded::new(alloc, sent)?;
         let mut values = Vec::new(alloc);
         for number in 0..self.sends.len() {
             let (m, rv) = self.sends.at(number);
             let sending = Sending { m, rv };
-            self.push_received(alloc, &mut values, &sending, block, number, sent)?;
+            self.push_received(alloc, &mut values, &sending, block, number, &coded)?;
         }
         Ok(values)
     }

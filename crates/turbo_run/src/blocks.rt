@@ -9,7 +9,7 @@ ghost use Rattle.turbo_run.specs.Encode.{sent_text, block_text, block_part};
 
 use coded_stream::{Header, length_word};
 use lte_bits::{NoMemory, pack};
-use rate_match::{Match, codeword};
+use rate_match::{Coded, Match};
 use run_loop::Part;
 use std::alloc::Global;
 
@@ -17,18 +17,16 @@ use std::alloc::Global;
 fn push_codeword(
     alloc: Global,
     text: &mut Vec<u8>,
-    payload: &[u8],
+    coded: &Coded,
     m: &Match,
     rv: u8,
 ) -> Result<(), NoMemory>
-    requires some { 1 ≤ length payload.now }
-    requires few { length payload.now ≤ 18722 }
-    requires fits { Fits m.now (plan_of (length payload.now)) }
+    requires fits { Fits m.now (plan_of (length coded.now)) }
     requires version { rv ≤ 3 }
     ensures { IfOk result (λ _. text.new.items
-        ≡ text.old.items ++ sent_text payload.now (record { m = m.now; rv = rv })) }
+        ≡ text.old.items ++ sent_text coded.now (record { m = m.now; rv = rv })) }
 {
-    let bits = codeword(alloc, payload, m, rv)?;
+    let bits = coded.codeword(alloc, m, rv)?;
     let bytes = pack(alloc, bits.as_slice())?;
     text.extend_from_slice(bytes.as_slice())?;
     Ok(())
@@ -41,10 +39,11 @@ fn block_text(alloc: Global, payload: &[u8], header: &Header) -> Result<Vec<u8>,
     requires few { length payload.now ≤ header.now.tb }
     ensures { IfOk result (λ text. text.items ≡ block_text header.now.sends payload.now) }
 {
+    let coded = Coded::new(alloc, payload)?;
     let mut text = length_word(alloc, payload.len() as u32)?;
     for i in 0..header.sends.len() {
         let (m, rv) = header.sends.at(i);
-        push_codeword(alloc, &mut text, payload, &m, rv)?;
+        push_codeword(alloc, &mut text, &coded, &m, rv)?;
     }
     Ok(text)
 }

@@ -4,8 +4,8 @@ use Rattle.sender_model.specs.Segmentation.{plan_of}
 use Rattle.sender_model.specs.CodeBlocks.{block}
 use Rattle.sender_model.specs.CodedStreams.{streams}
 use Rattle.sender_model.specs.Selection.{sent}
-use Rattle.rate_match.proofs.codewords.codeword.Given as goal
+use Rattle.rate_match.proofs.coded.Coded.codeword.Given as goal
 
 abbrev pub invariant-loop-r : goal.invariant-loop-r
 invariant-loop-r l =
-    l.bits.items ≡ flat_map (λ r. sent (plan_of (length l.payload)) l.m (streams (block (plan_of (length l.payload)) l.payload r)) r l.rv) (range_with_len 0 l.r)
+    l.bits.items ≡ flat_map (λ r. sent (plan_of (length l.fn.self)) l.m (streams (block (plan_of (length l.fn.self)) l.fn.self r)) r l.rv) (range_with_len 0 l.r)

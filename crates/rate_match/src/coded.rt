@@ -1,0 +1,64 @@
+//! A transport block, coded once for all its transmissions (36.212 5.1.5).
+ghost use Rattle.std.specs.Prelude.{◌≡◌, ◌≤◌, IfOk, length};
+ghost use Rattle.sender_model.specs.Segmentation.{plan_of};
+ghost use Rattle.sender_model.specs.CircularBuffer.{Fits};
+ghost use Rattle.sender_model.specs.Codeword.{codeword};
+
+use crate::matching::Match;
+use crate::selecting::push_piece;
+use lte_bits::{Bit, List, NoMemory, Streams};
+use segmentation::{cut, plan};
+use std::alloc::Global;
+use std::marker::Model;
+use turbo_encode::encode;
+
+/// A payload of 1 to 18,722 bytes, with the coded streams of its code blocks. Contracts see the payload.
+#[derive(Debug, Drop)]
+pub struct Coded<'a> {
+    payload: &'a [u8],
+    streams: Vec<Streams>,
+}
+
+impl<'a> Model for Coded<'a> {
+    ghost use Rattle.std.specs.Prelude.{ℕ, List};
+
+    ghost Value = { List ℕ };
+
+    ghost use Rattle.rate_match.specs.Coded.{AreStreamsOf};
+
+    ghost view = { λ c. c.payload.now };
+
+    ghost invariant = { λ c. AreStreamsOf c.payload.now c.streams.items };
+}
+
+impl<'a> Coded<'a> {
+    /// Cuts a payload into code blocks, and codes each.
+    pub fn new(alloc: Global, payload: &'a [u8]) -> Result<Coded<'a>, NoMemory>
+        requires some { 1 ≤ length payload.now }
+        requires few { length payload.now ≤ 18722 }
+        ensures { IfOk result (λ coded. coded ≡ payload.now) }
+    {
+        let plan = plan(payload.len()).unwrap();
+        let blocks = cut(alloc, payload, &plan)?;
+        let mut streams = Vec::with_capacity(alloc, plan.c)?;
+        for block in blocks.as_slice() {
+            streams.push(encode(alloc, block)?)?;
+        }
+        Ok(Coded { payload, streams })
+    }
+
+    /// The G bits that redundancy version `rv`, 0 to 3, sends, where the buffer fits the payload's plan.
+    pub fn codeword(&self, alloc: Global, m: &Match, rv: u8) -> Result<List<Bit>, NoMemory>
+        requires fits { Fits m.now (plan_of (length self.now)) }
+        requires version { rv ≤ 3 }
+        ensures codeword { IfOk result (λ bits. bits ≡ codeword self.now m.now rv) }
+        ensures long { IfOk result (λ bits. length bits ≡ m.now.g) }
+    {
+        let plan = plan(self.payload.len()).unwrap();
+        let mut bits = Vec::with_capacity(alloc, m.g())?;
+        for (r, streams) in self.streams.iter().enumerate() {
+            push_piece(&mut bits, streams, m, r, &plan, rv)?;
+        }
+        Ok(List::from_vec(bits))
+    }
+}
