@@ -54,7 +54,7 @@ impl<T: Copy> Cells<T> {
     ghost use Rattle.cell_shares.specs.Shares.{name_of, cell_values, share_values, AreAllOf};
 
     /// Cells with these values, for `windows` shares: 1 to 64, a divisor of the number of values, which
-    /// isn't 0. Where memory is wanting, the values are dropped.
+    /// isn't 0. Where memory runs out, the values are dropped.
     pub fn new(alloc: Global, values: List<T>, windows: usize) -> Result<Cells<T>, NoMemory>
         requires some { values ≢ [] }
         requires least { 1 ≤ windows }

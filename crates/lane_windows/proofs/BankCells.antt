@@ -1,6 +1,5 @@
 -- The cells of banks by place, and by row and bank.
-use Rattle.std.proofs.Common.{◌≡◌, ◌≢◌, ℕ, pos, [], ◌-◌, ◌++◌, drop, replicate, Bool, true, false, cond, nat_lt, ◌+◌, ◌*◌, ◌/◌, ◌%◌, ◌<◌, ◌≤◌, ℤ, List, length, get_or, map, sym, ap, ◌∙◌, subst, refl, arith, inl, inr}
-use Rattle.std.specs.List.{range_with_len}
+use Rattle.std.proofs.Common.{◌≡◌, ℕ, pos, [], ◌-◌, drop, replicate, Bool, true, false, nat_lt, ◌+◌, ◌*◌, ◌/◌, ◌%◌, ◌<◌, ◌≤◌, ℤ, List, length, get_or, map, sym, ap, ◌∙◌, subst, refl, arith, inl, inr}
 use Rattle.std.proofs.lemmas.Bool.{cases_lt, ltb-true, ltb-false}
 use Rattle.std.specs.Prelude.{int_lt, if◌then◌else◌}
 use Rattle.std.proofs.lemmas.Int.{ints}
@@ -8,7 +7,7 @@ use Rattle.lte_bits.specs.Softs.{IsWithin}
 use Rattle.lte_bits.specs.declared.bit.Bit.TheVariants.{Zero, One}
 use Rattle.receiver_model.specs.Decoding.{decided_bit, decided_bits}
 use Rattle.std.proofs.lemmas.List.{ext_get_or, get_or_past, get_or-replicate, length-replicate, get_or-map, get_or_append_left, get_or-append-add, get_or-drop, length-append, length-drop, length-map}
-use Rattle.std.proofs.lemmas.List.FromFn.{fill_by_all, length-map-range_with_len, get_or-map-range_with_len}
+use Rattle.std.proofs.lemmas.List.FromFn.{length-map-range_with_len, get_or-map-range_with_len}
 use Rattle.std.proofs.lemmas.Nat.{div-mul-add, mod-mul-add, mul-add-lt, div_below, mod_below, div-add-mod'}
 use Rattle.receiver_model.specs.Borders.{at}
 use Rattle.receiver_model.specs.Windows.{Extrinsic, zero_cell, cell_at}
@@ -112,7 +111,7 @@ same-by_banks n w xs ys some ex ey same =
 pub bank-below : (n w b r i : ℕ) → b * w + r ≡ i → r < w → i < n * w → b < n
 bank-below n w b r i e lr lt = let d = div_below i w n (omega (arith, lr)) lt in let q = div-mul-add b w r lr in omega (arith, d, q, ap (λ (k : ℕ). k / w) e)
 
--- the place behind the last of a bank
+-- the place after the last of a bank
 pub next-place : (w b r i : ℕ) → b * w + r ≡ i → r + 1 ≡ w → (b + 1) * w + 0 ≡ i + 1
 next-place w b r i e er = let s : (b + 1) * w ≡ b * w + w = omega arith in omega (arith, s, e, er)
 

@@ -1,12 +1,12 @@
 -- Rows of banks, read and replaced.
-use Rattle.std.proofs.Common.{◌≡◌, ◌≢◌, ℕ, ◌+◌, ◌*◌, ◌/◌, ◌%◌, ◌<◌, ◌≤◌, ℤ, pos, Bool, List, [], length, get_or, set, sym, ap, ◌∙◌, refl, subst, arith, inl, inr}
+use Rattle.std.proofs.Common.{◌≡◌, ◌≢◌, ℕ, ◌+◌, ◌*◌, ◌/◌, ◌%◌, ◌<◌, ℤ, pos, List, [], length, get_or, set, sym, ap, ◌∙◌, subst, arith, inl, inr}
 use Rattle.std.specs.Prelude.{int_lt}
 use Rattle.std.proofs.lemmas.Bool.{cases_lt}
 use Rattle.std.proofs.lemmas.List.{get_or_default, get_or_past, length-set}
-use Rattle.std.proofs.lemmas.Nat.{div_below, mod_below}
+use Rattle.std.proofs.lemmas.Nat.{div_below}
 use Rattle.receiver_model.specs.Borders.{at}
 use Rattle.receiver_model.specs.Windows.{Extrinsic, zero_cell, cell_at}
-use Rattle.lock_step.specs.Lanes.{IsLaneCount, AreWithin}
+use Rattle.lock_step.specs.Lanes.{AreWithin}
 use Rattle.lane_windows.specs.Banks.{number_in, cell_of, cell_in, cells_by_place, AreBanks}
 use Rattle.lane_windows.proofs.BankCells.{length-by_place, cell-by_place, cell-in_bank, rows-of_product, lanes-some}
 use Rattle.lane_windows.proofs.Columns.{number-in_same, number-in_other}

@@ -1,16 +1,14 @@
 -- Rows and banks of the cells of all windows at one step.
-use Rattle.std.proofs.Common.{◌≡◌, ℕ, zero, suc, ◌+◌, ◌*◌, ◌/◌, ◌%◌, ◌<◌, ◌≤◌, List, length, get_or, map, sym, ap, ◌∙◌, subst, arith}
+use Rattle.std.proofs.Common.{◌≡◌, ℕ, zero, suc, ◌+◌, ◌*◌, ◌/◌, ◌%◌, ◌<◌, List, length, get_or, sym, ap, ◌∙◌, subst, arith}
 use Prim.Native.Nat.{◌∣◌}
-use Rattle.std.specs.List.{range_with_len}
 use Rattle.std.proofs.Math.Nat.{dvd-mul_right}
 use Rattle.std.proofs.lemmas.List.FromFn.{length-map-range_with_len, get_or-map-range_with_len}
 use Rattle.std.proofs.lemmas.Nat.{div_below, mod-mul-add, div-add-mod', same_from_place}
-use Rattle.qpp_table.specs.declared.interleaver.Qpp.{Qpp}
 use Rattle.qpp_table.specs.Qpp.{size_in, value_at}
 use Rattle.qpp_table.specs.QppLaws.{value-below, values_differ, value-kept}
 use Rattle.sender_model.specs.Interleaver.{place, row_of}
 use Rattle.sender_model.specs.InterleaverLaws.{pi_remainder}
-use Rattle.receiver_model.proofs.PlacesFilled.{KeepsApart, reached-all}
+use Rattle.receiver_model.proofs.PlacesFilled.{reached-all}
 use Rattle.cell_shares.specs.declared.order.Order.{Order}
 use Rattle.cell_shares.specs.declared.order.Order.TheVariants.{Natural, Interleaved}
 use Rattle.cell_shares.specs.Orders.{place_in, IsOrderOf}

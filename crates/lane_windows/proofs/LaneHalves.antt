@@ -1,15 +1,14 @@
 -- Halves of a code block whose windows run in lock step.
-use Rattle.std.proofs.Common.{◌≡◌, ℕ, ◌+◌, ◌*◌, ◌/◌, ◌%◌, ◌<◌, ◌≤◌, ◌==◌, ℤ, pos, Bool, true, false, cond, List, [], length, get_or, map, refl, sym, ap, ◌∙◌, subst, arith}
+use Rattle.std.proofs.Common.{◌≡◌, ℕ, ◌+◌, ◌*◌, ◌/◌, ◌%◌, ◌<◌, ◌≤◌, ◌==◌, ℤ, pos, Bool, cond, List, [], length, map, sym, ap, ◌∙◌, subst, arith}
 use Rattle.std.specs.List.{range_with_len}
 use Rattle.std.proofs.Math.Nat.{mul-le-mul_left}
-use Rattle.std.proofs.lemmas.List.FromFn.{fill_by_all, length-map-range_with_len, get_or-map-range_with_len}
+use Rattle.std.proofs.lemmas.List.FromFn.{fill_by_all, get_or-map-range_with_len}
 use Rattle.std.proofs.lemmas.Nat.{div_below, mod_below, div-add-mod'}
 use Rattle.lte_bits.specs.declared.block.SoftStreams.{SoftStreams}
 use Rattle.sender_model.specs.Interleaver.{place}
 use Rattle.receiver_model.specs.Borders.{Border, at}
-use Rattle.receiver_model.specs.Paths.{Window}
 use Rattle.receiver_model.specs.Windows.{Extrinsic, zero_cell, cell_at, new_cells, forward_left, backward_left}
-use Rattle.receiver_model.specs.HalfIteration.{Shape, Before, Left, window_width, positions, order, position_of, systematic_at, parity_at, tail_border, left_by, start_border, end_border, window, renewed, left_after, after}
+use Rattle.receiver_model.specs.HalfIteration.{Shape, Left, window_width, positions, order, position_of, tail_border, left_by, start_border, window, renewed, left_after, after}
 use Rattle.receiver_model.proofs.PlacesOfPositions.{position-is}
 use Rattle.serial_decode.specs.Runs.{start_of, window_from}
 use Rattle.serial_decode.specs.Views.{AreWhole, by_position}

@@ -40,7 +40,7 @@ impl<P: Piece> Board<P> {
         }
     }
 
-    // Puts a piece into the empty slot that the seat has in front, which goes behind the others.
+    // Puts a piece into the empty slot that the seat has in front, which goes after the others.
     fn put_front(&self, seat: &mut Place<P>, slot: usize, piece: P)
         requires board { seat.old.table_id ≡ board_id self.now }
         requires front { seat.old.me.1 ≡ (slot, Empty) ∷ rest seat.old.me.1 }

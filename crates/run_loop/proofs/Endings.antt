@@ -81,7 +81,7 @@ pub failed : (whole b : Answer) (after : List ℕ → Answer) (front parts : Lis
 failed whole b after front parts mid old new stop ending w some is at =
     stopped whole b (front ++ parts) mid old new ending w (some_then front parts some) (subst (λ (k : Stop). Stops b after mid new.left k) is at)
 
--- with none behind them, the parts in front are all
+-- with none after them, the parts in front are all
 all_of : (front after : List Part) → after ≡ [] → front ≡ front ++ after
 all_of front after none = sym (ap (λ (ps : List Part). front ++ ps) none ∙ append-nil front)
 

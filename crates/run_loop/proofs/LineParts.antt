@@ -10,7 +10,7 @@ use Rattle.run_loop.specs.FaultLine.{joined, AddsLine}
 joined-append : (xs ys : List (List ℕ)) → joined (xs ++ ys) ≡ joined xs ++ joined ys
 joined-append xs ys = flat_map-append (λ (t : List ℕ). t) xs ys
 
--- n bytes of the piece behind the first i are a front of the whole
+-- n bytes of the piece after the first i are a prefix of the whole
 pub front_of : (xs : List (List ℕ)) (i n : ℕ) → i < length xs → (k : ℕ) × (joined (take i xs) ++ take n (get_or xs i []) ≡ take k (joined xs))
 front_of xs i n in_xs =
     let text : List ℕ = get_or xs i [] in

@@ -1,4 +1,4 @@
--- How far a run that reads one block at a time may have read when memory is wanting.
+-- How far a run that reads one block at a time may have read when memory runs out.
 use Rattle.std.proofs.Common.{◌≡◌, ℕ, ◌+◌, ◌<◌, ◌≤◌, [], length, take, sym, subst, nat_lt, ◌&&◌, if◌then◌else◌, arith}
 use Rattle.run_loop.specs.Answer.{Answer, size_of}
 use Rattle.run_loop.specs.Due.{IsWithin}

@@ -16,7 +16,7 @@ pub data Ending : Type 0 where
   bad : (number place : ℕ) → Ending
 
 -- The answer to an input: its parts, which are what `out` begins with and then the blocks, what closes `out`,
--- the report's last line, and the ending. Behind the last part the ending takes `tail` bytes, an end word or
+-- the report's last line, and the ending. After the last part the ending takes `tail` bytes, an end word or
 -- what ends with the refused unit. It is known once `due` bytes have come there, where the end of the input
 -- counts as one: 0 where the last part was known to be the last. Up to `ahead` blocks are read before any of
 -- them is written.
@@ -45,7 +45,7 @@ size_of parts = sum_by (λ p. p.size) parts
 abbrev pub behind : List Part → Answer → Answer
 behind front a = record a { parts = front ++ a.parts }
 
--- what `out` begins with, behind a header of so many bytes (0: none)
+-- what `out` begins with, after a header of so many bytes (0: none)
 abbrev pub heading : (text : List ℕ) → (size : ℕ) → Part
 heading text size = record { text = text; line = []; size = size; wants = size }
 

@@ -11,13 +11,13 @@ abbrev pub IsDue : (due : ℕ) → List Part → ℕ → Type 0
 IsDue due [] n = n < due
 IsDue due (p ∷ parts) n = n < p.wants
 
--- How many bytes may be read before memory is wanting: those of the next blocks. Where several are read ahead
+-- How many bytes may be read before memory runs out: those of the next blocks. Where several are read ahead
 -- and fewer are left, those of the ending too.
 abbrev pub most_ahead : Answer → ℕ
 most_ahead a = size_of (take a.ahead a.parts)
     + (if nat_lt 1 a.ahead && nat_lt (length a.parts) a.ahead then a.tail else 0)
 
--- n bytes may have been read when memory is wanting: never once the ending is known
+-- n bytes may have been read when memory runs out: never once the ending is known
 abbrev pub IsWithin : Answer → ℕ → Type 0
 IsWithin a n = (n ≤ most_ahead a) × (a.parts ≡ [] → 0 < a.due)
 

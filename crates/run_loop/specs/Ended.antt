@@ -9,14 +9,14 @@ use Rattle.run_loop.specs.declared.status.SinkName.TheVariants.{Out, Report}
 use Rattle.run_loop.specs.declared.status.Status.{Status}
 use Rattle.run_loop.specs.declared.status.Status.TheVariants.{Done, SomeFailed, WriteFault, NoMemory}
 
--- The parts in front were finished, and `b` is still to come; `mid` was left behind the input of those parts.
+-- The parts in front were finished, and `b` is still to come; `mid` was left after the input of those parts.
 pub record Stands (a : Answer) (front : List Part) (b : Answer) (mid : Option (List ℕ)) (old new : Edges) : Type 0 where
   pub split : a ≡ behind front b
   pub took : TakesSome old.left mid (λ n. n ≡ size_of front)
   pub out : Adds old.out new.out (texts front)
   pub report : Adds old.report new.report (lines front)
 
--- it stopped on its way; for want of memory only once `out` has what it begins with
+-- it stopped on its way; for running out of memory only once `out` has what it begins with
 abbrev pub StoppedBehind : Answer → Edges → Edges → Status → Type 0
 StoppedBehind a old new status = (front : List Part) × (b : Answer) × (mid : Option (List ℕ))
     × Stands a front b mid old new × Stopped b mid new.left status
@@ -37,7 +37,7 @@ abbrev pub next_line : (last : List ℕ) → List Part → List ℕ
 next_line last [] = last
 next_line last (p ∷ parts) = p.line
 
--- What stands at each ending. A write fails only where something is to be written, and leaves a front of it.
+-- What stands at each ending. A write fails only where something is to be written, and leaves a prefix of it.
 abbrev pub Ended : Answer → Edges → Edges → Status → Type 0
 Ended a old new Done = (a.ending ≡ finished) × IsWhole a old new
 Ended a old new SomeFailed = (a.ending ≡ some_failed) × IsWhole a old new

@@ -1,4 +1,4 @@
--- The line that tells a fault, written once behind what the command left.
+-- The line that tells a fault, written once after what the command left.
 use Rattle.std.specs.Prelude.{◌≡◌, ℕ, List, [], ◌∷◌, take, codes, decimal, flat_map}
 use Rattle.std.specs.declared.option.Option.{Option}
 use Rattle.edge_io.specs.Edge.{Adds, Rose}
@@ -27,7 +27,7 @@ fault_line (status.WriteFault Out) = joined (codes "write fault out\n" ∷ [])
 fault_line (status.WriteFault Report) = []
 fault_line status.NoMemory = joined (codes "no memory\n" ∷ [])
 
--- a line was added whole, or where the sink's count rose a front of it
+-- a line was added whole, or where the sink's count rose a prefix of it
 pub record AddsLine (old new : Option (List ℕ)) (line : List ℕ) (before now : ℕ) : Type 0 where
   pub front : (n : ℕ) × Adds old new (take n line)
   pub whole : (Rose before now → ⊥) → Adds old new line

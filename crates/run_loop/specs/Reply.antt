@@ -32,7 +32,7 @@ EndsReply (reading a) old new status = Ended a old new status
 EndsReply (unread line ending) old new status = (new.left ≡ old.left) × (new.out ≡ old.out)
     × AddsLast line ending old new status
 
--- the status of an ending, or want of memory
+-- the status of an ending, or running out of memory
 abbrev pub IsEndingOf : Ending → Status → Type 0
 IsEndingOf ending status.Done = ending ≡ finished
 IsEndingOf ending status.SomeFailed = ending ≡ some_failed

@@ -55,7 +55,7 @@ abbrev pub done : (failed : Bool) → Status
 done false = Done
 done true = SomeFailed
 
--- How a round stops behind its parts, where `b` is still to come then: `mid` is what was left behind their
+-- How a round stops after its parts, where `b` is still to come then: `mid` is what was left after their
 -- input, and `new` what is left now.
 abbrev pub Stops : (b : Answer) → (after : List ℕ → Answer) → (mid new : Option (List ℕ)) → Stop → Type 0
 Stops b after mid new Go = (rest : List ℕ) × (mid ≡ Some rest) × (new ≡ Some rest) × (b ≡ after rest)
@@ -87,7 +87,7 @@ FailsBy before now ReadFault = Rose before now
 FailsBy before now NoMemory = Unit {0}
 FailsBy before now _ = ⊥
 
--- so does one that fails behind its parts
+-- so does one that fails after its parts
 abbrev pub StopsBy : (before now : ℕ) → Stop → Type 0
 StopsBy before now (Fails status) = FailsBy before now status
 StopsBy before now _ = Unit {0}

@@ -21,12 +21,12 @@ fn done(failed: bool) -> Status
 }
 
 /// Opens a command, and then does its work round by round: the parts of each are written before the
-/// next is begun, for each its text to `out` and then its line to the report. Behind the last part
+/// next is begun, for each its text to `out` and then its line to the report. After the last part
 /// comes what closes `out`, and then the report's last line.
 ///
 /// It ends `Done`, or `SomeFailed` where the work says so, with the whole answer written;
-/// `BadStream` behind the blocks before the refused byte; `ReadFault`, `WriteFault` or `NoMemory`
-/// behind those that were finished. After a failed write, a front of the text or line that was
+/// `BadStream` after the blocks before the refused byte; `ReadFault`, `WriteFault` or `NoMemory`
+/// after those that were finished. After a failed write, a prefix of the text or line that was
 /// being written stands.
 pub fn drive<O: Open, S: Source, D: Sink, R: Sink>(
     alloc: Global,

@@ -6,7 +6,7 @@ use itoa::Buffer;
 use lte_bits::NoMemory;
 use std::alloc::Global;
 
-/// Appends a text and behind it a number.
+/// Appends a text and after it a number.
 pub fn push_number(line: &mut Vec<u8>, text: &[u8], number: u128) -> Result<(), NoMemory>
     ensures { IfOk result (λ _. line.new.items ≡ line.old.items ++ text.now ++ decimal number) }
 {

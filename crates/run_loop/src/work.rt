@@ -34,12 +34,12 @@ pub enum Stop {
         last: Vec<u8>,
         failed: bool,
     },
-    /// The run ends so behind these parts: the input is refused at a byte, the source failed, or
-    /// memory was wanting.
+    /// The run ends so after these parts: the input is refused at a byte, the source failed, or
+    /// memory ran out.
     Fails(Status),
 }
 
-/// What one round gives: parts in their order, and how it stops behind them.
+/// What one round gives: parts in their order, and how it stops after them.
 #[derive(Debug, Drop)]
 pub struct Round {
     pub parts: Vec<Part>,
@@ -75,7 +75,7 @@ pub trait Work: Drop {
 
     /// Reads the input of the next blocks and computes them. All memory that the ending needs is
     /// had before its bytes are read. An `Err` says how the run ends where the round has no part:
-    /// the input is refused at a byte, the source failed, or memory was wanting.
+    /// the input is refused at a byte, the source failed, or memory ran out.
     fn round<S: Source>(&mut self, alloc: Global, source: &mut S) -> Result<Round, Status>
         requires { ready self.old }
         ensures step { (input : List ℕ) → S.left source.old ≡ Some input →

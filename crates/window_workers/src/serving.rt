@@ -40,7 +40,7 @@ fn work<G: Gate>(
 }
 
 /// Draws windows and runs them, half after half, until the board is stopped, and gives the seat back. It
-/// takes no memory, and waits for the windows that other seats have drawn.
+/// allocates nothing, and waits for the windows that other seats have drawn.
 pub fn serve<R: Wait, G: Gate>(
     rt: &R,
     board: &Board<WindowPiece>,

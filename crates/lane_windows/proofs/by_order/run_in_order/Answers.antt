@@ -1,4 +1,4 @@
-use Rattle.std.proofs.Common.{◌≡◌, ℕ, ◌*◌, ◌/◌, ◌<◌, ◌≤◌, length, refl, sym, ap, ◌∙◌, subst, arith}
+use Rattle.std.proofs.Common.{ℕ, ◌/◌, ◌≤◌, length, sym, subst, arith}
 use Rattle.cell_shares.specs.declared.order.Order.{Order}
 use Rattle.cell_shares.specs.Orders.{place_in}
 use Rattle.lane_windows.specs.Lanes.{HaveRun}

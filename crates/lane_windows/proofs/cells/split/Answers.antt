@@ -1,11 +1,5 @@
-use Rattle.std.proofs.Common.{rules, ◌≡◌, ◌≢◌, ℕ, ◌<◌, ◌≤◌, pos, int_lt, length, ℤ, sym, ap, ◌∙◌, subst, refl, arith, below_more, inl, inr, get_or-set_other, get_or-set_same}
-use mir.Syntax.{w16}
-use Rattle.std.proofs.lemmas.Int.{ints, to_z-of_z}
+use Rattle.std.proofs.Common.{arith, inl, inr}
 use Rattle.std.proofs.lemmas.Bool.{cases_lt}
-use Rattle.std.proofs.lemmas.List.{length-set, get_or_default, get_or_past}
-use Rattle.lte_bits.specs.Softs.{IsWithin}
-use Rattle.receiver_model.specs.Borders.{at}
-use Rattle.receiver_model.specs.Windows.{Extrinsic, zero_cell, cell_at}
 use Rattle.lane_windows.proofs.Columns.{within-past}
 use Rattle.lane_windows.proofs.cells.split.Goals as goal
 

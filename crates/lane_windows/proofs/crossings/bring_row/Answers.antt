@@ -1,7 +1,5 @@
-use Rattle.std.proofs.Common.{◌≡◌, ℕ, ◌<◌, slice_index_or, sym, subst, arith, inl, inr}
-use Rattle.std.proofs.lemmas.Bool.{cases_lt}
+use Rattle.std.proofs.Common.{slice_index_or, sym, subst, arith}
 use Rattle.lte_bits.specs.Softs.{IsWithin}
-use Rattle.lane_windows.proofs.Columns.{within-past}
 use Rattle.lane_windows.proofs.crossings.bring_row.Goals as goal
 
 pub returns-clause-kept : goal.returns-clause-kept

@@ -1,4 +1,4 @@
-use Rattle.std.proofs.Common.{◌≡◌, ℕ, ◌<◌, ◌+◌, ◌==◌, cond, length, refl, sym, ap, ◌∙◌, subst, arith}
+use Rattle.std.proofs.Common.{◌≡◌, ℕ, ◌<◌, ◌+◌, ◌==◌, cond, length, sym, ap, ◌∙◌, subst}
 use Rattle.receiver_model.specs.Borders.{Border}
 use Rattle.receiver_model.specs.HalfIteration.{left_by, tail_border}
 use Rattle.lock_step.specs.Lanes.{border_at}

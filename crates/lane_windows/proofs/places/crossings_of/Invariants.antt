@@ -1,4 +1,4 @@
-use Rattle.std.proofs.Common.{◌≡◌, ℕ, length}
+use Rattle.std.proofs.Common.{◌≡◌, length}
 use Rattle.std.specs.Prelude.{slice_index}
 use Rattle.lane_windows.proofs.CrossingSteps.{IsTableTo}
 use Rattle.lane_windows.proofs.places.crossings_of.Given as goal

@@ -1,7 +1,5 @@
-use Rattle.std.proofs.Common.{◌≡◌, ℕ, ◌+◌, ◌*◌, ◌<◌, length}
-use Rattle.std.specs.Prelude.{slice_index}
+use Rattle.std.proofs.Common.{◌≡◌, length}
 use Rattle.cell_shares.specs.Orders.{place_in}
-use Rattle.lane_windows.specs.Crossings.{place_of}
 use Rattle.lane_windows.proofs.CrossingSteps.{IsTableTo}
 use Rattle.lane_windows.proofs.places.follow.Given as goal
 

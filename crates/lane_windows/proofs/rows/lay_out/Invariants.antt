@@ -1,4 +1,4 @@
-use Rattle.std.proofs.Common.{◌≡◌, ℕ, ◌+◌, ◌*◌, ◌<◌, length}
+use Rattle.std.proofs.Common.{◌≡◌, ℕ, ◌+◌, ◌*◌, ◌<◌}
 use Rattle.lte_bits.specs.Softs.{IsWithin}
 use Rattle.receiver_model.specs.Borders.{at}
 use Rattle.lane_windows.specs.Banks.{number_in}

@@ -1,4 +1,4 @@
-use Rattle.std.proofs.Common.{◌≡◌, ℕ, ◌+◌, ◌*◌, ◌/◌, ◌<◌, ◌≤◌, ℤ, List, length, take, refl, sym, ap, ◌∙◌, subst, arith}
+use Rattle.std.proofs.Common.{◌≡◌, ℕ, ◌<◌, ◌≤◌, ℤ, List, length, take, sym, ap, ◌∙◌, subst, arith}
 use Rattle.std.specs.Prelude.{slice_index}
 use Rattle.std.proofs.lemmas.List.{length-take-le}
 use Rattle.serial_decode.proofs.Parts.{written}
@@ -8,7 +8,7 @@ use Rattle.lane_windows.specs.Crossings.{IsTable, AreApart}
 use Rattle.lane_windows.proofs.BankCells.{fits-twice}
 use Rattle.lane_windows.proofs.BankRows.{width-of_view, banks-of_rows}
 use Rattle.lane_windows.proofs.CrossingSteps.{bank_at}
-use Rattle.lane_windows.proofs.LaneRuns.{KernelRan, crossed-run}
+use Rattle.lane_windows.proofs.LaneRuns.{crossed-run}
 use Rattle.lane_windows.proofs.running.run_in_room.Goals as goal
 
 -- a table for a width that is the same

@@ -1,11 +1,8 @@
-use Rattle.std.proofs.Common.{◌≡◌, ℕ, ◌+◌, ◌*◌, ◌/◌, ◌<◌, ◌≤◌, ℤ, List, length, refl, sym, ap, ◌∙◌, subst, arith}
-use Rattle.receiver_model.specs.Windows.{Extrinsic, cell_at}
+use Rattle.std.proofs.Common.{◌≡◌, ◌≤◌, ℤ, List, length, sym, ap, ◌∙◌, subst, arith}
 use Rattle.serial_decode.proofs.Parts.{written}
 use Rattle.lock_step.specs.Lanes.{AreWithin}
-use Rattle.lane_windows.specs.Banks.{cell_in, cells_by_place, AreBanks}
-use Rattle.lane_windows.specs.Lanes.{HaveRun}
-use Rattle.lane_windows.proofs.BankCells.{fits-twice, length-by_place}
-use Rattle.lane_windows.proofs.BankRows.{width-of_view, length-of_view, cell-in_view, cell-of_rows, banks-of_rows}
+use Rattle.lane_windows.proofs.BankCells.{fits-twice}
+use Rattle.lane_windows.proofs.BankRows.{width-of_view, banks-of_rows}
 use Rattle.lane_windows.proofs.LaneRuns.{KernelRan, straight-run}
 use Rattle.lane_windows.proofs.running.run_straight.Goals as goal
 

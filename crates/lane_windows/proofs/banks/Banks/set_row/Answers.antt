@@ -1,9 +1,7 @@
-use Rattle.std.proofs.Common.{◌≡◌, ℕ, ◌/◌, ◌<◌, length, sym, ap, ◌∙◌, subst, arith}
-use Rattle.std.proofs.lemmas.List.{length-set}
+use Rattle.std.proofs.Common.{◌∙◌, arith}
 use Rattle.receiver_model.specs.Borders.{at}
 use Rattle.receiver_model.specs.Windows.{cell_at}
 use Rattle.lane_windows.proofs.BankRows.{same-cell, width-of_view, length-replaced, cell-replaced, cell-kept}
-use Rattle.lane_windows.proofs.Columns.{within-set}
 use Rattle.lane_windows.proofs.banks.Banks.set_row.Goals as goal
 
 pub index_mut-requires : goal.index_mut-requires

@@ -1,4 +1,4 @@
-use Rattle.std.proofs.Common.{◌≡◌, ℕ, ◌*◌, length, sym, ap, ◌∙◌, arith}
+use Rattle.std.proofs.Common.{◌≡◌, ℕ, ◌*◌, length, sym, ap, ◌∙◌}
 use Rattle.lane_windows.proofs.BankCells.{length-by_place, rows-of_product, lanes-some}
 use Rattle.lane_windows.proofs.banks.Banks.width.Goals as goal
 

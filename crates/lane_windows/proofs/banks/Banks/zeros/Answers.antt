@@ -1,4 +1,4 @@
-use Rattle.std.proofs.Common.{◌≡◌, ℕ, length, pos, replicate, sym, ap, ◌∙◌, arith}
+use Rattle.std.proofs.Common.{◌≡◌, length, pos, replicate, sym, ap, ◌∙◌, arith}
 use Rattle.std.proofs.lemmas.List.{length-replicate}
 use Rattle.lane_windows.proofs.BankCells.{zero-within, zero-cells, lanes-few}
 use Rattle.lane_windows.proofs.banks.Banks.zeros.Goals as goal

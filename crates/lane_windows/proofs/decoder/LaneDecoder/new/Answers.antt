@@ -1,4 +1,4 @@
-use Rattle.std.proofs.Common.{◌≡◌, ℕ, ◌*◌, ◌≤◌, length, refl, sym, ap, ◌∙◌, subst, arith}
+use Rattle.std.proofs.Common.{◌≡◌, ℕ, ◌*◌, ◌≤◌, arith}
 use Rattle.sender_model.proofs.RowLaws.{range-of_size}
 use Rattle.lane_windows.proofs.BankCells.{lanes-least}
 use Rattle.lane_windows.proofs.LaneHalves.{narrow, covers}

@@ -1,10 +1,9 @@
-use Rattle.std.proofs.Common.{◌≡◌, ℕ, ℤ, ◌*◌, ◌/◌, ◌%◌, ◌<◌, ◌≤◌, Bool, cond, List, length, refl, sym, ap, ◌∙◌, subst, arith}
+use Rattle.std.proofs.Common.{◌≡◌, ℕ, ◌*◌, ◌/◌, ◌%◌, ◌<◌, ◌≤◌, Bool, cond, length, sym, ap, ◌∙◌, subst, arith}
 use Rattle.sender_model.specs.Interleaver.{place}
-use Rattle.receiver_model.specs.HalfIteration.{window_width, order}
+use Rattle.receiver_model.specs.HalfIteration.{window_width}
 use Rattle.serial_decode.proofs.Orders.{equal, not-equal}
 use Rattle.lock_step.specs.Lanes.{AreWithin}
 use Rattle.lane_windows.specs.Crossings.{IsTable, AreApart}
-use Rattle.lane_windows.specs.Halves.{AreRowsOf}
 use Rattle.lane_windows.proofs.LaneHalves.{half-ran, rows-of_order, rows-read}
 use Rattle.lane_windows.proofs.lane_views.LaneViews.run.Goals as goal
 
