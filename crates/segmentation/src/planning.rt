@@ -67,7 +67,8 @@ fn smaller_count(c: usize, n: usize, k_plus: usize, k_minus: usize) -> usize
 fn planned(bytes: usize) -> Plan
     requires some { 1 ≤ bytes }
     requires few { bytes ≤ 18722 }
-    ensures { result ≡ plan_of bytes }
+    ensures numbers { result ≡ plan_of bytes }
+    ensures bytes { result.bytes ≡ bytes }
 {
     let bits = 8 * bytes + CHECK_BITS;
     let c = block_count(bits);
@@ -93,6 +94,7 @@ pub fn plan(bytes: usize) -> Result<Plan, BadLength>
     ensures planned { IsOk result ↔ ((1 ≤ bytes) × (bytes ≤ 18722)) }
     ensures refused { IsErr result ↔ ((bytes ≡ 0) ⊎ (18722 < bytes)) }
     ensures numbers { IfOk result (λ plan. plan ≡ plan_of bytes) }
+    ensures bytes { IfOk result (λ plan. plan.bytes ≡ bytes) }
 {
     if (1..=MOST_BYTES).contains(&bytes) {
         Ok(planned(bytes))

@@ -39,14 +39,14 @@ coded p payload bs r b is cut within at =
     block-coded p payload bs r b (block-numbers p r is below) cut.all cut.shape below at
 
 -- the plan is that of the payload
-lawful : (c : goal.After-unwrap-plan) → IsPlan c.unwrap-plan.result
-lawful c = subst IsPlan (sym (rw c.unwrap-plan.ensures at c.plan.ensures.numbers)) (is_plan (length c.args.payload.now) c.requires.some c.requires.few)
+lawful : (p : Plan) (bytes : ℕ) → 1 ≤ bytes → bytes ≤ 18722 → p ≡ plan_of bytes → IsPlan p
+lawful p bytes some few is = subst IsPlan (sym is) (is_plan bytes some few)
 
 pub encode-requires : goal.encode-requires
 encode-requires c =
     let p : Plan = c.unwrap-plan.result in
     let cut = is_cut p c.args.payload.now c.in_ok-blocks.blocks c.as_slice-block-items.result.now c.in_ok-blocks.ensures.blocks c.in_ok-blocks.ensures.shape c.as_slice-block-items.ensures in
-    (coded p c.args.payload.now c.as_slice-block-items.result.now c.loop-r.r c.block-item.result (lawful c) cut c.loop-r-test.true c.block-item.is).inside
+    (coded p c.args.payload.now c.as_slice-block-items.result.now c.loop-r.r c.block-item.result (lawful p (length c.args.payload.now) c.requires.some c.requires.few (rw c.unwrap-plan.ensures at c.plan.ensures.numbers)) cut c.loop-r-test.true c.block-item.is).inside
 
 pub push_piece-requires-clause-block : goal.push_piece-requires-clause-block
 push_piece-requires-clause-block c =
@@ -58,7 +58,7 @@ push_piece-requires-clause-streams c =
     let p : Plan = c.unwrap-plan.result in
     let r : ℕ = c.loop-r.r in
     let cut = is_cut p c.args.payload.now c.in_ok-blocks.blocks c.as_slice-block-items.result.now c.in_ok-blocks.ensures.blocks c.in_ok-blocks.ensures.shape c.as_slice-block-items.ensures in
-    let block = coded p c.args.payload.now c.as_slice-block-items.result.now r c.block-item.result (lawful c) cut c.loop-r-test.true c.block-item.is in
+    let block = coded p c.args.payload.now c.as_slice-block-items.result.now r c.block-item.result (lawful p (length c.args.payload.now) c.requires.some c.requires.few (rw c.unwrap-plan.ensures at c.plan.ensures.numbers)) cut c.loop-r-test.true c.block-item.is in
     subst (λ (s : Streams). AreStreams (size p r) (fill p r) s) (sym c.in_ok-streams.ensures) block.are
 
 pub push_piece-requires-clause-fits : goal.push_piece-requires-clause-fits
@@ -71,7 +71,7 @@ loop-r-preserved c =
     let m = c.args.m.now in
     let r : ℕ = c.loop-r.r in
     let cut = is_cut p payload c.in_ok-blocks.blocks c.as_slice-block-items.result.now c.in_ok-blocks.ensures.blocks c.in_ok-blocks.ensures.shape c.as_slice-block-items.ensures in
-    let b = coded p payload c.as_slice-block-items.result.now r c.block-item.result (lawful c) cut c.loop-r-test.true c.block-item.is in
+    let b = coded p payload c.as_slice-block-items.result.now r c.block-item.result (lawful p (length c.args.payload.now) c.requires.some c.requires.few (rw c.unwrap-plan.ensures at c.plan.ensures.numbers)) cut c.loop-r-test.true c.block-item.is in
     let from : c.in_ok-streams.streams ≡ streams (block p payload r) = c.in_ok-streams.ensures ∙ ap streams b.is in
     c.in_ok-push_piece.ensures
     ∙ ap (λ (s : Streams). c.loop-r.bits.items ++ sent p m s r c.args.rv) from

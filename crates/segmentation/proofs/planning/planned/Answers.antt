@@ -73,7 +73,7 @@ invariant_of-result c =
       planned = same_plan _ (plan_of c.args.bytes) (sym (plan-bytes c.args.bytes)) plan.blocks plan.larger_size plan.smaller_size plan.larger plan.smaller plan.fillers;
     }
 
-pub returns : goal.returns
-returns c =
+pub returns-clause-numbers : goal.returns-clause-numbers
+returns-clause-numbers c =
     let plan = the_plan c in
     same_plan _ (plan_of c.args.bytes) (sym (plan-bytes c.args.bytes)) plan.blocks plan.larger_size plan.smaller_size plan.larger plan.smaller plan.fillers
