@@ -1,4 +1,4 @@
-use Rattle.std.proofs.Common.{◌≡◌, ℕ, ◌*◌, ◌/◌, ◌≤◌, ap, ◌∙◌, arith}
+use Rattle.std.proofs.Common.{◌≡◌, ◌*◌, ◌/◌, ◌≤◌, ap, ◌∙◌, arith}
 use Rattle.sender_model.specs.Segmentation.{Plan, size}
 use Rattle.sender_model.specs.CircularBuffer.{rows_of}
 use Rattle.rate_match.proofs.BlockNumbers.{block-numbers, limit-kept}

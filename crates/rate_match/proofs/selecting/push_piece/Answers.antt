@@ -1,5 +1,5 @@
 use Rattle.std.specs.Prelude.{replicate}
-use Rattle.std.proofs.Common.{◌≡◌, ℕ, ◌+◌, ◌-◌, ◌*◌, ◌<◌, ◌≤◌, List, ◌++◌, length, map, take, drop, Contains, subst, sym, ap, ◌∙◌, arith}
+use Rattle.std.proofs.Common.{◌≡◌, ℕ, ◌+◌, ◌-◌, ◌*◌, ◌≤◌, List, ◌++◌, length, map, take, drop, Contains, subst, sym, ap, ◌∙◌, arith}
 use Rattle.lte_bits.specs.declared.bit.Bit.{Bit}
 use Rattle.lte_bits.specs.declared.bit.Bit.TheVariants.{Zero}
 use Rattle.lte_bits.specs.declared.block.Streams.{Streams}
