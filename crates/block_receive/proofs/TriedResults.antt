@@ -140,4 +140,4 @@ transmission-is task sends softs i rest s g values old_b b old new taken at hold
     let all : List Reception = receptions sends softs in
     let next : IsNext sends softs i rest s = taken-more sends softs i rest s taken at in
     let held : Hold b (take (i + 1) all) = hold-more b sends softs i rest s g values next told.front told.count (told.combined (take i all) hold) in
-    record { hold = held; next = next; tried = try-is task all i old new keeps (told.is (take (i + 1) all) held) }
+    record { hold = held; next = next; tried = try-is task all i old new told.lawful keeps (told.is (take (i + 1) all) held) }

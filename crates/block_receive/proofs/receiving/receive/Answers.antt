@@ -27,8 +27,8 @@ loop-i-init g c = record {
   plan = c.in_ok-buffers.ensures.plan;
   limit = c.in_ok-buffers.ensures.limit ∙ c.buffer.ensures.value;
   hold = c.in_ok-buffers.ensures.cells;
-  count = ap length (c.in_ok-results.ensures) ∙ length-replicate c.args.task.now.plan.c unpassed;
-  keeps = keeps-none c.args.task.now.plan.c c.in_ok-results.results.items [] c.in_ok-results.ensures refl;
+  count = ap length (c.in_ok-results.ensures) ∙ length-replicate c.plan.inside.c unpassed ∙ ap (λ (p : Plan). p.c) c.plan.view_is;
+  keeps = keeps-none c.plan.inside.c c.in_ok-results.results.items [] c.in_ok-results.ensures refl;
   total = refl;
   taken = record { later = refl; long = c.requires.values };
   failed = λ t some none. absurd (let no : ⊥ = omega (arith, some, none) in no);
@@ -152,7 +152,7 @@ loop-i-preserved g c =
     c.total_iterations-iterations.ensures ∙ ap iterations_of (c.as_slice.ensures.value ∙ same) in
     elim c.if-all_passed.branch [
       | then-all_passed+in_ok-joined+else-joined+in_ok-results-3 w ↦
-          let is : c.if-all_passed.results.items ≡ none_of c.args.task.now.plan.c = ap (λ v. v.items) w.results-is ∙ w.in_ok-results-3.ensures in
+          let is : c.if-all_passed.results.items ≡ none_of c.plan.inside.c = ap (λ v. v.items) w.results-is ∙ w.in_ok-results-3.ensures in
           let whole : check_holds A (whole_of p new) ≡ false = check-is w.in_ok-joined.joined.holds A (whole_of p new) w.in_ok-joined.ensures.holds ∙ w.if-joined.false in
           let all_true : all_passed new ≡ true = passed ∙ w.if-all_passed.true in
           let here : delivers p (results_in p e all (suc i)) ≡ false = ap (delivers p) (sym t.tried.is) ∙ delivers-is p new true false all_true whole in
@@ -160,8 +160,8 @@ loop-i-preserved g c =
             plan = c.combine.ensures.plan ∙ inv.plan;
             limit = c.combine.ensures.limit ∙ inv.limit;
             hold = t.hold;
-            count = ap length is ∙ length-replicate c.args.task.now.plan.c unpassed;
-            keeps = keeps-none c.args.task.now.plan.c c.if-all_passed.results.items (results_in p e all (i + 1)) is (ap all_passed (sym same) ∙ all_true);
+            count = ap length is ∙ length-replicate c.plan.inside.c unpassed ∙ ap (λ (p : Plan). p.c) c.plan.view_is;
+            keeps = keeps-none c.plan.inside.c c.if-all_passed.results.items (results_in p e all (i + 1)) is (ap all_passed (sym same) ∙ all_true);
             total = total;
             taken = taken;
             failed = none-more p e all i inv.failed here;
