@@ -5,16 +5,14 @@ use Rattle.std.proofs.lemmas.Nat.Gcd.{dvd_of_mod-eq-zero}
 use Rattle.sender_model.specs.Interleaver.{sizes}
 use Rattle.sender_model.specs.Segmentation.{Plan, size, fill}
 use Rattle.sender_model.proofs.RowLaws.{range-of_size}
-use Rattle.rate_match.proofs.BlockNumbers.{IsBlockOf, block-numbers}
+use Rattle.segmentation.specs.Plans.{IsPlan}
+use Rattle.rate_match.proofs.BlockNumbers.{block-numbers}
 use Rattle.receiver_model.specs.declared.result.CheckKind.{CheckKind}
 use Rattle.receiver_model.specs.HalfIteration.{IsShape, shape_of}
 use Rattle.receiver_model.specs.TransportBlocks.{block_shape, check_kind, window_count}
 use Rattle.receiver_model.proofs.WindowCounts.{count-is}
 use Rattle.block_receive.specs.declared.task.Task.{Task}
-use Rattle.block_receive.specs.Effort.{plan_in, effort_in}
-
-pub block_in : (task : Task) (r : ℕ) → r < task.plan.c → IsBlockOf (plan_in task) r
-block_in task r below = let p = task.plan in block-numbers p.bytes r p.some p.few (omega (arith, p.block_count, below))
+use Rattle.block_receive.specs.Effort.{effort_in}
 
 -- what a count of windows is told to be
 pub record IsCount (k m d : ℕ) : Type 0 where
@@ -29,10 +27,10 @@ some-windows k m d size some h = let range = range-of_size k size in h.greatest 
 pub windows-are : (k m d : ℕ) → Contains sizes k → 1 ≤ m → IsCount k m d → window_count k m ≡ d
 windows-are k m d size some h = count-is k m d (some-windows k m d size some h) h.divides h.wide h.within h.greatest
 
-pub lawful : (task : Task) (r k f d : ℕ) (kind : CheckKind) → r < task.plan.c → k ≡ size (plan_in task) r → f ≡ fill (plan_in task) r
+pub lawful : (task : Task) (r k f d : ℕ) (kind : CheckKind) → IsPlan task.plan → r < task.plan.c → k ≡ size task.plan r → f ≡ fill task.plan r
     → IsCount k task.effort.windows d → IsShape (shape_of k f kind d task.effort.limit)
-lawful task r k f d kind below size_is fill_is h =
-    let block = block_in task r below in
+lawful task r k f d kind is below size_is fill_is h =
+    let block = block-numbers task.plan r is below in
     let inside : Contains sizes k = subst (λ (n : ℕ). Contains sizes n) (sym size_is) block.inside in
     record {
       size = inside;
@@ -45,11 +43,11 @@ lawful task r k f d kind below size_is fill_is h =
       few_iterations = task.effort.few_iterations;
     }
 
-pub shape-is : (task : Task) (r k f c d : ℕ) → r < task.plan.c → k ≡ size (plan_in task) r → f ≡ fill (plan_in task) r → c ≡ (plan_in task).c
-    → IsCount k task.effort.windows d → shape_of k f (check_kind c) d task.effort.limit ≡ block_shape (plan_in task) (effort_in task) r
-shape-is task r k f c d below size_is fill_is count_is h =
-    let p : Plan = plan_in task in
-    let block = block_in task r below in
+pub shape-is : (task : Task) (r k f c d : ℕ) → IsPlan task.plan → r < task.plan.c → k ≡ size task.plan r → f ≡ fill task.plan r → c ≡ task.plan.c
+    → IsCount k task.effort.windows d → shape_of k f (check_kind c) d task.effort.limit ≡ block_shape task.plan (effort_in task) r
+shape-is task r k f c d is below size_is fill_is count_is h =
+    let p : Plan = task.plan in
+    let block = block-numbers task.plan r is below in
     let inside : Contains sizes k = subst (λ (n : ℕ). Contains sizes n) (sym size_is) block.inside in
     ap (λ (n : ℕ). shape_of k f (check_kind c) n task.effort.limit) (sym (windows-are k task.effort.windows d inside task.effort.some_windows h))
     ∙ ap (λ (n : ℕ). shape_of n f (check_kind c) (window_count n task.effort.windows) task.effort.limit) size_is

@@ -6,8 +6,10 @@ use Rattle.std.proofs.lemmas.List.{get_or_default, get_or-map, length-map}
 use Rattle.std.proofs.lemmas.List.FromFn.{fill_by_all}
 use Rattle.lte_bits.specs.declared.block.Block.{Block}
 use Rattle.sender_model.specs.Segmentation.{Plan, size, fill}
-use Rattle.sender_model.proofs.PlanLaws.{plan-sound}
+use Rattle.segmentation.specs.Plans.{IsPlan}
 use Rattle.segmentation.specs.Shape.{AreBlocksOf}
+use Rattle.segmentation.proofs.OfPlans.{sound-plan}
+use Rattle.rate_match.proofs.BlockNumbers.{block-numbers}
 use Rattle.receiver_model.specs.declared.result.CheckKind.TheVariants.{A}
 use Rattle.receiver_model.specs.declared.result.CodeResult.{CodeResult}
 use Rattle.receiver_model.specs.SoftCells.{Reception, reception}
@@ -18,14 +20,13 @@ use Rattle.soft_buffers.specs.Buffers.{Buffers, Hold}
 use Rattle.block_receive.specs.Receptions.{receptions}
 use Rattle.block_receive.proofs.Taken.{AreTaken, IsNext, hold-more, taken-more}
 use Rattle.block_receive.specs.declared.task.Task.{Task}
-use Rattle.block_receive.specs.Effort.{plan_in, effort_in}
+use Rattle.block_receive.specs.Effort.{effort_in}
 use Rattle.block_receive.specs.Held.{none_of, unpassed}
 use Rattle.block_receive.proofs.BlockResults.{AllOf, AreLawful, held-at, results-of, tried-long}
-use Rattle.block_receive.proofs.LawfulShapes.{block_in}
 
-pub lawful-in : (task : Task) → AreLawful (plan_in task) (effort_in task)
-lawful-in task = record {
-  fills = λ r below. (let p = task.plan in let block = block_in task r (omega (arith, below, p.block_count)) in block.fills);
+pub lawful-in : (task : Task) → IsPlan task.plan → AreLawful task.plan (effort_in task)
+lawful-in task is = record {
+  fills = λ r below. (let block = block-numbers task.plan r is below in block.fills);
   some = task.effort.some_iterations;
   few = task.effort.few_iterations;
 }
@@ -94,26 +95,24 @@ delivers-is plan results passed holds all whole =
 -- ---- all of it, of one try
 
 pub record IsTry (task : Task) (all : List Reception) (n : ℕ) (new : List CodeResult) : Type 0 where
-  pub is : new ≡ results_in (plan_in task) (effort_in task) all (suc n)
+  pub is : new ≡ results_in task.plan (effort_in task) all (suc n)
   pub long : length new ≡ task.plan.c
   pub some_few : length new ≤ 25
   pub few : All (λ x. x.iterations ≤ 16) new
-  pub shaped : AreBlocksOf (plan_in task) (map (λ x. x.block) new)
+  pub shaped : AreBlocksOf task.plan (map (λ x. x.block) new)
 
-pub try-is : (task : Task) (all : List Reception) (n : ℕ) (old new : List CodeResult) → Keeps old (results_in (plan_in task) (effort_in task) all n)
-    → new ≡ tried (plan_in task) (effort_in task) (take (n + 1) all) (map if_passed old) → IsTry task all n new
-try-is task all n old new keeps is =
-    let p : Plan = plan_in task in
+pub try-is : (task : Task) (all : List Reception) (n : ℕ) (old new : List CodeResult) → IsPlan task.plan → Keeps old (results_in task.plan (effort_in task) all n)
+    → new ≡ tried task.plan (effort_in task) (take (n + 1) all) (map if_passed old) → IsTry task all n new
+try-is task all n old new lawful keeps is =
+    let p : Plan = task.plan in
     let e : Effort = effort_in task in
     let same : new ≡ results_in p e all (suc n) = tried-is p e all n old new keeps is in
-    let of : AllOf p new = subst (AllOf p) (sym same) (results-of p e all n (lawful-in task)) in
+    let of : AllOf p new = subst (AllOf p) (sym same) (results-of p e all n (lawful-in task lawful)) in
     let long : length new ≡ p.c = ap length is ∙ tried-long p e (take (n + 1) all) (map if_passed old) in
-    let plan = task.plan in
-    let sound = plan-sound plan.bytes plan.some plan.few in
     record {
       is = same;
-      long = long ∙ sym plan.block_count;
-      some_few = omega (arith, long, sound.few);
+      long = long;
+      some_few = omega (arith, long, (sound-plan p lawful).few);
       few = all-few p new long of;
       shaped = are-blocks p new long of;
     }
@@ -127,17 +126,18 @@ pub record IsTransmission (task : Task) (sends : List Sending) (softs : List ℤ
 
 -- what calls told of it
 pub record IsTold (task : Task) (s : Sending) (rest : List ℤ) (g : ℕ) (values : List ℤ) (old_b b : Buffers) (old new : List CodeResult) : Type 0 where
+  pub lawful : IsPlan task.plan
   pub front : values ≡ take g rest
   pub count : g ≡ s.m.g
   pub combined : (xs : List Reception) → Hold old_b xs → Hold b (xs ++ reception s.m s.rv values ∷ [])
-  pub is : (xs : List Reception) → Hold b xs → new ≡ tried (plan_in task) (effort_in task) xs (map if_passed old)
+  pub is : (xs : List Reception) → Hold b xs → new ≡ tried task.plan (effort_in task) xs (map if_passed old)
 
 pub transmission-is : (task : Task) (sends : List Sending) (softs : List ℤ) (i : ℕ) (rest : List ℤ) (s : Sending) (g : ℕ) (values : List ℤ) (old_b b : Buffers) (old new : List CodeResult)
     → AreTaken sends softs i rest → slice_get sends i ≡ Some s → Hold old_b (take i (receptions sends softs))
-    → Keeps old (results_in (plan_in task) (effort_in task) (receptions sends softs) i) → IsTold task s rest g values old_b b old new
+    → Keeps old (results_in task.plan (effort_in task) (receptions sends softs) i) → IsTold task s rest g values old_b b old new
     → IsTransmission task sends softs i rest s b new
 transmission-is task sends softs i rest s g values old_b b old new taken at hold keeps told =
     let all : List Reception = receptions sends softs in
     let next : IsNext sends softs i rest s = taken-more sends softs i rest s taken at in
     let held : Hold b (take (i + 1) all) = hold-more b sends softs i rest s g values next told.front told.count (told.combined (take i all) hold) in
-    record { hold = held; next = next; tried = try-is task all i old new keeps (told.is (take (i + 1) all) held) }
+    record { hold = held; next = next; tried = try-is task all i old new told.lawful keeps (told.is (take (i + 1) all) held) }

@@ -1,7 +1,6 @@
 //! The payload of code blocks that were decoded.
 ghost use Rattle.std.specs.Prelude.{◌≡◌, ◌↔◌, IfOk, IsTrue, map};
 ghost use Rattle.sender_model.specs.CheckBits.{IsMultiple, crc24a};
-ghost use Rattle.sender_model.specs.Segmentation.{plan_of};
 ghost use Rattle.receiver_model.specs.TransportBlocks.{payload_of, whole_of};
 ghost use Rattle.segmentation.specs.Shape.{AreBlocksOf};
 
@@ -25,10 +24,10 @@ fn blocks_of(alloc: Global, results: Vec<CodeResult>) -> Result<Vec<Block>, NoMe
 
 /// The payload that results carry, and whether the check of the transport block holds.
 pub fn join(alloc: Global, results: Vec<CodeResult>, plan: &Plan) -> Result<Uncut, NoMemory>
-    requires { AreBlocksOf (plan_of plan.now.bytes) (map (λ x. x.block) results.items) }
-    ensures payload { IfOk result (λ u. u.payload ≡ payload_of (plan_of plan.now.bytes) results.items) }
+    requires { AreBlocksOf plan.now (map (λ x. x.block) results.items) }
+    ensures payload { IfOk result (λ u. u.payload ≡ payload_of plan.now results.items) }
     ensures holds { IfOk result (λ u. IsTrue u.holds
-        ↔ IsMultiple crc24a (whole_of (plan_of plan.now.bytes) results.items)) }
+        ↔ IsMultiple crc24a (whole_of plan.now results.items)) }
 {
     let blocks = blocks_of(alloc, results)?;
     uncut(alloc, blocks.as_slice(), plan)

@@ -1,13 +1,12 @@
 //! The transmissions of a transport block, one after the other.
 ghost use Rattle.std.specs.Prelude.{◌≡◌, ◌≤◌, IfOk, length};
-ghost use Rattle.sender_model.specs.Segmentation.{plan_of};
 ghost use Rattle.sender_model.specs.CircularBuffer.{FitsIn};
 ghost use Rattle.rate_match.specs.Sendings.{common};
 ghost use Rattle.receiver_model.specs.Decoding.{code_result};
 ghost use Rattle.receiver_model.specs.TransportBlocks.{outcome};
 ghost use Rattle.serial_decode.specs.Views.{AreStreams};
 ghost use Rattle.block_receive.specs.Decoders.{GivesResults, TakesBlocks};
-ghost use Rattle.block_receive.specs.Effort.{plan_in, effort_in};
+ghost use Rattle.block_receive.specs.Effort.{effort_in};
 ghost use Rattle.block_receive.specs.Receptions.{receptions, value_count};
 
 use crate::alone::decode_alone;
@@ -32,11 +31,11 @@ pub fn receive<F: Fn(Global, &SoftStreams, &Shape) -> Decoded>(
     sends: &Sends,
     softs: &[Soft],
 ) -> Result<TbOutcome, NoMemory>
-    requires fits { FitsIn (common sends.now).limit (plan_in task.now).c (plan_in task.now).k_plus }
+    requires fits { FitsIn (common sends.now).limit task.now.plan.c task.now.plan.k_plus }
     requires values { length softs.now ≡ value_count sends.now }
     requires takes { TakesBlocks (F.pre decode.now) }
     requires gives { GivesResults (F.post decode.now) }
-    ensures { IfOk result (λ o. o ≡ outcome (plan_in task.now) (effort_in task.now)
+    ensures { IfOk result (λ o. o ≡ outcome task.now.plan (effort_in task.now)
         (receptions sends.now softs.now)) }
 {
     let plan = &task.plan;
@@ -81,13 +80,13 @@ pub fn receive_alone(
     limit: usize,
     softs: &[Soft],
 ) -> Result<TbOutcome, NoMemory>
-    requires fits { FitsIn (common sends.now).limit (plan_of plan.now.bytes).c (plan_of plan.now.bytes).k_plus }
+    requires fits { FitsIn (common sends.now).limit plan.now.c plan.now.k_plus }
     requires some_windows { 1 ≤ windows }
     requires few_windows { windows ≤ 64 }
     requires some_iterations { 1 ≤ limit }
     requires few_iterations { limit ≤ 16 }
     requires values { length softs.now ≡ value_count sends.now }
-    ensures { IfOk result (λ o. o ≡ outcome (plan_of plan.now.bytes)
+    ensures { IfOk result (λ o. o ≡ outcome plan.now
         (record { windows = windows; limit = limit }) (receptions sends.now softs.now)) }
 {
     let task = Task {

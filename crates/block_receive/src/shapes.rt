@@ -1,7 +1,8 @@
 //! The shapes in which code blocks are decoded.
 ghost use Rattle.std.specs.Prelude.{◌≡◌, ◌<◌};
 ghost use Rattle.receiver_model.specs.TransportBlocks.{block_shape, check_kind};
-ghost use Rattle.block_receive.specs.Effort.{plan_in, effort_in};
+ghost use Rattle.segmentation.specs.Plans.{IsPlan};
+ghost use Rattle.block_receive.specs.Effort.{effort_in};
 
 use crate::task::Task;
 use qpp_table::win;
@@ -18,10 +19,12 @@ fn check_kind(c: usize) -> CheckKind
 /// The shape in which block `r`, below C, is decoded.
 pub fn block_shape(task: &Task, r: usize) -> Shape
     requires { r < task.now.plan.c }
-    ensures { result ≡ block_shape (plan_in task.now) (effort_in task.now) r }
+    ensures value { result ≡ block_shape task.now.plan (effort_in task.now) r }
+    ensures lawful { IsPlan task.now.plan }
 {
-    let k = size(&task.plan, r);
-    let kind = check_kind(task.plan.c);
+    let plan = &task.plan;
+    let k = size(plan, r);
+    let kind = check_kind(plan.c);
     let windows = win(k, task.effort.windows);
-    Shape::new(k, fill(&task.plan, r), kind, windows, task.effort.limit).unwrap()
+    Shape::new(k, fill(plan, r), kind, windows, task.effort.limit).unwrap()
 }

@@ -1,6 +1,5 @@
 //! Reception with several workers.
 ghost use Rattle.std.specs.Prelude.{◌≡◌, ◌≤◌, IfOk, length};
-ghost use Rattle.sender_model.specs.Segmentation.{plan_of};
 ghost use Rattle.sender_model.specs.CircularBuffer.{FitsIn};
 ghost use Rattle.rate_match.specs.Sendings.{common};
 ghost use Rattle.receiver_model.specs.Decoding.{code_result};
@@ -36,8 +35,7 @@ pub fn receive_shared<R: Threads + Wait + Sync, G: Gate + Sync>(
     workers: usize,
     gate: &G,
 ) -> Result<TbOutcome, NoMemory>
-    requires fits { FitsIn (common sends.now).limit (plan_of plan.now.bytes).c
-        (plan_of plan.now.bytes).k_plus }
+    requires fits { FitsIn (common sends.now).limit plan.now.c plan.now.k_plus }
     requires some_windows { 1 ≤ windows }
     requires few_windows { windows ≤ 64 }
     requires some_iterations { 1 ≤ limit }
@@ -45,7 +43,7 @@ pub fn receive_shared<R: Threads + Wait + Sync, G: Gate + Sync>(
     requires values { length softs.now ≡ value_count sends.now }
     requires some_workers { 1 ≤ workers }
     requires few_workers { workers ≤ 16 }
-    ensures { IfOk result (λ o. o ≡ outcome (plan_of plan.now.bytes)
+    ensures { IfOk result (λ o. o ≡ outcome plan.now
         (record { windows = windows; limit = limit }) (receptions sends.now softs.now)) }
 {
     let task = Task {

@@ -4,7 +4,7 @@ ghost use Rattle.receiver_model.specs.SoftCells.{Reception};
 ghost use Rattle.receiver_model.specs.TransportBlocks.{all_passed, block_result, if_passed, iterations_of, tried};
 ghost use Rattle.soft_buffers.specs.Buffers.{Hold};
 ghost use Rattle.block_receive.specs.Decoders.{GivesResults, TakesBlocks};
-ghost use Rattle.block_receive.specs.Effort.{plan_in, effort_in};
+ghost use Rattle.block_receive.specs.Effort.{effort_in};
 ghost use Rattle.block_receive.specs.Held.{none_of};
 
 use crate::shapes::block_shape;
@@ -44,12 +44,12 @@ fn decode_at<F: Fn(Global, &SoftStreams, &Shape) -> Decoded>(
     r: usize,
 ) -> Result<CodeResult, NoMemory>
     requires block { r < task.now.plan.c }
-    requires plan { buffers.now.plan ≡ plan_in task.now }
+    requires plan { buffers.now.plan ≡ task.now.plan }
     requires holds { (xs : List Reception) × Hold buffers.now xs }
     requires takes { TakesBlocks (F.pre decode.now) }
     requires gives { GivesResults (F.post decode.now) }
     ensures { (xs : List Reception) → Hold buffers.now xs →
-        IfOk result (λ x. x ≡ block_result (plan_in task.now) (effort_in task.now) xs r) }
+        IfOk result (λ x. x ≡ block_result task.now.plan (effort_in task.now) xs r) }
 {
     let streams = buffers.streams(alloc, r)?;
     decode(alloc, &streams, &block_shape(task, r))
@@ -64,15 +64,16 @@ pub fn try_blocks<F: Fn(Global, &SoftStreams, &Shape) -> Decoded>(
     held: Vec<CodeResult>,
 ) -> Result<Vec<CodeResult>, NoMemory>
     requires count { length held.items ≡ task.now.plan.c }
-    requires plan { buffers.now.plan ≡ plan_in task.now }
+    requires plan { buffers.now.plan ≡ task.now.plan }
     requires holds { (xs : List Reception) × Hold buffers.now xs }
     requires takes { TakesBlocks (F.pre decode.now) }
     requires gives { GivesResults (F.post decode.now) }
     ensures { (xs : List Reception) → Hold buffers.now xs → IfOk result (λ results. results.items
-        ≡ tried (plan_in task.now) (effort_in task.now) xs (map if_passed held.items)) }
+        ≡ tried task.now.plan (effort_in task.now) xs (map if_passed held.items)) }
 {
+    let plan = &task.plan;
     let mut results = held;
-    for r in 0..task.plan.c {
+    for r in 0..plan.c {
         if !results[r].passed {
             results[r] = decode_at(alloc, decode, task, buffers, r)?;
         }

@@ -6,13 +6,13 @@ use Rattle.receiver_model.specs.TransportBlocks.{outcome}
 use Rattle.receiver_model.specs.declared.result.TbOutcome.{TbOutcome}
 use Rattle.rate_match.specs.Sendings.{common}
 use Rattle.rate_match.specs.declared.sends.Sending.{Sending}
-use Rattle.block_receive.specs.Effort.{plan_in, effort_in}
+use Rattle.block_receive.specs.Effort.{effort_in}
 use Rattle.block_receive.specs.Receptions.{receptions, value_count}
 use Rattle.block_receive.specs.declared.task.Task.{Task}
 
 -- soft values of these transmissions, whose buffer fits the plan, and up to 16 workers
 pub record AreReceived (task : Task) (workers : ℕ) (sends : List Sending) (softs : List ℤ) : Type 0 where
-  pub fits : FitsIn (common sends).limit (plan_in task).c (plan_in task).k_plus
+  pub fits : FitsIn (common sends).limit task.plan.c task.plan.k_plus
   pub values : length softs ≡ value_count sends
   pub some_workers : 1 ≤ workers
   pub few_workers : workers ≤ 16
@@ -29,4 +29,4 @@ abbrev pub GivesOutcomes : {A E : Type 0}
 GivesOutcomes {A} {E} post =
     (alloc : A) (task : Bor Task) (workers : ℕ) (sends : Bor (List Sending)) (softs : Bor (List ℤ)) (r : Result TbOutcome E)
     → post alloc task workers sends softs r
-    → IfOk r (λ o. o ≡ outcome (plan_in task.now) (effort_in task.now) (receptions sends.now softs.now))
+    → IfOk r (λ o. o ≡ outcome task.now.plan (effort_in task.now) (receptions sends.now softs.now))

@@ -5,9 +5,10 @@ use Rattle.std.proofs.Math.Dec.{eqb-suc-zero}
 use Rattle.std.specs.declared.option.Option.{Option}
 use Rattle.sender_model.specs.CircularBuffer.{FitsIn, rows_of}
 use Rattle.sender_model.specs.Interleaver.{sizes}
-use Rattle.sender_model.specs.Segmentation.{Plan, bits_of, carried, check_length, plan_of, size, fill}
-use Rattle.sender_model.proofs.PlanLaws.{plan-sound}
+use Rattle.sender_model.specs.Segmentation.{Plan, bits_of, carried, check_length, size, fill}
 use Rattle.sender_model.proofs.PlanShares.{size-smaller, size-larger, fillers-room}
+use Rattle.segmentation.specs.Plans.{IsPlan}
+use Rattle.segmentation.proofs.OfPlans.{sound-plan}
 use Rattle.rate_match.proofs.SizeSteps.{size-step, places-rise}
 
 pub record IsBlockOf (p : Plan) (r : ℕ) : Type 0 where
@@ -18,33 +19,32 @@ pub record IsBlockOf (p : Plan) (r : ℕ) : Type 0 where
   pub larger : size p r ≤ p.k_plus
   pub fills : fill p r < size p r
 
-pub block-numbers : (bytes r : ℕ) → 1 ≤ bytes → bytes ≤ 18722 → r < (plan_of bytes).c → IsBlockOf (plan_of bytes) r
-block-numbers bytes r some few below =
-    let p : Plan = plan_of bytes in
-    let sound = plan-sound bytes some few in
+pub block-numbers : (p : Plan) (r : ℕ) → IsPlan p → r < p.c → IsBlockOf p r
+block-numbers p r is below =
+    let sound = sound-plan p is in
     elim (cases_lt r p.c_minus) [
       | inl h ↦
           let several = sound.several (omega (arith, h, sound.smaller_few)) in
-          let is : size p r ≡ p.k_minus = size-smaller p r h in
-          let inside : Contains sizes (size p r) = subst (λ (k : ℕ). Contains sizes k) (sym is) several.smaller.inside in
+          let own : size p r ≡ p.k_minus = size-smaller p r h in
+          let inside : Contains sizes (size p r) = subst (λ (k : ℕ). Contains sizes k) (sym own) several.smaller.inside in
           record {
             some = sound.some;
             few = sound.few;
             inside = inside;
             most = (size-step (size p r) inside).few;
-            larger = omega (arith, is, ltb-below p.k_minus p.k_plus several.smaller.pass);
-            fills = filled p r (fillers-room (carried (bits_of bytes)) p sound) (large (size p r) inside);
+            larger = omega (arith, own, ltb-below p.k_minus p.k_plus several.smaller.pass);
+            fills = filled p r (fillers-room (carried (bits_of p.bytes)) p sound) (large (size p r) inside);
           }
       | inr h ↦
-          let is : size p r ≡ p.k_plus = size-larger p r h in
-          let inside : Contains sizes (size p r) = subst (λ (k : ℕ). Contains sizes k) (sym is) sound.larger.inside in
+          let own : size p r ≡ p.k_plus = size-larger p r h in
+          let inside : Contains sizes (size p r) = subst (λ (k : ℕ). Contains sizes k) (sym own) sound.larger.inside in
           record {
             some = sound.some;
             few = sound.few;
             inside = inside;
             most = (size-step (size p r) inside).few;
-            larger = omega (arith, is);
-            fills = filled p r (fillers-room (carried (bits_of bytes)) p sound) (large (size p r) inside);
+            larger = omega (arith, own);
+            fills = filled p r (fillers-room (carried (bits_of p.bytes)) p sound) (large (size p r) inside);
           }
     ]
   where

@@ -10,6 +10,7 @@ use Rattle.sender_model.specs.CodeBlocks.{block, blocks}
 use Rattle.sender_model.specs.CodedStreams.{streams}
 use Rattle.sender_model.specs.CircularBuffer.{AreStreams}
 use Rattle.segmentation.proofs.CutBlocks.{blocks-shape}
+use Rattle.segmentation.proofs.OfPlans.{is_plan}
 use Rattle.rate_match.specs.Coded.{AreStreamsOf}
 use Rattle.rate_match.proofs.BlockNumbers.{block-numbers}
 use Rattle.rate_match.proofs.BlockStreams.{block-streams, blocks-count}
@@ -33,7 +34,7 @@ streams-at payload all r s of within at =
     let b : Block = block p payload r in
     let stands : b ≡ get_or bs r b = sym (get_or-map-range_with_len (block p payload) 0 p.c r r b below (omega arith)) in
     let same : s ≡ streams b = get_or_read all r s within at (streams b) ∙ ap (λ xs. get_or xs r (streams b)) of.coded ∙ get_or-map streams bs r b ∙ ap streams (sym stands) in
-    let one = block-streams p bs r b (block-numbers (length payload) r of.some of.few below) (blocks-shape payload of.some of.few) below stands in
+    let one = block-streams p bs r b (block-numbers p r (is_plan (length payload) of.some of.few) below) (blocks-shape payload of.some of.few) below stands in
     record {
       below = below;
       is = same;

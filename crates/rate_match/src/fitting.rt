@@ -1,6 +1,5 @@
 //! Which soft buffers are large enough.
 ghost use Rattle.std.specs.Prelude.{◌≡◌, ◌≤◌, ◌↔◌, IsTrue};
-ghost use Rattle.sender_model.specs.Segmentation.{plan_of};
 ghost use Rattle.sender_model.specs.CircularBuffer.{Fits, FitsIn};
 ghost use Rattle.rate_match.specs.Matching.{limit_of};
 ghost use Rattle.rate_match.specs.Fitting.{FitsAll, fits_all};
@@ -13,7 +12,7 @@ use segmentation::plans::Plan;
 /// Whether the buffer is full, or its part for each code block holds all of the first stream of
 /// the largest block.
 pub fn fits_buffer(buffer: Buffer, plan: &Plan) -> bool
-    ensures { IsTrue result ↔ FitsIn (limit_of buffer) (plan_of plan.now.bytes).c (plan_of plan.now.bytes).k_plus }
+    ensures { IsTrue result ↔ FitsIn (limit_of buffer) plan.now.c plan.now.k_plus }
 {
     match buffer {
         Buffer::Full => true,
@@ -23,7 +22,7 @@ pub fn fits_buffer(buffer: Buffer, plan: &Plan) -> bool
 
 /// `fits_buffer` of the buffer of a matching.
 pub fn fits_plan(m: &Match, plan: &Plan) -> bool
-    ensures { IsTrue result ↔ Fits m.now (plan_of plan.now.bytes) }
+    ensures { IsTrue result ↔ Fits m.now plan.now }
 {
     fits_buffer(m.buffer(), plan)
 }

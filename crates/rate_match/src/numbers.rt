@@ -2,7 +2,7 @@
 ghost use Rattle.std.specs.Prelude.{◌≡◌, ◌≤◌, ◌<◌, ◌*◌, Contains, sum_by};
 ghost use Rattle.std.specs.List.{range_with_len};
 ghost use Rattle.sender_model.specs.Interleaver.{sizes};
-ghost use Rattle.sender_model.specs.Segmentation.{plan_of, size};
+ghost use Rattle.sender_model.specs.Segmentation.{size};
 ghost use Rattle.sender_model.specs.CircularBuffer.{Fits, rows_of, buffer_size, buffer_length, piece_length, start};
 ghost use Rattle.rate_match.specs.Matching.{IsMatch};
 
@@ -23,11 +23,9 @@ pub(crate) fn rows_of(k: usize) -> usize
 /// N_cb of block `r`, the places of its buffer from which it sends; `r` is below C.
 pub fn buffer_len(m: &Match, plan: &Plan, r: usize) -> usize
     requires { r < plan.now.c }
-    ensures value { result
-        ≡ buffer_length m.now.limit (plan_of plan.now.bytes).c (size (plan_of plan.now.bytes) r) }
-    ensures within { result ≤ buffer_size (size (plan_of plan.now.bytes) r) }
-    ensures kept { Fits m.now (plan_of plan.now.bytes) →
-        32 * rows_of (size (plan_of plan.now.bytes) r) ≤ result }
+    ensures value { result ≡ buffer_length m.now.limit plan.now.c (size plan.now r) }
+    ensures within { result ≤ buffer_size (size plan.now r) }
+    ensures kept { Fits m.now plan.now → 32 * rows_of (size plan.now r) ≤ result }
 {
     let whole = 96 * rows_of(size(plan, r));
     match m.buffer() {
@@ -39,9 +37,8 @@ pub fn buffer_len(m: &Match, plan: &Plan, r: usize) -> usize
 /// E_r, the bits that block `r` sends; `r` is below C. They are G together.
 pub fn piece_len(m: &Match, plan: &Plan, r: usize) -> usize
     requires { r < plan.now.c }
-    ensures value { result ≡ piece_length m.now (plan_of plan.now.bytes).c r }
-    ensures whole { sum_by (piece_length m.now (plan_of plan.now.bytes).c)
-        (range_with_len 0 (plan_of plan.now.bytes).c) ≡ m.now.g }
+    ensures value { result ≡ piece_length m.now plan.now.c r }
+    ensures whole { sum_by (piece_length m.now plan.now.c) (range_with_len 0 plan.now.c) ≡ m.now.g }
     ensures lawful { IsMatch m.now }
 {
     let unit = usize::from(m.nl()) * usize::from(m.qm());

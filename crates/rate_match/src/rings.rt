@@ -1,7 +1,8 @@
 //! The part of a code block's circular buffer that is sent (36.212 5.1.4.1.2).
 ghost use Rattle.std.specs.Prelude.{◌≡◌, ◌<◌, ◌≤◌};
-ghost use Rattle.sender_model.specs.Segmentation.{plan_of, size, fill};
+ghost use Rattle.sender_model.specs.Segmentation.{size, fill};
 ghost use Rattle.sender_model.specs.CircularBuffer.{Fits, buffer_length, buffer_size, rows_of};
+ghost use Rattle.segmentation.specs.Plans.{IsPlan};
 
 use crate::matching::Match;
 use crate::numbers::{buffer_len, rows_of};
@@ -27,11 +28,11 @@ pub struct Ring {
 /// and the buffer fits the plan.
 pub fn ring_of(m: &Match, plan: &Plan, r: usize) -> Ring
     requires block { r < plan.now.c }
-    requires fits { Fits m.now (plan_of plan.now.bytes) }
-    ensures size { result.k ≡ size (plan_of plan.now.bytes) r }
-    ensures fillers { result.fill ≡ fill (plan_of plan.now.bytes) r }
-    ensures places { result.size
-        ≡ buffer_length m.now.limit (plan_of plan.now.bytes).c (size (plan_of plan.now.bytes) r) }
+    requires fits { Fits m.now plan.now }
+    ensures size { result.k ≡ size plan.now r }
+    ensures fillers { result.fill ≡ fill plan.now r }
+    ensures places { result.size ≡ buffer_length m.now.limit plan.now.c (size plan.now r) }
+    ensures lawful { IsPlan plan.now }
 {
     let k = size(plan, r);
     let places = buffer_len(m, plan, r);

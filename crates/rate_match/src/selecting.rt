@@ -3,7 +3,7 @@ ghost use Rattle.std.specs.Prelude.{◌≡◌, ◌≤◌, ◌<◌, ◌+◌, ◌+
 ghost use Rattle.std.specs.List.{range_with_len};
 ghost use Rattle.lte_bits.specs.declared.bit.Cell.{Cell};
 ghost use Rattle.sender_model.specs.Interleaver.{sizes};
-ghost use Rattle.sender_model.specs.Segmentation.{plan_of, size, fill};
+ghost use Rattle.sender_model.specs.Segmentation.{size, fill};
 ghost use Rattle.sender_model.specs.CircularBuffer.{AreStreams, Fits, buffer_size, cell_at, piece_length, spot, stream_of, w};
 ghost use Rattle.sender_model.specs.Selection.{bit_of_cell, bits_from, holds_bit, repeated, sent};
 ghost use Rattle.rate_match.specs.Cursor.{IsRun};
@@ -116,11 +116,10 @@ pub(crate) fn push_piece(
     rv: u8,
 ) -> Result<(), NoMemory>
     requires block { r < plan.now.c }
-    requires streams { AreStreams (size (plan_of plan.now.bytes) r) (fill (plan_of plan.now.bytes) r) streams.now }
-    requires fits { Fits m.now (plan_of plan.now.bytes) }
+    requires streams { AreStreams (size plan.now r) (fill plan.now r) streams.now }
+    requires fits { Fits m.now plan.now }
     requires version { rv ≤ 3 }
-    ensures { OnOk result (bits.new.items
-        ≡ bits.old.items ++ sent (plan_of plan.now.bytes) m.now streams.now r rv) }
+    ensures { OnOk result (bits.new.items ≡ bits.old.items ++ sent plan.now m.now streams.now r rv) }
 {
     let k = size(plan, r);
     let size = buffer_len(m, plan, r);
@@ -153,11 +152,11 @@ pub fn select(
     rv: u8,
 ) -> Result<List<Bit>, NoMemory>
     requires block { r < plan.now.c }
-    requires streams { AreStreams (size (plan_of plan.now.bytes) r) (fill (plan_of plan.now.bytes) r) streams.now }
-    requires fits { Fits m.now (plan_of plan.now.bytes) }
+    requires streams { AreStreams (size plan.now r) (fill plan.now r) streams.now }
+    requires fits { Fits m.now plan.now }
     requires version { rv ≤ 3 }
-    ensures sent { IfOk result (λ bits. bits ≡ sent (plan_of plan.now.bytes) m.now streams.now r rv) }
-    ensures long { IfOk result (λ bits. length bits ≡ piece_length m.now (plan_of plan.now.bytes).c r) }
+    ensures sent { IfOk result (λ bits. bits ≡ sent plan.now m.now streams.now r rv) }
+    ensures long { IfOk result (λ bits. length bits ≡ piece_length m.now plan.now.c r) }
 {
     let mut bits = Vec::with_capacity(alloc, piece_len(m, plan, r))?;
     push_piece(&mut bits, streams, m, r, plan, rv)?;

@@ -1,29 +1,29 @@
 -- The sizes of a plan's blocks, and where each stands in S.
-use Rattle.std.proofs.Common.{◌≡◌, ℕ, zero, suc, ◌+◌, ◌-◌, ◌<◌, ◌≤◌, List, length, subst, inl, inr, arith}
+use Rattle.std.proofs.Common.{◌≡◌, ℕ, zero, suc, ◌+◌, ◌-◌, ◌<◌, ◌≤◌, List, length, sym, subst, inl, inr, arith}
 use Rattle.std.proofs.lemmas.Bool.{cases_lt}
 use Rattle.sender_model.specs.Segmentation.{Plan, bits_of, carried, check_length, plan_of, size}
 use Rattle.sender_model.specs.CodeBlocks.{before, share, sequence}
-use Rattle.sender_model.proofs.PlanLaws.{plan-sound}
 use Rattle.sender_model.proofs.PlanShares.{size-smaller, size-larger, size-room, fillers-room, before-more, before-all}
-use Rattle.segmentation.proofs.Computed.{plan-small}
+use Rattle.segmentation.specs.Plans.{IsPlan}
+use Rattle.segmentation.proofs.Computed.{IsSmall, plan-small}
+use Rattle.segmentation.proofs.OfPlans.{sound-plan}
 
 -- a size holds the block's own check bits, and is at most 6144
-pub record IsSize (bytes r : ℕ) : Type 0 where
-  pub own : check_length (plan_of bytes).c ≤ size (plan_of bytes) r
-  pub most : size (plan_of bytes) r ≤ 6144
+pub record IsSize (p : Plan) (r : ℕ) : Type 0 where
+  pub own : check_length p.c ≤ size p r
+  pub most : size p r ≤ 6144
 
-pub block-size : (bytes r : ℕ) → 1 ≤ bytes → bytes ≤ 18722 → IsSize bytes r
-block-size bytes r some few =
-    let p : Plan = plan_of bytes in
-    let small = plan-small bytes some few in
+pub block-size : (p : Plan) (r : ℕ) → IsPlan p → IsSize p r
+block-size p r is =
+    let small = subst (λ (q : Plan). IsSmall p.bytes q) (sym is.planned) (plan-small p.bytes is.some is.few) in
     record {
-      own = size-room (carried (bits_of bytes)) p r (plan-sound bytes some few);
+      own = size-room (carried (bits_of p.bytes)) p r (sound-plan p is);
       most = elim (cases_lt r p.c_minus) [ inl h ↦ omega (arith, size-smaller p r h, small.apart, small.size) | inr h ↦ omega (arith, size-larger p r h, small.size) ];
     }
 
 -- fillers and check bits together are below the size of block 0
-pub fillers-few : (bytes : ℕ) → 1 ≤ bytes → bytes ≤ 18722 → (plan_of bytes).f + check_length (plan_of bytes).c < size (plan_of bytes) 0
-fillers-few bytes some few = fillers-room (carried (bits_of bytes)) (plan_of bytes) (plan-sound bytes some few)
+pub fillers-few : (p : Plan) → IsPlan p → p.f + check_length p.c < size p 0
+fillers-few p is = fillers-room (carried (bits_of p.bytes)) p (sound-plan p is)
 
 -- later blocks stand behind
 pub before-le : (p : Plan) (a b : ℕ) → a ≤ b → before p a ≤ before p b

@@ -18,6 +18,7 @@ use Rattle.sender_model.proofs.PlanLaws.{plan-sound}
 use Rattle.sender_model.proofs.PlanShares.{before-more, before-all}
 use Rattle.segmentation.proofs.BlockSizes.{before-le, before-within, fillers-few}
 use Rattle.segmentation.proofs.CutBlocks.{length-piece}
+use Rattle.segmentation.proofs.OfPlans.{is_plan}
 use Rattle.segmentation.proofs.WholeBits.{carried_by, fill-later}
 
 -- ---- one block
@@ -66,14 +67,14 @@ whole_front : (payload : List ℕ) → 1 ≤ length payload → length payload �
 whole_front payload some few zero lt =
     let p : Plan = plan_of (length payload) in
     let all : List Bit = sequence p payload in
-    let first = fillers-few (length payload) some few in
+    let first = fillers-few p (is_plan (length payload) some few) in
     let own = carried-checked p.c p.f (take (share p 0) (drop (before p 0) all)) (omega (arith, length-piece payload 0 some few lt, first)) in
     whole_made-more p payload 0
     ∙ (own ∙ ap (λ (n : ℕ). drop p.f (take n all)) (let e : share p 0 ≡ before p (0 + 1) = omega (arith, before-more p 0) in e))
 whole_front payload some few (suc i) lt =
     let p : Plan = plan_of (length payload) in
     let all : List Bit = sequence p payload in
-    let first = fillers-few (length payload) some few in
+    let first = fillers-few p (is_plan (length payload) some few) in
     let none : fill p (suc i) ≡ 0 = fill-later p i in
     let piece : List Bit = take (share p (suc i)) (drop (before p (suc i)) all) in
     let own : carried_by p (block p payload (suc i)) ≡ drop (fill p (suc i)) piece = carried-checked p.c (fill p (suc i)) piece (omega (arith, none)) in

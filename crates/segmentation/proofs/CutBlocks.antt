@@ -11,6 +11,7 @@ use Rattle.sender_model.proofs.CheckBitLaws.{length-crc}
 use Rattle.sender_model.proofs.PlanShares.{before-more}
 use Rattle.segmentation.specs.Shape.{AreBlocksOf}
 use Rattle.segmentation.proofs.BlockSizes.{block-size, before-within}
+use Rattle.segmentation.proofs.OfPlans.{is_plan}
 
 -- ---- one block
 
@@ -49,7 +50,7 @@ pub length-block : (payload : List ℕ) (r : ℕ) → 1 ≤ length payload → l
 length-block payload r some few below =
     let p : Plan = plan_of (length payload) in
     let piece : List Bit = take (share p r) (drop (before p r) (sequence p payload)) in
-    omega (arith, length-checked p.c piece, length-piece payload r some few below, (block-size (length payload) r some few).own)
+    omega (arith, length-checked p.c piece, length-piece payload r some few below, (block-size p r (is_plan (length payload) some few)).own)
 
 -- ---- all blocks
 

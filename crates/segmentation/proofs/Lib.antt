@@ -1,3 +1,4 @@
+pub mod OfPlans
 pub mod Walk
 mod Computed
 pub mod BlockSizes

@@ -6,12 +6,14 @@ use Rattle.std.proofs.lemmas.List.Concat.{flat_map-append}
 use Rattle.std.proofs.lemmas.List.FromFn.{length-map-range_with_len, get_or-map-range_with_len}
 use Rattle.lte_bits.specs.declared.bit.Bit.{Bit}
 use Rattle.lte_bits.specs.declared.block.Block.{Block}
-use Rattle.sender_model.specs.Segmentation.{Plan, bits_of, check_length, plan_of, size, fill}
+use Rattle.sender_model.specs.Segmentation.{Plan, bits_of, count_of, check_length, size, fill}
 use Rattle.sender_model.specs.CodeBlocks.{before, whole}
-use Rattle.sender_model.proofs.PlanLaws.{IsSound, plan-sound, plan-count}
+use Rattle.sender_model.proofs.PlanLaws.{IsSound, plan-count}
 use Rattle.sender_model.proofs.PlanShares.{before-more, before-whole}
+use Rattle.segmentation.specs.Plans.{IsPlan}
 use Rattle.segmentation.specs.Shape.{AreBlocksOf}
 use Rattle.segmentation.proofs.BlockSizes.{block-size, fillers-few}
+use Rattle.segmentation.proofs.OfPlans.{sound-plan}
 
 abbrev no_block : Block
 no_block = record { fill = 0; bits = [] }
@@ -48,9 +50,9 @@ pub fill-later : (p : Plan) (i : ℕ) → fill p (suc i) ≡ 0
 fill-later p i = ap (λ (t : Bool). cond t p.f 0) (ne_eqb (suc i) 0 (λ e. omega (arith, e)))
 
 -- fillers and own check bits have room in it
-pub fillers-fit : (bytes i : ℕ) → 1 ≤ bytes → bytes ≤ 18722 → fill (plan_of bytes) i + check_length (plan_of bytes).c ≤ size (plan_of bytes) i
-fillers-fit bytes zero some few = omega (arith, fillers-few bytes some few)
-fillers-fit bytes (suc i) some few = omega (arith, fill-later (plan_of bytes) i, (block-size bytes (suc i) some few).own)
+pub fillers-fit : (p : Plan) (i : ℕ) → IsPlan p → fill p i + check_length p.c ≤ size p i
+fillers-fit p zero is = omega (arith, fillers-few p is)
+fillers-fit p (suc i) is = omega (arith, fill-later p i, (block-size p (suc i) is).own)
 
 length-carried_by : (p : Plan) (b : Block) → b.fill + check_length p.c ≤ length b.bits → length (carried_by p b) + b.fill + check_length p.c ≡ length b.bits
 length-carried_by p b room = omega (arith, length-take-le (length b.bits - b.fill - check_length p.c) (drop b.fill b.bits) (omega (arith, length-drop b.fill b.bits)), room)
@@ -69,37 +71,37 @@ whole-more p bs i d lt =
     single (x ∷ xs) = ap (λ (ys : List Bit). x ∷ ys) (single xs)
 
 -- the first i + 1 blocks carry what they take of S, but for the fillers
-length-whole_front : (bytes : ℕ) (bs : List Block) → 1 ≤ bytes → bytes ≤ 18722 → AreBlocksOf (plan_of bytes) bs
-    → (i : ℕ) → i < length bs → length (whole (plan_of bytes) (take (i + 1) bs)) + (plan_of bytes).f ≡ before (plan_of bytes) (i + 1)
-length-whole_front bytes bs some few shape = front
+length-whole_front : (p : Plan) (bs : List Block) → IsPlan p → AreBlocksOf p bs
+    → (i : ℕ) → i < length bs → length (whole p (take (i + 1) bs)) + p.f ≡ before p (i + 1)
+length-whole_front p bs is shape = front
   where
-    front : (i : ℕ) → i < length bs → length (whole (plan_of bytes) (take (i + 1) bs)) + (plan_of bytes).f ≡ before (plan_of bytes) (i + 1)
+    front : (i : ℕ) → i < length bs → length (whole p (take (i + 1) bs)) + p.f ≡ before p (i + 1)
     front zero lt =
-        let at = shape-at (plan_of bytes) bs 0 no_block shape lt in
-        let fit = fillers-fit bytes 0 some few in
-        let own = length-carried_by (plan_of bytes) (get_or bs 0 no_block) (omega (arith, at.size, at.fillers, fit)) in
-        let more = whole-more (plan_of bytes) bs 0 no_block lt in
-        omega (arith, ap length more, length-append (whole (plan_of bytes) (take 0 bs)) (carried_by (plan_of bytes) (get_or bs 0 no_block)), own, at.size, at.fillers, fit, before-more (plan_of bytes) 0)
+        let at = shape-at p bs 0 no_block shape lt in
+        let fit = fillers-fit p 0 is in
+        let own = length-carried_by p (get_or bs 0 no_block) (omega (arith, at.size, at.fillers, fit)) in
+        let more = whole-more p bs 0 no_block lt in
+        omega (arith, ap length more, length-append (whole p (take 0 bs)) (carried_by p (get_or bs 0 no_block)), own, at.size, at.fillers, fit, before-more p 0)
     front (suc i) lt =
-        let at = shape-at (plan_of bytes) bs (suc i) no_block shape lt in
-        let fit = fillers-fit bytes (suc i) some few in
-        let own = length-carried_by (plan_of bytes) (get_or bs (suc i) no_block) (omega (arith, at.size, at.fillers, fit)) in
-        let more = whole-more (plan_of bytes) bs (suc i) no_block lt in
+        let at = shape-at p bs (suc i) no_block shape lt in
+        let fit = fillers-fit p (suc i) is in
+        let own = length-carried_by p (get_or bs (suc i) no_block) (omega (arith, at.size, at.fillers, fit)) in
+        let more = whole-more p bs (suc i) no_block lt in
         let so_far = front i (omega (arith, lt)) in
         let next : i + 1 ≡ suc i = omega arith in
-        let same : length (whole (plan_of bytes) (take (i + 1) bs)) ≡ length (whole (plan_of bytes) (take (suc i) bs)) = ap (λ (n : ℕ). length (whole (plan_of bytes) (take n bs))) next in
-        let taken : before (plan_of bytes) (i + 1) ≡ before (plan_of bytes) (suc i) = ap (λ (n : ℕ). before (plan_of bytes) n) next in
-        omega (arith, ap length more, length-append (whole (plan_of bytes) (take (suc i) bs)) (carried_by (plan_of bytes) (get_or bs (suc i) no_block)), own, at.size, at.fillers, fit, before-more (plan_of bytes) (suc i), so_far, same, taken, fill-later (plan_of bytes) i)
+        let same : length (whole p (take (i + 1) bs)) ≡ length (whole p (take (suc i) bs)) = ap (λ (n : ℕ). length (whole p (take n bs))) next in
+        let taken : before p (i + 1) ≡ before p (suc i) = ap (λ (n : ℕ). before p n) next in
+        omega (arith, ap length more, length-append (whole p (take (suc i) bs)) (carried_by p (get_or bs (suc i) no_block)), own, at.size, at.fillers, fit, before-more p (suc i), so_far, same, taken, fill-later p i)
 
 -- all blocks carry the payload's bits and 24 more
-pub length-whole : (bytes : ℕ) (bs : List Block) → 1 ≤ bytes → bytes ≤ 18722 → AreBlocksOf (plan_of bytes) bs → length (whole (plan_of bytes) bs) ≡ 8 * bytes + 24
-length-whole bytes bs some few shape =
-    let p : Plan = plan_of bytes in
-    let base = plan-sound bytes some few in
-    let sound : IsSound (bits_of bytes + p.c * check_length p.c) p = subst (λ (c : ℕ). IsSound (bits_of bytes + c * check_length c) p) (sym (plan-count bytes)) base in
+pub length-whole : (p : Plan) (bs : List Block) → IsPlan p → AreBlocksOf p bs → length (whole p bs) ≡ 8 * p.bytes + 24
+length-whole p bs is shape =
+    let base = sound-plan p is in
+    let count : p.c ≡ count_of (bits_of p.bytes) = ap (λ (q : Plan). q.c) is.planned ∙ plan-count p.bytes in
+    let sound : IsSound (bits_of p.bytes + p.c * check_length p.c) p = subst (λ (c : ℕ). IsSound (bits_of p.bytes + c * check_length c) p) (sym count) base in
     let long : length bs ≡ p.c = shape-length p bs shape in
     let last : ℕ = p.c - 1 in
     let all : last + 1 ≡ p.c = omega (arith, base.some) in
-    let front = length-whole_front bytes bs some few shape last (omega (arith, long, base.some)) in
+    let front = length-whole_front p bs is shape last (omega (arith, long, base.some)) in
     let are : take (last + 1) bs ≡ bs = take_all (last + 1) bs (omega (arith, long, all)) in
-    omega (arith, front, ap (λ (xs : List Block). length (whole p xs)) are, ap (λ (n : ℕ). before p n) all, before-whole (bits_of bytes) p sound)
+    omega (arith, front, ap (λ (xs : List Block). length (whole p xs)) are, ap (λ (n : ℕ). before p n) all, before-whole (bits_of p.bytes) p sound)

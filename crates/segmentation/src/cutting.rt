@@ -2,7 +2,6 @@
 ghost use Rattle.std.specs.Prelude.{◌≡◌, ◌≤◌, ◌<◌, ◌++◌, IfOk, length, replicate};
 ghost use Rattle.lte_bits.specs.Packing.{unpacked};
 ghost use Rattle.sender_model.specs.CheckBits.{crc, crc24a};
-ghost use Rattle.sender_model.specs.Segmentation.{plan_of};
 ghost use Rattle.sender_model.specs.CodeBlocks.{blocks, checked, share};
 ghost use Rattle.segmentation.specs.Shape.{AreBlocksOf};
 
@@ -31,7 +30,7 @@ fn sequence(alloc: Global, payload: &[u8], fillers: usize) -> Result<Vec<Bit>, N
 /// How many bits of S block `r` takes.
 fn share(plan: &Plan, r: usize) -> usize
     requires { r < plan.now.c }
-    ensures { result ≡ share (plan_of plan.now.bytes) r }
+    ensures { result ≡ share plan.now r }
 {
     size(plan, r) - check_length(plan.c)
 }
@@ -52,8 +51,8 @@ fn checked(alloc: Global, c: usize, share: &[Bit]) -> Result<List<Bit>, NoMemory
 /// The code blocks of a payload, whose length the plan is for.
 pub fn cut(alloc: Global, payload: &[u8], plan: &Plan) -> Result<List<Block>, NoMemory>
     requires { plan.now.bytes ≡ length payload.now }
-    ensures blocks { IfOk result (λ list. list ≡ blocks (plan_of plan.now.bytes) payload.now) }
-    ensures shape { IfOk result (AreBlocksOf (plan_of plan.now.bytes)) }
+    ensures blocks { IfOk result (λ list. list ≡ blocks plan.now payload.now) }
+    ensures shape { IfOk result (AreBlocksOf plan.now) }
 {
     let sequence = sequence(alloc, payload, plan.f)?;
     let mut rest = sequence.as_slice();

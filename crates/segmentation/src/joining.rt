@@ -2,7 +2,6 @@
 ghost use Rattle.std.specs.Prelude.{◌≡◌, ◌≤◌, ◌+◌, ◌-◌, ◌*◌, ◌↔◌, IsTrue, IfOk, length, take, drop};
 ghost use Rattle.lte_bits.specs.Packing.{packed};
 ghost use Rattle.sender_model.specs.CheckBits.{IsMultiple, crc24a};
-ghost use Rattle.sender_model.specs.Segmentation.{plan_of};
 ghost use Rattle.sender_model.specs.CodeBlocks.{whole};
 ghost use Rattle.segmentation.specs.Shape.{AreBlocksOf};
 
@@ -25,8 +24,8 @@ fn carried(block: &Block, own: usize) -> &[Bit]
 
 /// The bits of the blocks, one after the other, without their fillers and own check bits.
 fn whole(alloc: Global, blocks: &[Block], plan: &Plan) -> Result<Vec<Bit>, NoMemory>
-    requires { AreBlocksOf (plan_of plan.now.bytes) blocks.now }
-    ensures { IfOk result (λ bits. bits.items ≡ whole (plan_of plan.now.bytes) blocks.now) }
+    requires { AreBlocksOf plan.now blocks.now }
+    ensures { IfOk result (λ bits. bits.items ≡ whole plan.now blocks.now) }
 {
     let own = check_length(plan.c);
     let mut whole = Vec::with_capacity(alloc, 8 * plan.bytes + CHECK_BITS)?;
@@ -40,11 +39,11 @@ fn whole(alloc: Global, blocks: &[Block], plan: &Plan) -> Result<Vec<Bit>, NoMem
 /// the blocks' own check bits are dropped. `payload` is the first `bytes` bytes, and `holds` tells
 /// whether they and the 24 bits after them are a multiple of CRC24A.
 pub fn uncut(alloc: Global, blocks: &[Block], plan: &Plan) -> Result<Uncut, NoMemory>
-    requires { AreBlocksOf (plan_of plan.now.bytes) blocks.now }
+    requires { AreBlocksOf plan.now blocks.now }
     ensures payload { IfOk result (λ u. u.payload
-        ≡ packed (take (8 * plan.now.bytes) (whole (plan_of plan.now.bytes) blocks.now))) }
+        ≡ packed (take (8 * plan.now.bytes) (whole plan.now blocks.now))) }
     ensures holds { IfOk result (λ u. IsTrue u.holds
-        ↔ IsMultiple crc24a (whole (plan_of plan.now.bytes) blocks.now)) }
+        ↔ IsMultiple crc24a (whole plan.now blocks.now)) }
 {
     let whole = whole(alloc, blocks, plan)?;
     let bits = whole.as_slice();

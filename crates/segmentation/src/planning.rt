@@ -2,6 +2,7 @@
 ghost use Rattle.std.specs.Prelude.{◌≡◌, ◌≤◌, ◌<◌, ◌*◌, ◌↔◌, ◌⊎◌, IsOk, IsErr, IfOk};
 ghost use Rattle.sender_model.specs.Segmentation.{plan_of, count_of, check_length, smaller_count};
 ghost use Rattle.sender_model.specs.Segmentation.{size, fill};
+ghost use Rattle.segmentation.specs.Plans.{IsPlan};
 
 use crate::plans::Plan;
 use crate::sizes::{larger_size, smaller_size};
@@ -66,7 +67,8 @@ fn smaller_count(c: usize, n: usize, k_plus: usize, k_minus: usize) -> usize
 fn planned(bytes: usize) -> Plan
     requires some { 1 ≤ bytes }
     requires few { bytes ≤ 18722 }
-    ensures { result.bytes ≡ bytes }
+    ensures numbers { result ≡ plan_of bytes }
+    ensures bytes { result.bytes ≡ bytes }
 {
     let bits = 8 * bytes + CHECK_BITS;
     let c = block_count(bits);
@@ -91,6 +93,7 @@ fn planned(bytes: usize) -> Plan
 pub fn plan(bytes: usize) -> Result<Plan, BadLength>
     ensures planned { IsOk result ↔ ((1 ≤ bytes) × (bytes ≤ 18722)) }
     ensures refused { IsErr result ↔ ((bytes ≡ 0) ⊎ (18722 < bytes)) }
+    ensures numbers { IfOk result (λ plan. plan ≡ plan_of bytes) }
     ensures bytes { IfOk result (λ plan. plan.bytes ≡ bytes) }
 {
     if (1..=MOST_BYTES).contains(&bytes) {
@@ -103,7 +106,8 @@ pub fn plan(bytes: usize) -> Result<Plan, BadLength>
 /// The bits of block `r`, K- or K+; `r` is below C.
 pub fn size(plan: &Plan, r: usize) -> usize
     requires { r < plan.now.c }
-    ensures { result ≡ size (plan_of plan.now.bytes) r }
+    ensures value { result ≡ size plan.now r }
+    ensures lawful { IsPlan plan.now }
 {
     if r < plan.c_minus {
         plan.k_minus
@@ -115,7 +119,7 @@ pub fn size(plan: &Plan, r: usize) -> usize
 /// The fillers of block `r`, F in block 0 and none in the others; `r` is below C.
 pub fn fill(plan: &Plan, r: usize) -> usize
     requires { r < plan.now.c }
-    ensures { result ≡ fill (plan_of plan.now.bytes) r }
+    ensures { result ≡ fill plan.now r }
 {
     if r == 0 { plan.f } else { 0 }
 }

@@ -1,6 +1,6 @@
 //! How a transport block is cut.
-ghost use Rattle.std.specs.Prelude.{◌≡◌, ◌≤◌};
-ghost use Rattle.sender_model.specs.Segmentation.{plan_of};
+
+use std::marker::Model;
 
 /// The plan of a transport block of `bytes` bytes, 1 to 18,722 (36.212 5.1.2): C, K+, K-, C+, C-
 /// and F. The first `c_minus` of the `c` blocks have `k_minus` bits, the others `k_plus`, and `f`
@@ -14,12 +14,18 @@ pub struct Plan {
     pub c_plus: usize,
     pub c_minus: usize,
     pub f: usize,
-    pub ghost some: { 1 ≤ bytes },
-    pub ghost few: { bytes ≤ 18722 },
-    pub ghost block_count: { c ≡ (plan_of bytes).c },
-    pub ghost larger_size: { k_plus ≡ (plan_of bytes).k_plus },
-    pub ghost smaller_size: { k_minus ≡ (plan_of bytes).k_minus },
-    pub ghost larger: { c_plus ≡ (plan_of bytes).c_plus },
-    pub ghost smaller: { c_minus ≡ (plan_of bytes).c_minus },
-    pub ghost fillers: { f ≡ (plan_of bytes).f },
+}
+
+impl Model for Plan {
+    ghost use Rattle.sender_model.specs.Segmentation.{Plan as Numbers};
+
+    ghost Value = { Numbers };
+
+    ghost use Rattle.segmentation.specs.Shown.{shown, IsKept, hidden};
+
+    ghost view = { shown };
+
+    ghost invariant = { IsKept };
+
+    ghost inverse = { hidden };
 }

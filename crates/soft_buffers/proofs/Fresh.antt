@@ -1,9 +1,8 @@
 -- The cells of a code block before the first reception.
-use Rattle.std.proofs.Common.{◌≡◌, ℕ, ◌+◌, ◌*◌, ◌<◌, ◌≤◌, ℤ, pos, List, [], map, replicate, ap, ◌∙◌, arith}
+use Rattle.std.proofs.Common.{◌≡◌, ℕ, ◌+◌, ◌*◌, ◌<◌, ℤ, pos, List, [], map, replicate, ap, ◌∙◌, arith}
 use Rattle.std.specs.List.{range_with_len}
 use Rattle.std.proofs.lemmas.List.FromFn.{get_or-map-range_with_len}
-use Rattle.sender_model.specs.Segmentation.{Plan, plan_of, size}
-use Rattle.rate_match.proofs.BlockNumbers.{IsBlockOf, block-numbers}
+use Rattle.sender_model.specs.Segmentation.{Plan, size}
 use Rattle.soft_buffers.specs.Buffers.{cells_of_block}
 
 abbrev pub fresh : Plan → ℕ → List ℤ
@@ -11,7 +10,3 @@ fresh plan r = replicate (3 * (size plan r + 4)) (pos 0)
 
 pub fresh-block : (plan : Plan) (blocks : List (List ℤ)) (n q : ℕ) → blocks ≡ map (fresh plan) (range_with_len 0 n) → q < n → cells_of_block blocks q ≡ fresh plan q
 fresh-block plan blocks n q are below = ap (λ bs. cells_of_block bs q) are ∙ get_or-map-range_with_len (fresh plan) 0 n q q [] below (omega arith)
-
--- the numbers of block r of a plan
-pub block_of : (bytes c r : ℕ) → 1 ≤ bytes → bytes ≤ 18722 → c ≡ (plan_of bytes).c → r < c → IsBlockOf (plan_of bytes) r
-block_of bytes c r some few is below = block-numbers bytes r some few (omega (arith, is, below))

@@ -1,6 +1,5 @@
 //! The soft buffers of a transport block.
 ghost use Rattle.std.specs.Prelude.{◌≡◌, ◌≤◌, ◌<◌, ◌+◌, ◌*◌, ◌++◌, [], ◌∷◌, List, IfOk, length, pos, replicate};
-ghost use Rattle.sender_model.specs.Segmentation.{plan_of};
 ghost use Rattle.sender_model.specs.CircularBuffer.{FitsIn};
 ghost use Rattle.rate_match.specs.Matching.{limit_of};
 ghost use Rattle.receiver_model.specs.SoftCells.{Reception, reception, soft_streams};
@@ -48,8 +47,8 @@ impl HarqBuffers {
     /// The buffers of a transport block of this plan, which the soft buffer fits, before the first
     /// transmission: every cell is 0.
     pub fn new(alloc: Global, plan: &Plan, buffer: Buffer) -> Result<HarqBuffers, NoMemory>
-        requires { FitsIn (limit_of buffer) (plan_of plan.now.bytes).c (plan_of plan.now.bytes).k_plus }
-        ensures plan { IfOk result (λ b. b.plan ≡ plan_of plan.now.bytes) }
+        requires { FitsIn (limit_of buffer) plan.now.c plan.now.k_plus }
+        ensures plan { IfOk result (λ b. b.plan ≡ plan.now) }
         ensures limit { IfOk result (λ b. b.limit ≡ limit_of buffer) }
         ensures cells { IfOk result (λ b. Hold b []) }
     {

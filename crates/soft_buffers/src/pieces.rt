@@ -1,7 +1,7 @@
 //! The values of a transmission, block after block.
 ghost use Rattle.std.specs.Prelude.{◌≡◌, ◌≤◌, ◌<◌, ◌+◌, ◌*◌, ◌++◌, [], ◌∷◌, ℕ, ℤ, List, length, fold, slice_index_or};
 ghost use Rattle.sender_model.specs.declared.spot.Spot.{Spot as Bit};
-ghost use Rattle.sender_model.specs.Segmentation.{plan_of, size};
+ghost use Rattle.sender_model.specs.Segmentation.{size};
 ghost use Rattle.sender_model.specs.CircularBuffer.{Fits, piece_length};
 ghost use Rattle.receiver_model.specs.SoftCells.{added, piece, reception, values_of};
 ghost use Rattle.soft_buffers.specs.Buffers.{AreLong, IsBit, cell_of, cells_of_block};
@@ -14,16 +14,16 @@ use segmentation::plans::Plan;
 /// Adds the values of block `r` to its cells.
 fn add_piece(cells: &mut [Soft], plan: &Plan, m: &Match, r: usize, rv: u8, values: &[Soft])
     requires block { r < plan.now.c }
-    requires cells { length cells.old ≡ 3 * (size (plan_of plan.now.bytes) r + 4) }
-    requires fits { Fits m.now (plan_of plan.now.bytes) }
+    requires cells { length cells.old ≡ 3 * (size plan.now r + 4) }
+    requires fits { Fits m.now plan.now }
     requires version { rv ≤ 3 }
     requires few { length values.now ≤ 1000000 }
-    requires values { length values.now ≡ piece_length m.now (plan_of plan.now.bytes).c r }
-    ensures cells { (all : List ℤ) → values.now ≡ piece (plan_of plan.now.bytes) (reception m.now rv all) r →
-        (s : Bit) → IsBit (size (plan_of plan.now.bytes) r) s →
-        cell_of (size (plan_of plan.now.bytes) r) cells.new s
-        ≡ fold added (cell_of (size (plan_of plan.now.bytes) r) cells.old s)
-        (values_of (plan_of plan.now.bytes) (reception m.now rv all) r s) }
+    requires values { length values.now ≡ piece_length m.now plan.now.c r }
+    ensures cells { (all : List ℤ) → values.now ≡ piece plan.now (reception m.now rv all) r →
+        (s : Bit) → IsBit (size plan.now r) s →
+        cell_of (size plan.now r) cells.new s
+        ≡ fold added (cell_of (size plan.now r) cells.old s)
+        (values_of plan.now (reception m.now rv all) r s) }
     ensures long { length cells.new ≡ length cells.old }
 {
     let ring = ring_of(m, plan, r);
@@ -33,17 +33,16 @@ fn add_piece(cells: &mut [Soft], plan: &Plan, m: &Match, r: usize, rv: u8, value
 /// Adds the values of a whole codeword to the cells of its blocks.
 pub fn add_codeword(blocks: &mut [List<Soft>], plan: &Plan, m: &Match, rv: u8, softs: &[Soft])
     requires count { length blocks.old ≡ plan.now.c }
-    requires long { AreLong (plan_of plan.now.bytes) blocks.old }
-    requires fits { Fits m.now (plan_of plan.now.bytes) }
+    requires long { AreLong plan.now blocks.old }
+    requires fits { Fits m.now plan.now }
     requires version { rv ≤ 3 }
     requires values { length softs.now ≡ m.now.g }
-    ensures cells { (r : ℕ) → r < plan.now.c →
-        (s : Bit) → IsBit (size (plan_of plan.now.bytes) r) s →
-        cell_of (size (plan_of plan.now.bytes) r) (cells_of_block blocks.new r) s
-        ≡ fold added (cell_of (size (plan_of plan.now.bytes) r) (cells_of_block blocks.old r) s)
-        (values_of (plan_of plan.now.bytes) (reception m.now rv softs.now) r s) }
+    ensures cells { (r : ℕ) → r < plan.now.c → (s : Bit) → IsBit (size plan.now r) s →
+        cell_of (size plan.now r) (cells_of_block blocks.new r) s
+        ≡ fold added (cell_of (size plan.now r) (cells_of_block blocks.old r) s)
+        (values_of plan.now (reception m.now rv softs.now) r s) }
     ensures count { length blocks.new ≡ plan.now.c }
-    ensures long { AreLong (plan_of plan.now.bytes) blocks.new }
+    ensures long { AreLong plan.now blocks.new }
 {
     let mut rest = softs;
     for r in 0..plan.c {

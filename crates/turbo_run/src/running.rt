@@ -1,7 +1,7 @@
 //! The top calls.
 ghost use Rattle.std.specs.Prelude.{◌≡◌, ◌≤◌, IfOk};
 ghost use Rattle.receiver_model.specs.TransportBlocks.{outcome};
-ghost use Rattle.block_receive.specs.Effort.{plan_in, effort_in};
+ghost use Rattle.block_receive.specs.Effort.{effort_in};
 ghost use Rattle.block_receive.specs.Receptions.{receptions};
 ghost use Rattle.run_loop.specs.Edges.{edges};
 ghost use Rattle.turbo_run.specs.Run.{Runs};
@@ -67,7 +67,7 @@ pub fn run_alone<S: Source, D: Sink, R: Sink>(
 {
     let receive = |alloc: Global, task: &Task, workers: usize, sends: &Sends, softs: &[Soft]| -> Received
         requires { AreReceived task.now workers sends.now softs.now }
-        ensures { IfOk result (λ o. o ≡ outcome (plan_in task.now) (effort_in task.now)
+        ensures { IfOk result (λ o. o ≡ outcome task.now.plan (effort_in task.now)
             (receptions sends.now softs.now)) }
     {
         receive_alone(
@@ -99,7 +99,7 @@ pub fn run_gated<H: Threads + Wait + Sync, S: Source, D: Sink, R: Sink, G: Gate 
 {
     let receive = |alloc: Global, task: &Task, workers: usize, sends: &Sends, softs: &[Soft]| -> Received
         requires { AreReceived task.now workers sends.now softs.now }
-        ensures { IfOk result (λ o. o ≡ outcome (plan_in task.now) (effort_in task.now)
+        ensures { IfOk result (λ o. o ≡ outcome task.now.plan (effort_in task.now)
             (receptions sends.now softs.now)) }
     {
         let Task { plan, effort } = *task;

@@ -1,6 +1,7 @@
 use Rattle.std.proofs.Common.{◌≡◌, ◌≤◌, ◌+◌, ℕ, suc, ◌<◌, Bool, true, false, List, [], All, length, take, drop, refl, sym, ap, ◌∙◌, subst, arith}
 use Rattle.std.specs.Prelude.{◌&&◌}
 use Rattle.rate_match.specs.declared.sends.Sending.{Sending}
+use Rattle.segmentation.specs.Plans.{IsPlan}
 use Rattle.rate_match.specs.Sendings.{common}
 use Rattle.receiver_model.specs.SoftCells.{Reception}
 use Rattle.receiver_model.specs.declared.result.CheckKind.TheVariants.{A}
@@ -8,7 +9,7 @@ use Rattle.receiver_model.specs.declared.result.TbOutcome.TheVariants.{Delivered
 use Rattle.receiver_model.specs.Decoding.{check_holds}
 use Rattle.receiver_model.specs.TransportBlocks.{Effort, all_passed, delivers, iterations_of, payload_of, results_in, whole_of}
 use Rattle.soft_buffers.specs.Buffers.{Buffers}
-use Rattle.block_receive.specs.Effort.{plan_in, effort_in}
+use Rattle.block_receive.specs.Effort.{effort_in}
 use Rattle.block_receive.specs.Receptions.{receptions}
 use Rattle.block_receive.proofs.Taken.{AreTaken, all-at, hold-more, receptions-long, taken-more}
 use Rattle.block_receive.proofs.TriedResults.{IsTold, IsTransmission, delivers-is, keeps-none, keeps-passed, transmission-is}
@@ -26,8 +27,8 @@ loop-i-init g c = record {
   plan = c.in_ok-buffers.ensures.plan;
   limit = c.in_ok-buffers.ensures.limit ∙ c.buffer.ensures.value;
   hold = c.in_ok-buffers.ensures.cells;
-  count = ap length (c.in_ok-results.ensures) ∙ length-replicate c.args.task.now.plan.c unpassed;
-  keeps = keeps-none c.args.task.now.plan.c c.in_ok-results.results.items [] c.in_ok-results.ensures refl;
+  count = ap length (c.in_ok-results.ensures) ∙ length-replicate c.plan.inside.c unpassed ∙ ap (λ (p : Plan). p.c) c.plan.view_is;
+  keeps = keeps-none c.plan.inside.c c.in_ok-results.results.items [] c.in_ok-results.ensures refl;
   total = refl;
   taken = record { later = refl; long = c.requires.values };
   failed = λ t some none. absurd (let no : ⊥ = omega (arith, some, none) in no);
@@ -67,7 +68,7 @@ total_iterations-iterations-requires-clause-count g c =
     let b : Buffers = c.combine.new.self in
     let new : List CodeResult = c.in_ok-results-2.results.items in
     let told : IsTold c.args.task.now s c.loop-i.rest.now c.g.result c.split_at.result.0.now c.loop-i.buffers b c.loop-i.results.items new =
-    record { front = c.split_at.ensures.front; count = c.g.ensures.value; combined = c.combine.ensures.cells; is = c.in_ok-results-2.ensures } in
+    record { lawful = subst IsPlan c.plan.view_is c.plan.invariant; front = c.split_at.ensures.front; count = c.g.ensures.value; combined = c.combine.ensures.cells; is = c.in_ok-results-2.ensures } in
     let inv = c.loop-i.invariant in
     let t : IsTransmission c.args.task.now c.args.sends.now c.args.softs.now c.loop-i.i c.loop-i.rest.now s b new =
     transmission-is c.args.task.now c.args.sends.now c.args.softs.now c.loop-i.i c.loop-i.rest.now s c.g.result c.split_at.result.0.now c.loop-i.buffers b c.loop-i.results.items new
@@ -81,7 +82,7 @@ total_iterations-iterations-requires-clause-few g c =
     let b : Buffers = c.combine.new.self in
     let new : List CodeResult = c.in_ok-results-2.results.items in
     let told : IsTold c.args.task.now s c.loop-i.rest.now c.g.result c.split_at.result.0.now c.loop-i.buffers b c.loop-i.results.items new =
-    record { front = c.split_at.ensures.front; count = c.g.ensures.value; combined = c.combine.ensures.cells; is = c.in_ok-results-2.ensures } in
+    record { lawful = subst IsPlan c.plan.view_is c.plan.invariant; front = c.split_at.ensures.front; count = c.g.ensures.value; combined = c.combine.ensures.cells; is = c.in_ok-results-2.ensures } in
     let inv = c.loop-i.invariant in
     let t : IsTransmission c.args.task.now c.args.sends.now c.args.softs.now c.loop-i.i c.loop-i.rest.now s b new =
     transmission-is c.args.task.now c.args.sends.now c.args.softs.now c.loop-i.i c.loop-i.rest.now s c.g.result c.split_at.result.0.now c.loop-i.buffers b c.loop-i.results.items new
@@ -94,7 +95,7 @@ join-requires g c =
     let b : Buffers = c.combine.new.self in
     let new : List CodeResult = c.in_ok-results-2.results.items in
     let told : IsTold c.args.task.now s c.loop-i.rest.now c.g.result c.split_at.result.0.now c.loop-i.buffers b c.loop-i.results.items new =
-    record { front = c.split_at.ensures.front; count = c.g.ensures.value; combined = c.combine.ensures.cells; is = c.in_ok-results-2.ensures } in
+    record { lawful = subst IsPlan c.plan.view_is c.plan.invariant; front = c.split_at.ensures.front; count = c.g.ensures.value; combined = c.combine.ensures.cells; is = c.in_ok-results-2.ensures } in
     let inv = c.loop-i.invariant in
     let t : IsTransmission c.args.task.now c.args.sends.now c.args.softs.now c.loop-i.i c.loop-i.rest.now s b new =
     transmission-is c.args.task.now c.args.sends.now c.args.softs.now c.loop-i.i c.loop-i.rest.now s c.g.result c.split_at.result.0.now c.loop-i.buffers b c.loop-i.results.items new
@@ -107,12 +108,12 @@ returns-then-joined g c =
     let b : Buffers = c.combine.new.self in
     let new : List CodeResult = c.in_ok-results-2.results.items in
     let told : IsTold c.args.task.now s c.loop-i.rest.now c.g.result c.split_at.result.0.now c.loop-i.buffers b c.loop-i.results.items new =
-    record { front = c.split_at.ensures.front; count = c.g.ensures.value; combined = c.combine.ensures.cells; is = c.in_ok-results-2.ensures } in
+    record { lawful = subst IsPlan c.plan.view_is c.plan.invariant; front = c.split_at.ensures.front; count = c.g.ensures.value; combined = c.combine.ensures.cells; is = c.in_ok-results-2.ensures } in
     let inv = c.loop-i.invariant in
     let t : IsTransmission c.args.task.now c.args.sends.now c.args.softs.now c.loop-i.i c.loop-i.rest.now s b new =
     transmission-is c.args.task.now c.args.sends.now c.args.softs.now c.loop-i.i c.loop-i.rest.now s c.g.result c.split_at.result.0.now c.loop-i.buffers b c.loop-i.results.items new
     inv.taken c.at-m.ensures.value inv.hold inv.keeps told in
-    let p : Plan = plan_in c.args.task.now in
+    let p : Plan = c.args.task.now.plan in
     let e : Effort = effort_in c.args.task.now in
     let all : List Reception = receptions c.args.sends.now c.args.softs.now in
     let i : ℕ = c.loop-i.i in
@@ -133,12 +134,12 @@ loop-i-preserved g c =
     let b : Buffers = c.combine.new.self in
     let new : List CodeResult = c.in_ok-results-2.results.items in
     let told : IsTold c.args.task.now s c.loop-i.rest.now c.g.result c.split_at.result.0.now c.loop-i.buffers b c.loop-i.results.items new =
-    record { front = c.split_at.ensures.front; count = c.g.ensures.value; combined = c.combine.ensures.cells; is = c.in_ok-results-2.ensures } in
+    record { lawful = subst IsPlan c.plan.view_is c.plan.invariant; front = c.split_at.ensures.front; count = c.g.ensures.value; combined = c.combine.ensures.cells; is = c.in_ok-results-2.ensures } in
     let inv = c.loop-i.invariant in
     let t : IsTransmission c.args.task.now c.args.sends.now c.args.softs.now c.loop-i.i c.loop-i.rest.now s b new =
     transmission-is c.args.task.now c.args.sends.now c.args.softs.now c.loop-i.i c.loop-i.rest.now s c.g.result c.split_at.result.0.now c.loop-i.buffers b c.loop-i.results.items new
     inv.taken c.at-m.ensures.value inv.hold inv.keeps told in
-    let p : Plan = plan_in c.args.task.now in
+    let p : Plan = c.args.task.now.plan in
     let e : Effort = effort_in c.args.task.now in
     let all : List Reception = receptions c.args.sends.now c.args.softs.now in
     let i : ℕ = c.loop-i.i in
@@ -151,7 +152,7 @@ loop-i-preserved g c =
     c.total_iterations-iterations.ensures ∙ ap iterations_of (c.as_slice.ensures.value ∙ same) in
     elim c.if-all_passed.branch [
       | then-all_passed+in_ok-joined+else-joined+in_ok-results-3 w ↦
-          let is : c.if-all_passed.results.items ≡ none_of c.args.task.now.plan.c = ap (λ v. v.items) w.results-is ∙ w.in_ok-results-3.ensures in
+          let is : c.if-all_passed.results.items ≡ none_of c.plan.inside.c = ap (λ v. v.items) w.results-is ∙ w.in_ok-results-3.ensures in
           let whole : check_holds A (whole_of p new) ≡ false = check-is w.in_ok-joined.joined.holds A (whole_of p new) w.in_ok-joined.ensures.holds ∙ w.if-joined.false in
           let all_true : all_passed new ≡ true = passed ∙ w.if-all_passed.true in
           let here : delivers p (results_in p e all (suc i)) ≡ false = ap (delivers p) (sym t.tried.is) ∙ delivers-is p new true false all_true whole in
@@ -159,8 +160,8 @@ loop-i-preserved g c =
             plan = c.combine.ensures.plan ∙ inv.plan;
             limit = c.combine.ensures.limit ∙ inv.limit;
             hold = t.hold;
-            count = ap length is ∙ length-replicate c.args.task.now.plan.c unpassed;
-            keeps = keeps-none c.args.task.now.plan.c c.if-all_passed.results.items (results_in p e all (i + 1)) is (ap all_passed (sym same) ∙ all_true);
+            count = ap length is ∙ length-replicate c.plan.inside.c unpassed ∙ ap (λ (p : Plan). p.c) c.plan.view_is;
+            keeps = keeps-none c.plan.inside.c c.if-all_passed.results.items (results_in p e all (i + 1)) is (ap all_passed (sym same) ∙ all_true);
             total = total;
             taken = taken;
             failed = none-more p e all i inv.failed here;
@@ -183,7 +184,7 @@ loop-i-preserved g c =
 
 pub returns : goal.returns
 returns g c =
-    let p : Plan = plan_in c.args.task.now in
+    let p : Plan = c.args.task.now.plan in
     let e : Effort = effort_in c.args.task.now in
     let all : List Reception = receptions c.args.sends.now c.args.softs.now in
     let inv = c.loop-i.invariant in

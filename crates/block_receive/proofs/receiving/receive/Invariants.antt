@@ -2,7 +2,7 @@ use Rattle.std.proofs.Common.{◌≡◌, length, take}
 use Rattle.rate_match.specs.Sendings.{common}
 use Rattle.receiver_model.specs.TransportBlocks.{iterations_of, results_in}
 use Rattle.soft_buffers.specs.Buffers.{Hold}
-use Rattle.block_receive.specs.Effort.{plan_in, effort_in}
+use Rattle.block_receive.specs.Effort.{effort_in}
 use Rattle.block_receive.specs.Receptions.{receptions}
 use Rattle.block_receive.proofs.Outcomes.{NoneDelivers}
 use Rattle.block_receive.proofs.Taken.{AreTaken}
@@ -11,12 +11,12 @@ use Rattle.block_receive.proofs.receiving.receive.Given as goal
 
 abbrev pub invariant-loop-i : goal.invariant-loop-i
 invariant-loop-i g l = record {
-  plan : l.buffers.plan ≡ plan_in l.task;
+  plan : l.buffers.plan ≡ l.task.plan;
   limit : l.buffers.limit ≡ (common l.sends).limit;
   hold : Hold l.buffers (take l.i (receptions l.sends l.softs));
   count : length l.results.items ≡ l.task.plan.c;
-  keeps : Keeps l.results.items (results_in (plan_in l.task) (effort_in l.task) (receptions l.sends l.softs) l.i);
-  total : l.iterations ≡ iterations_of (results_in (plan_in l.task) (effort_in l.task) (receptions l.sends l.softs) l.i);
+  keeps : Keeps l.results.items (results_in l.task.plan (effort_in l.task) (receptions l.sends l.softs) l.i);
+  total : l.iterations ≡ iterations_of (results_in l.task.plan (effort_in l.task) (receptions l.sends l.softs) l.i);
   taken : AreTaken l.sends l.softs l.i l.rest;
-  failed : NoneDelivers (plan_in l.task) (effort_in l.task) (receptions l.sends l.softs) l.i;
+  failed : NoneDelivers l.task.plan (effort_in l.task) (receptions l.sends l.softs) l.i;
 }

@@ -3,7 +3,7 @@ use Rattle.lte_bits.specs.declared.block.Block.{Block}
 use Rattle.lte_bits.specs.declared.block.Streams.{Streams}
 use Rattle.sender_model.specs.CircularBuffer.{AreStreams}
 use Rattle.sender_model.specs.CodedStreams.{streams}
-use Rattle.sender_model.specs.Segmentation.{Plan, plan_of, size, fill}
+use Rattle.sender_model.specs.Segmentation.{Plan, size, fill}
 use Rattle.sender_model.proofs.StreamNulls.{streams-nulls}
 use Rattle.rate_match.proofs.BlockNumbers.{block-numbers}
 use Rattle.program_tests.proofs.soft_blocks.sent_values.Goals as goal
@@ -15,12 +15,11 @@ placed b k f size fill below =
 
 pub select-requires-clause-streams : goal.select-requires-clause-streams
 select-requires-clause-streams g c =
-    let plan = c.in_ok-plan.plan in
-    let p : Plan = plan_of plan.bytes in
+    let plan : Plan = c.in_ok-plan.plan in
     let r : ℕ = c.args.r in
-    let below : r < plan.c = omega arith in
-    let block = block-numbers plan.bytes r plan.some plan.few (omega (arith, below, plan.block_count)) in
+    let below : r < plan.c = omega (arith, ap (λ (p : Plan). p.c) c.plan.view_is) in
+    let block = block-numbers plan r c.size.ensures.lawful below in
     let b : Block = record { fill = c.fill.result; bits = c.from_vec.result } in
     let long : length c.from_vec.result ≡ c.size.result = omega (arith, ap length c.as_slice.ensures) in
-    subst (λ (s : Streams). AreStreams (size p r) (fill p r) s) (sym c.in_ok-streams.ensures)
-    (placed b (size p r) (fill p r) (long ∙ c.size.ensures) c.fill.ensures block.fills)
+    subst (λ (s : Streams). AreStreams (size plan r) (fill plan r) s) (sym c.in_ok-streams.ensures)
+    (placed b (size plan r) (fill plan r) (long ∙ c.size.ensures.value) c.fill.ensures block.fills)

@@ -11,10 +11,9 @@ tells : (c : goal.After-fits_plan) → (IsTrue c.fits_plan.result → FitsAll c.
 tells c =
     let m = c.args.m.now in
     let tb : ℕ = c.args.tb in
-    let is : c.in-Ok.plan.bytes ≡ tb = c.in-Ok.ensures.bytes in
-    let P : ℕ → Type 0 = λ n. Fits m (plan_of n) in (
-      λ yes bytes some few. fits_fewer m.limit bytes tb some few c.requires.few (subst P is (c.fits_plan.ensures.0 yes)),
-      λ fits. c.fits_plan.ensures.1 (subst P (sym is) (fits tb c.requires.some (omega arith))),
+    let is : c.in-Ok.plan ≡ plan_of tb = c.in-Ok.ensures.numbers in (
+      λ yes bytes some few. fits_fewer m.limit bytes tb some few c.requires.few (subst (Fits m) is (c.fits_plan.ensures.0 yes)),
+      λ fits. c.fits_plan.ensures.1 (subst (Fits m) (sym is) (fits tb c.requires.some (omega arith))),
     )
 
 pub returns-clause-fits : goal.returns-clause-fits

@@ -1,11 +1,10 @@
 use Rattle.std.proofs.Common.{◌≡◌, map, drop}
 use Rattle.std.specs.List.{range_with_len}
-use Rattle.sender_model.specs.Segmentation.{plan_of}
 use Rattle.sender_model.specs.CodeBlocks.{before, block, sequence}
 use Rattle.segmentation.proofs.cutting.cut.Given as goal
 
 abbrev pub invariant-loop-r : goal.invariant-loop-r
 invariant-loop-r l = record {
-  rest : l.rest ≡ drop (before (plan_of l.plan.bytes) l.r) (sequence (plan_of l.plan.bytes) l.fn.payload);
-  made : l.code_blocks.items ≡ map (block (plan_of l.plan.bytes) l.fn.payload) (range_with_len 0 l.r);
+  rest : l.rest ≡ drop (before l.plan l.r) (sequence l.plan l.fn.payload);
+  made : l.code_blocks.items ≡ map (block l.plan l.fn.payload) (range_with_len 0 l.r);
 }

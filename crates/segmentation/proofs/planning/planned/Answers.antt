@@ -1,7 +1,8 @@
-use Rattle.std.proofs.Common.{◌≡◌, ◌≤◌, ℕ, ◌+◌, ◌*◌, ap, ◌∙◌, arith}
+use Rattle.std.proofs.Common.{◌≡◌, ◌≤◌, ℕ, ◌+◌, ◌*◌, sym, ap, ◌∙◌, arith}
 use Rattle.sender_model.specs.Segmentation.{count_of, check_length, larger_size, smaller_size, plan_of}
-use Rattle.sender_model.proofs.PlanLaws.{plan-sound}
+use Rattle.sender_model.proofs.PlanLaws.{plan-bytes, plan-sound}
 use Rattle.segmentation.proofs.Computed.{AreThePlan, are_the_plan, count_at, plan-small, count-is, carried-is, larger-is, smaller-is, smaller_count-is}
+use Rattle.segmentation.proofs.OfPlans.{same_plan}
 use Rattle.segmentation.proofs.planning.planned.Goals as goal
 
 pub smaller_size-k_minus-requires : goal.smaller_size-k_minus-requires
@@ -69,10 +70,10 @@ invariant_of-result c =
     record {
       some = c.requires.some;
       few = c.requires.few;
-      block_count = plan.blocks;
-      larger_size = plan.larger_size;
-      smaller_size = plan.smaller_size;
-      larger = plan.larger;
-      smaller = plan.smaller;
-      fillers = plan.fillers;
+      planned = same_plan _ (plan_of c.args.bytes) (sym (plan-bytes c.args.bytes)) plan.blocks plan.larger_size plan.smaller_size plan.larger plan.smaller plan.fillers;
     }
+
+pub returns-clause-numbers : goal.returns-clause-numbers
+returns-clause-numbers c =
+    let plan = the_plan c in
+    same_plan _ (plan_of c.args.bytes) (sym (plan-bytes c.args.bytes)) plan.blocks plan.larger_size plan.smaller_size plan.larger plan.smaller plan.fillers

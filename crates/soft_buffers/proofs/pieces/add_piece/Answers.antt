@@ -1,9 +1,9 @@
 use Rattle.std.proofs.Common.{◌≡◌, ℕ, length, Contains, subst, sym, arith}
 use Rattle.sender_model.specs.Interleaver.{sizes}
-use Rattle.sender_model.specs.Segmentation.{Plan, plan_of}
+use Rattle.sender_model.specs.Segmentation.{Plan}
 use Rattle.sender_model.specs.Selection.{bits_from, holds_bit}
 use Rattle.sender_model.proofs.SelectionLaws.{fitting_bit}
-use Rattle.soft_buffers.proofs.Fresh.{block_of}
+use Rattle.rate_match.proofs.BlockNumbers.{block-numbers}
 use Rattle.soft_buffers.proofs.pieces.add_piece.Goals as goal
 
 same_kept : {k l f g n m : ℕ} (a : ℕ) → k ≡ l → f ≡ g → n ≡ m → length (bits_from (holds_bit k f) a n) ≡ length (bits_from (holds_bit l g) a m)
@@ -11,17 +11,16 @@ same_kept a size fill places i = length (bits_from (holds_bit (size i) (fill i))
 
 pub start-requires-clause-size : goal.start-requires-clause-size
 start-requires-clause-size c =
-    let plan = c.args.plan.now in
-    let block = block_of plan.bytes plan.c c.args.r plan.some plan.few plan.block_count c.requires.block in
+    let plan : Plan = c.args.plan.now in
+    let block = block-numbers plan c.args.r c.ring_of-ring.ensures.lawful c.requires.block in
     subst (λ (k : ℕ). Contains sizes k) (sym c.ring_of-ring.ensures.size) block.inside
 
 pub add_values-requires-clause-some : goal.add_values-requires-clause-some
 add_values-requires-clause-some c =
-    let plan = c.args.plan.now in
-    let p : Plan = plan_of plan.bytes in
-    let block = block_of plan.bytes plan.c c.args.r plan.some plan.few plan.block_count c.requires.block in
+    let plan : Plan = c.args.plan.now in
+    let block = block-numbers plan c.args.r c.ring_of-ring.ensures.lawful c.requires.block in
     omega (
       arith,
-      fitting_bit p c.args.m.now c.args.r c.start.result (omega (arith, block.fills)) block.larger c.requires.fits,
+      fitting_bit plan c.args.m.now c.args.r c.start.result (omega (arith, block.fills)) block.larger c.requires.fits,
       same_kept c.start.result c.ring_of-ring.ensures.size c.ring_of-ring.ensures.fillers c.ring_of-ring.ensures.places,
     )

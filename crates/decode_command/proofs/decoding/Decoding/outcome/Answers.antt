@@ -1,9 +1,6 @@
-use Rattle.std.proofs.Common.{◌≡◌, ℕ, IfOk, ap, sym, subst, ◌∙◌, length}
-use Rattle.std.specs.declared.result.Result.{Result}
-use Rattle.segmentation.specs.declared.planning.BadLength.{BadLength}
-use Rattle.segmentation.specs.declared.plans.Plan.{Plan}
+use Rattle.std.proofs.Common.{◌≡◌, ap, sym, subst, ◌∙◌, length}
 use Rattle.sender_model.specs.CircularBuffer.{FitsIn}
-use Rattle.sender_model.specs.Segmentation.{plan_of}
+use Rattle.sender_model.specs.Segmentation.{Plan, plan_of}
 use Rattle.rate_match.specs.Sendings.{common}
 use Rattle.rate_match.proofs.FitTest.{fits_all-true}
 use Rattle.decode_command.proofs.Values.{softs_counted}
@@ -13,9 +10,8 @@ pub receive-requires : goal.receive-requires
 receive-requires g c =
     let h = c.args.header.now in
     let a = c.requires.accepted in
-    let P : ℕ → Type 0 = λ n. FitsIn (common h.sends).limit (plan_of n).c (plan_of n).k_plus in
-    let B : Result Plan BadLength → Type 0 = λ r. IfOk r (λ plan. plan.bytes ≡ c.args.payload) in
-    let same : c.unwrap.result.bytes ≡ c.args.payload = subst B c.unwrap.ensures c.plan.ensures.bytes in
+    let P : Plan → Type 0 = λ plan. FitsIn (common h.sends).limit plan.c plan.k_plus in
+    let same : c.unwrap.result ≡ plan_of c.args.payload = rw c.unwrap.ensures at c.plan.ensures.numbers in
     c.requires.takes _ _ _ _ _ (record {
       fits = subst P (sym same) (fits_all-true (common h.sends).limit h.tb h.fits c.args.payload a.some a.few);
       values = ap length (c.as_slice.ensures ∙ c.in_ok-softs.ensures) ∙ softs_counted h.kind h.sends c.args.bytes.now c.requires.soft a.sent;

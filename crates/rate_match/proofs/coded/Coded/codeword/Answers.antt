@@ -5,7 +5,7 @@ use Rattle.lte_bits.specs.declared.block.Streams.{Streams}
 use Rattle.sender_model.specs.Segmentation.{Plan, plan_of, size, fill}
 use Rattle.sender_model.specs.CodeBlocks.{block}
 use Rattle.sender_model.specs.CodedStreams.{streams}
-use Rattle.sender_model.specs.CircularBuffer.{AreStreams}
+use Rattle.sender_model.specs.CircularBuffer.{AreStreams, Fits}
 use Rattle.sender_model.specs.Selection.{sent}
 use Rattle.sender_model.specs.Codeword.{codeword}
 use Rattle.sender_model.proofs.PlanLaws.{plan-sound}
@@ -16,48 +16,47 @@ use Rattle.rate_match.proofs.CodedPayload.{streams-at, streams-count}
 use Rattle.rate_match.proofs.coded.Coded.codeword.Goals as goal
 
 -- the loop goes over the streams of the payload, whose plan it has
-record IsOver (payload : List ℕ) (bytes c : ℕ) (all : List Streams) : Type 0 where
-  same : bytes ≡ length payload
-  count : c ≡ (plan_of (length payload)).c
+record IsOver (p : Plan) (payload : List ℕ) (all : List Streams) : Type 0 where
+  planned : p ≡ plan_of (length payload)
   of : AreStreamsOf payload all
 
-is_over : (payload view : List ℕ) (bytes c : ℕ) (all lent : List Streams) → view ≡ payload → AreStreamsOf view all → lent ≡ all → bytes ≡ length view → c ≡ (plan_of bytes).c → IsOver payload bytes c lent
-is_over payload view bytes c all lent is of lends same count =
-    let whole : bytes ≡ length payload = same ∙ ap length is in
+is_over : (p : Plan) (payload view : List ℕ) (all lent : List Streams) → view ≡ payload → AreStreamsOf view all → lent ≡ all → p ≡ plan_of (length view) → IsOver p payload lent
+is_over p payload view all lent is of lends planned =
     record {
-      same = whole;
-      count = count ∙ ap (λ n. (plan_of n).c) whole;
+      planned = planned ∙ ap (λ (xs : List ℕ). plan_of (length xs)) is;
       of = subst (λ (list : List Streams). AreStreamsOf payload list) (sym lends) (subst (λ (xs : List ℕ). AreStreamsOf xs all) is of);
     }
 
 pub push_piece-requires-clause-block : goal.push_piece-requires-clause-block
 push_piece-requires-clause-block c =
-    let plan = c.unwrap-plan.result in
     let all = c.deref-streams-items.result.now in
-    let over = is_over c.args.self.now c.self.inside.payload.now plan.bytes plan.c c.self.inside.streams.items all c.self.view_is c.self.invariant c.deref-streams-items.ensures.value (rw c.unwrap-plan.ensures at c.plan.ensures.bytes) plan.block_count in
-    omega (arith, over.count, (streams-at c.args.self.now all c.loop-r.r c.streams-item.result over.of c.loop-r-test.true c.streams-item.is).below)
+    let over = is_over c.unwrap-plan.result c.args.self.now c.self.inside.payload.now c.self.inside.streams.items c.deref-streams-items.result.now c.self.view_is c.self.invariant c.deref-streams-items.ensures.value (rw c.unwrap-plan.ensures at c.plan.ensures.numbers) in
+    omega (arith, ap (λ (q : Plan). q.c) over.planned, (streams-at c.args.self.now all c.loop-r.r c.streams-item.result over.of c.loop-r-test.true c.streams-item.is).below)
 
 pub push_piece-requires-clause-streams : goal.push_piece-requires-clause-streams
 push_piece-requires-clause-streams c =
-    let plan = c.unwrap-plan.result in
     let all = c.deref-streams-items.result.now in
     let r : ℕ = c.loop-r.r in
-    let over = is_over c.args.self.now c.self.inside.payload.now plan.bytes plan.c c.self.inside.streams.items all c.self.view_is c.self.invariant c.deref-streams-items.ensures.value (rw c.unwrap-plan.ensures at c.plan.ensures.bytes) plan.block_count in
-    subst (λ (n : ℕ). AreStreams (size (plan_of n) r) (fill (plan_of n) r) c.streams-item.result) (sym over.same)
+    let over = is_over c.unwrap-plan.result c.args.self.now c.self.inside.payload.now c.self.inside.streams.items c.deref-streams-items.result.now c.self.view_is c.self.invariant c.deref-streams-items.ensures.value (rw c.unwrap-plan.ensures at c.plan.ensures.numbers) in
+    subst (λ (q : Plan). AreStreams (size q r) (fill q r) c.streams-item.result) (sym over.planned)
     (streams-at c.args.self.now all r c.streams-item.result over.of c.loop-r-test.true c.streams-item.is).are
+
+pub push_piece-requires-clause-fits : goal.push_piece-requires-clause-fits
+push_piece-requires-clause-fits c =
+    let over = is_over c.unwrap-plan.result c.args.self.now c.self.inside.payload.now c.self.inside.streams.items c.deref-streams-items.result.now c.self.view_is c.self.invariant c.deref-streams-items.ensures.value (rw c.unwrap-plan.ensures at c.plan.ensures.numbers) in
+    subst (Fits c.args.m.now) (sym over.planned) c.requires.fits
 
 pub loop-r-preserved : goal.loop-r-preserved
 loop-r-preserved c =
     let payload = c.args.self.now in
-    let plan = c.unwrap-plan.result in
     let all = c.deref-streams-items.result.now in
     let p : Plan = plan_of (length payload) in
     let m = c.args.m.now in
     let r : ℕ = c.loop-r.r in
-    let over = is_over payload c.self.inside.payload.now plan.bytes plan.c c.self.inside.streams.items all c.self.view_is c.self.invariant c.deref-streams-items.ensures.value (rw c.unwrap-plan.ensures at c.plan.ensures.bytes) plan.block_count in
+    let over = is_over c.unwrap-plan.result c.args.self.now c.self.inside.payload.now c.self.inside.streams.items c.deref-streams-items.result.now c.self.view_is c.self.invariant c.deref-streams-items.ensures.value (rw c.unwrap-plan.ensures at c.plan.ensures.numbers) in
     let at = streams-at payload all r c.streams-item.result over.of c.loop-r-test.true c.streams-item.is in
     c.in_ok-push_piece.ensures
-    ∙ ap (λ (n : ℕ). c.loop-r.bits.items ++ sent (plan_of n) m c.streams-item.result r c.args.rv) over.same
+    ∙ ap (λ (q : Plan). c.loop-r.bits.items ++ sent q m c.streams-item.result r c.args.rv) over.planned
     ∙ ap (λ (s : Streams). c.loop-r.bits.items ++ sent p m s r c.args.rv) at.is
     ∙ ap (λ (bits : List Bit). bits ++ sent p m (streams (block p payload r)) r c.args.rv) c.loop-r.invariant
     ∙ sym (flat_map-more (λ i. sent p m (streams (block p payload i)) i c.args.rv) r)
@@ -66,10 +65,9 @@ pub returns-clause-codeword : goal.returns-clause-codeword
 unfolding codeword
 returns-clause-codeword c =
     let payload = c.args.self.now in
-    let plan = c.unwrap-plan.result in
     let lent = c.deref-streams-items.result.now in
     let p : Plan = plan_of (length payload) in
-    let over = is_over payload c.self.inside.payload.now plan.bytes plan.c c.self.inside.streams.items lent c.self.view_is c.self.invariant c.deref-streams-items.ensures.value (rw c.unwrap-plan.ensures at c.plan.ensures.bytes) plan.block_count in
+    let over = is_over c.unwrap-plan.result c.args.self.now c.self.inside.payload.now c.self.inside.streams.items c.deref-streams-items.result.now c.self.view_is c.self.invariant c.deref-streams-items.ensures.value (rw c.unwrap-plan.ensures at c.plan.ensures.numbers) in
     let all : c.loop-r.r ≡ p.c = omega (arith, c.loop-r-test.false, c.loop-r.auto.r-end, streams-count payload lent over.of) in
     c.from_vec.ensures ∙ c.loop-r.invariant
     ∙ ap (λ (n : ℕ). flat_map (λ i. sent p c.args.m.now (streams (block p payload i)) i c.args.rv) (range_with_len 0 n)) all
