@@ -4,6 +4,12 @@
 #[cfg(test)]
 mod block;
 #[cfg(test)]
+mod lane_rows;
+#[cfg(test)]
+mod lanes;
+#[cfg(test)]
+mod mixed;
+#[cfg(test)]
 mod noise;
 #[cfg(test)]
 mod points;

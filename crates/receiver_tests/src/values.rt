@@ -1,11 +1,12 @@
-//! A strip over lists, for windows by themselves.
+//! A strip over lists, for windows by themselves, and the numbers of borders.
 ghost use Rattle.std.specs.Prelude.{◌≡◌, length};
 ghost use Rattle.lte_bits.specs.Softs.{IsWithin};
 
 use lte_bits::{NoMemory, Soft};
+use rsc_trellis::State;
 use std::alloc::Global;
 use std::process::Abort;
-use window_decode::{Ext, Strip};
+use window_decode::{Border, Ext, Strip};
 
 /// A strip over lists.
 #[derive(Drop)]
@@ -75,4 +76,15 @@ pub fn exts(alloc: Global, numbers: &[i16]) -> Result<Vec<Ext>, NoMemory> {
         cells.push(ext((*number).clamp(-511, 511), false))?;
     }
     Ok(cells)
+}
+
+/// Whether a border has these numbers, in order of the states' numbers.
+pub fn has_numbers(border: Border, want: [i16; 8]) -> bool {
+    for (n, number) in (0..8).zip(want) {
+        match State::new(n) {
+            Some(state) if border.value(state) == number => {}
+            _ => return false,
+        }
+    }
+    true
 }

@@ -2,7 +2,8 @@
 //! program, which was compared with all paths.
 ghost use Rattle.std.specs.Prelude.{◌≤◌};
 
-use crate::values::{Values, ext, exts, softs, strip};
+use crate::mixed;
+use crate::values::{Values, ext, exts, has_numbers, softs, strip};
 use lte_bits::{NoMemory, Soft};
 use rsc_trellis::State;
 use std::alloc::Global;
@@ -25,17 +26,6 @@ fn decode(
     let borders = run_window(&mut work, &Border::known(), &Border::unknown(), values);
     assert_eq!(rt; work.room(), room);
     Ok(borders)
-}
-
-/// Whether a border has these numbers, in order of the states' numbers.
-fn has_numbers(border: Border, want: [i16; 8]) -> bool {
-    for (n, number) in (0..8).zip(want) {
-        match State::new(n) {
-            Some(state) if border.value(state) == number => {}
-            _ => return false,
-        }
-    }
-    true
 }
 
 #[test]
@@ -83,19 +73,17 @@ fn the_greatest_values_stay_within_the_cells(rt: HostRuntime) -> Result<(), Fail
 fn mixed_values_give_the_cells_of_an_independent_program(rt: HostRuntime) -> Result<(), Fail> {
     let mut values = strip(
         &rt,
-        softs(rt.alloc(), &[-122, -74, 48, -11, 4, 93, 1, -17])?,
-        softs(rt.alloc(), &[-37, 45, -22, 17, -93, -97, 5, -42])?,
-        exts(rt.alloc(), &[-211, -43, 327, -124, -373, -420, -265, 92])?,
+        softs(rt.alloc(), &mixed::SYSTEMATIC)?,
+        softs(rt.alloc(), &mixed::PARITY)?,
+        exts(rt.alloc(), &mixed::OLD_CELLS)?,
     );
     let (forward, backward) = decode(&rt, rt.alloc(), &mut values, 16)?;
-    let want = [-28, -42, 81, -126, -57, -37, 35, -31];
-    let ones = [true, true, false, true, true, true, true, false];
     for (j, cell) in values.cells.iter().enumerate() {
-        assert_eq!(rt; Some(&cell.value), want.get(j), "position {j}");
-        assert_eq!(rt; Some(&cell.one), ones.get(j), "position {j}");
+        assert_eq!(rt; Some(&cell.value), mixed::NEW_CELLS.get(j), "position {j}");
+        assert_eq!(rt; Some(&cell.one), mixed::ONES.get(j), "position {j}");
     }
-    assert!(rt; has_numbers(forward, [0, 119, 162, 336, 33, 11, 45, 303]));
-    assert!(rt; has_numbers(backward, [0, -1, -110, -49, -115, -70, -96, -150]));
+    assert!(rt; has_numbers(forward, mixed::FORWARD));
+    assert!(rt; has_numbers(backward, mixed::BACKWARD));
     Ok(())
 }
 
