@@ -1,1 +1,2 @@
 mod Forties
+mod Tiles

@@ -1,15 +1,16 @@
 //! Boards of tiles, played through by seats of one thread.
-ghost use Rattle.std.specs.Prelude.{◌≡◌, ◌+◌, ◌<◌, ◌≤◌, length};
+ghost use Rattle.std.specs.Prelude.{◌≡◌, ◌+◌, ◌<◌, ◌≤◌, IfOk, length};
 ghost use Rattle.phase_board.specs.Boards.{board_job};
 ghost use Rattle.phase_board.specs.Seats.{IsIdleOf, IsWorkingOf, IsTurningOf, idle_view};
 ghost use Rattle.phase_board.specs.ClaimWord.{IsStopped};
 
 use phase_board::{Board, Claim, Finish, Idle, Piece, Turning, Working};
+use std::alloc::{AllocError, Global};
 use std::process::Abort;
 use std::test::Fail;
 
 // A piece of a board with so many windows.
-#[derive(Drop)]
+#[derive(Clone, Copy)]
 struct Tile {
     windows: usize,
 }
@@ -30,6 +31,22 @@ impl Piece for Tile {
     ghost common = { λ _ _ _. Unit {0} };
 
     ghost ended = { λ _ _ _. Unit {0} };
+}
+
+/// A board of so many tiles with the common value 7, and its first seat.
+fn new_board(
+    rt: &impl Abort,
+    alloc: Global,
+    windows: usize,
+) -> Result<(Board<Tile>, Idle<Tile>), AllocError>
+    requires { (0 < windows) × (windows ≤ 64) }
+    ensures { IfOk result (λ made. IsIdleOf made.0 made.1) }
+{
+    let pieces = vec![in alloc; Tile { windows }; windows]?;
+    match Board::new(alloc, pieces, 7) {
+        Ok(made) => Ok(made),
+        Err(_refused) => panic!(rt; "no memory"),
+    }
 }
 
 fn draws(
@@ -115,11 +132,7 @@ fn stops(board: &Board<Tile>, mut seat: Turning<Tile>, common: u32) -> Idle<Tile
 
 #[test]
 fn two_seats_turn_and_stop(rt: HostRuntime) -> Result<(), Fail> {
-    let pieces = vec![in rt.alloc(); Tile { windows: 2 }, Tile { windows: 2 }]?;
-    let (board, seat) = match Board::new(rt.alloc(), pieces, 7) {
-        Ok(made) => made,
-        Err(_refused) => panic!(rt; "no memory"),
-    };
+    let (board, seat) = new_board(&rt, rt.alloc(), 2)?;
     let (first, second) = board.split_seat(seat);
     let one = draws(&rt, &board, first, 0, 0);
     let two = draws(&rt, &board, second, 0, 1);
@@ -141,11 +154,7 @@ fn two_seats_turn_and_stop(rt: HostRuntime) -> Result<(), Fail> {
 
 #[test]
 fn a_claim_after_the_stop_is_over(rt: HostRuntime) -> Result<(), Fail> {
-    let pieces = vec![in rt.alloc(); Tile { windows: 2 }, Tile { windows: 2 }]?;
-    let (board, seat) = match Board::new(rt.alloc(), pieces, 7) {
-        Ok(made) => made,
-        Err(_refused) => panic!(rt; "no memory"),
-    };
+    let (board, seat) = new_board(&rt, rt.alloc(), 2)?;
     let (first, second) = board.split_seat(seat);
     let one = draws(&rt, &board, first, 0, 0);
     let two = draws(&rt, &board, second, 0, 1);
@@ -160,15 +169,7 @@ fn a_claim_after_the_stop_is_over(rt: HostRuntime) -> Result<(), Fail> {
 
 #[test]
 fn seats_may_be_dropped_idle(rt: HostRuntime) -> Result<(), Fail> {
-    let pieces = vec![in rt.alloc();
-        Tile { windows: 3 },
-        Tile { windows: 3 },
-        Tile { windows: 3 },
-    ]?;
-    let (board, seat) = match Board::new(rt.alloc(), pieces, 7) {
-        Ok(made) => made,
-        Err(_refused) => panic!(rt; "no memory"),
-    };
+    let (board, seat) = new_board(&rt, rt.alloc(), 3)?;
     let (first, second) = board.split_seat(seat);
     drop(second);
     let first = gives(&rt, &board, draws(&rt, &board, first, 0, 0));
