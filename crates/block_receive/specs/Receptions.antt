@@ -7,7 +7,7 @@ use Rattle.receiver_model.specs.SoftCells.{Reception, reception}
 abbrev pub value_count : List Sending → ℕ
 value_count sends = sum_by (λ s. s.m.g) sends
 
--- each transmission with its values, which stand behind those of the transmissions before it
+-- each transmission with its values, which stand after those of the transmissions before it
 abbrev pub receptions : List Sending → List ℤ → List Reception
 receptions [] softs = []
 receptions (s ∷ sends) softs = reception s.m s.rv (take s.m.g softs) ∷ receptions sends (drop s.m.g softs)

@@ -32,7 +32,7 @@ pub none_refused : (size : ℕ) (cs : List Check) → AllPass cs → first_refus
 none_refused size [] pass = refl
 none_refused size (c ∷ cs) (first, rest) = ap (λ (t : Bool). cond t (first_refusal size cs) (Some (refused_at c.number c.place size))) first ∙ none_refused size cs rest
 
--- ---- checks behind others
+-- ---- checks after others
 
 pub pass_front : (xs ys : List Check) → AllPass (xs ++ ys) → AllPass xs
 pass_front [] ys all = tt

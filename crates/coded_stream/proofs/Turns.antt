@@ -5,7 +5,7 @@ use Rattle.rate_match.specs.declared.sends.Sending.{Sending}
 use Rattle.coded_stream.specs.Blocks.{block_size, transmission_size}
 use Rattle.coded_stream.specs.declared.kind.Kind.{Kind}
 
--- at this turn the transmission of g bits comes, behind those before it
+-- at this turn the transmission of g bits comes, after those before it
 pub record IsNext (kind : Kind) (gs : List ℕ) (turn next g : ℕ) : Type 0 where
   pub rest : drop turn gs ≡ g ∷ drop next gs
   pub front : take next gs ≡ take turn gs ++ g ∷ []

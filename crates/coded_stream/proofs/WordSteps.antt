@@ -39,7 +39,7 @@ word-block h more start payload left some room few =
     let l : nat_lt h.tb payload ≡ false = le-ltb h.tb payload few in
     rw (e, f, l) refl
 
--- behind an end word
+-- after an end word
 pub end-followed : (start : ℕ) (unit left : List ℕ) → length unit ≡ 1 → end_step start (unit ++ left) ≡ refused (record { number = 7; place = start + 4; size = 4 + length unit; due = 5 })
 end-followed start [] left long = absurd (omega (arith, long))
 end-followed start (a ∷ []) left long = refl

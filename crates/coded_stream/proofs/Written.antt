@@ -13,7 +13,7 @@ use Rattle.rate_match.specs.declared.sends.Sending.{Sending}
 use Rattle.coded_stream.specs.Header.{sending_text}
 use Rattle.coded_stream.specs.declared.version.Version.{Version}
 
--- a front of a first piece is one of both
+-- a prefix of a first piece is one of both
 pub front_of : (old new : Option (List ℕ)) (first rest : List ℕ) (n : ℕ) → Adds old new (take n first) → (x : ℕ) × Adds old new (take x (first ++ rest))
 front_of old new first rest n added =
     let P : List ℕ → Type 0 = λ xs. Adds old new xs in
@@ -33,13 +33,13 @@ both_err old mid new first rest (Err e) added more =
     let P : List ℕ → Type 0 = λ xs. Adds old new xs in
     (length first + more.0, subst P (sym (take-append-add first rest more.0)) (adds_then old mid new first (take more.0 rest) added more.1))
 
--- a front of a second piece, behind all of a first
+-- a prefix of a second piece, after all of a first
 pub behind : (old mid new : Option (List ℕ)) (first rest : List ℕ) → Adds old mid first → (n : ℕ) × Adds mid new (take n rest) → (x : ℕ) × Adds old new (take x (first ++ rest))
 behind old mid new first rest added more =
     let P : List ℕ → Type 0 = λ xs. Adds old new xs in
     (length first + more.0, subst P (sym (take-append-add first rest more.0)) (adds_then old mid new first (take more.0 rest) added more.1))
 
--- ---- one transmission of a header behind others
+-- ---- one transmission of a header after others
 
 pub record IsSplit (v : Version) (sends : List Sending) (index next : ℕ) (s : Sending) : Type 0 where
   pub front : flat_map (sending_text v) (take next sends) ≡ flat_map (sending_text v) (take index sends) ++ sending_text v s

@@ -1,17 +1,17 @@
--- How a stream goes on behind its header: length words and transmissions, each a unit that is read whole.
+-- How a stream goes on after its header: length words and transmissions, each a unit that is read whole.
 use Rattle.std.specs.Prelude.{ℕ, zero, suc, ◌+◌, ◌-◌, nat_lt, ◌==◌, if◌then◌else◌, List, [], ◌∷◌, ◌++◌, length, take, drop}
 use Rattle.coded_stream.specs.Header.{Header, word}
 use Rattle.coded_stream.specs.Blocks.{Block, lengths, transmission_size, has_bad_bit}
 use Rattle.coded_stream.specs.Units.{Refusal, refused_at, truncated}
 use Rattle.coded_stream.specs.declared.kind.Kind.{Kind}
 
--- a block and what is left behind it, the end, or a refusal
+-- a block and what is left after it, the end, or a refusal
 pub data Step : Type 0 where
   block : Block → List ℕ → Step
   ended : Step
   refused : Refusal → Step
 
--- the transmissions that are due of a block that begins at a place of the stream, behind what was read of it
+-- the transmissions that are due of a block that begins at a place of the stream, after what was read of it
 abbrev pub transmissions_step : Kind → ℕ → Block → List ℕ → List ℕ → Step
 transmissions_step kind start b [] left = block b left
 transmissions_step kind start b (g ∷ gs) left =
@@ -23,12 +23,12 @@ transmissions_step kind start b (g ∷ gs) left =
     then refused (refused_at 5 (start + (read + size - 1)) (read + size))
     else transmissions_step kind start (record b { bytes = b.bytes ++ take size left }) gs (drop size left)
 
--- behind an end word at a place of the stream
+-- after an end word at a place of the stream
 abbrev pub end_step : ℕ → List ℕ → Step
 end_step start [] = ended
 end_step start (byte ∷ left) = refused (refused_at 7 (start + 4) 5)
 
--- behind a length word at a place of the stream, where so many more blocks may come
+-- after a length word at a place of the stream, where so many more blocks may come
 abbrev pub word_step : Header → ℕ → ℕ → ℕ → List ℕ → Step
 word_step h more start payload left =
     if payload == 0

@@ -81,7 +81,7 @@ size_fields Two unit =
     ∷ limit_check (limit_in Two unit) (tb_in Two unit) 8
     ∷ []
 
--- behind the kind
+-- after the kind
 abbrev pub further_fields : Version → List ℕ → List Check
 further_fields One unit =
     check (is_qm (slice_index unit 5)) 3 5
@@ -126,7 +126,7 @@ match_in unit = record {
   limit = limit_in One unit;
 }
 
--- one transmission, behind a first unit
+-- one transmission, after a first unit
 abbrev pub sending_in : Version → List ℕ → List ℕ → Sending
 sending_in One unit bytes = record { m = match_in unit; rv = slice_index bytes 0 }
 sending_in Two unit bytes = record {
@@ -147,7 +147,7 @@ sends_in v unit (suc count) bytes =
 
 -- ---- how the input begins
 
--- a header, and what is left behind it, or a refusal
+-- a header, and what is left after it, or a refusal
 pub data Opening : Type 0 where
   opens : Header → List ℕ → Opening
   refuses : Refusal → Opening
@@ -165,7 +165,7 @@ header_in v unit sends = record {
   sends = sends;
 }
 
--- behind a first unit
+-- after a first unit
 abbrev pub second_opening : Version → List ℕ → List ℕ → Opening
 second_opening v unit left =
     let count = count_in v unit in

@@ -33,7 +33,7 @@ TakesFirst old new unit (first.Short got) = (part : List ℕ) × (length part �
 TakesFirst old new unit first.Fault = (part : List ℕ) × Takes old new part
     × ((left : List ℕ) → length part < first_size (version_of (part ++ left)))
 
--- ---- its second unit, behind a first one
+-- ---- its second unit, after a first one
 
 -- where the source tells its bytes
 abbrev pub TakesSends : Version → List ℕ → List ℕ → Option (List ℕ) → Option (List ℕ) → Second → Type 0
@@ -89,7 +89,7 @@ TakesWord s transmissions start old new (word.Bad number place) = (bytes left : 
 TakesWord s transmissions start old new word.Fault = (bytes : List ℕ) × Takes old new bytes
     × (length bytes < 4)
 
--- a step was read on, behind `read` of its bytes
+-- a step was read on, after `read` of its bytes
 abbrev pub TakesStep : (s : Step) (read : ℕ) (into : List ℕ) (old new : Option (List ℕ)) → Next → Type 0
 TakesStep s read into old new (next.Block payload) = (bytes left : List ℕ) × (old ≡ Some (bytes ++ left))
     × (new ≡ Some left) × (read + length bytes ≡ 4 + length into)

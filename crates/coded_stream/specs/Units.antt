@@ -21,7 +21,7 @@ pub record Refusal : Type 0 where
 abbrev pub refused_at : (number place size : ℕ) → Refusal
 refused_at number place size = record { number = number; place = place; size = size; due = size }
 
--- the input ends in a unit that is due, `size` bytes behind the place from which on it was read
+-- the input ends in a unit that is due, `size` bytes after the place from which on it was read
 abbrev pub truncated : (start size : ℕ) → Refusal
 truncated start size = record { number = 6; place = start + size; size = size; due = size + 1 }
 

@@ -102,7 +102,7 @@ fn read_first_sizes(unit: &[u8], good: bool) -> Fields
     }
 }
 
-/// The fields of version One behind the kind, checked in order of place.
+/// The fields of version One after the kind, checked in order of place.
 fn read_one(unit: &[u8]) -> Fields
     requires { length unit.now ≡ 18 }
     ensures { AreRead Version.One (further_fields Version.One unit.now) unit.now result }

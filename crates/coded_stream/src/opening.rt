@@ -46,7 +46,7 @@ fn version_of(unit: &[u8]) -> Version
     }
 }
 
-/// Reads the first unit of a header into the front of `unit`. Its first four bytes tell how long
+/// Reads the first unit of a header into the beginning of `unit`. Its first four bytes tell how long
 /// it is.
 pub fn read_first<S: Source>(source: &mut S, unit: &mut [u8]) -> First
     requires { length unit.old ≡ 18 }
@@ -67,7 +67,7 @@ pub fn read_first<S: Source>(source: &mut S, unit: &mut [u8]) -> First
     }
 }
 
-/// Reads the second unit of a header, of `count` transmissions, behind a first unit with this
+/// Reads the second unit of a header, of `count` transmissions, after a first unit with this
 /// buffer.
 pub fn read_second<S: Source>(
     source: &mut S,

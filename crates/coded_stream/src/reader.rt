@@ -42,7 +42,7 @@ impl Model for StreamReader {
 }
 
 impl StreamReader {
-    /// Reads the header of a stream that is wanted, of either version. It takes no memory, so that it
+    /// Reads the header of a stream that is wanted, of either version. It allocates nothing, so that it
     /// never answers `NoMemory`. After `Bad` and `Fault` no byte past the unit that was being
     /// read was taken.
     pub fn begin<S: Source>(source: &mut S, want: Want) -> Result<StreamReader, StreamStop>

@@ -67,7 +67,7 @@ fn read_own(unit: &[u8], buffer: Buffer, bytes: &[u8]) -> SendingRead
     }
 }
 
-/// The transmission of these bytes of the second unit, behind a first unit with this buffer.
+/// The transmission of these bytes of the second unit, after a first unit with this buffer.
 pub fn read_sending(version: Version, unit: &[u8], buffer: Buffer, bytes: &[u8]) -> SendingRead
     requires whole { length unit.now ≡ first_size version }
     requires size { length bytes.now ≡ sending_size version }

@@ -16,7 +16,7 @@ pub enum SendsRead {
     Bad { at: usize },
 }
 
-/// The transmissions, one to eight, of these bytes, behind a first unit with this buffer.
+/// The transmissions, one to eight, of these bytes, after a first unit with this buffer.
 pub fn read_sends(
     version: Version,
     unit: &[u8],

@@ -1,4 +1,4 @@
-//! Reading a length word, and what stands behind the end word.
+//! Reading a length word, and what stands after the end word.
 ghost use Rattle.std.specs.Prelude.{◌≡◌, ◌≤◌, ◌<◌, ◌^◌, ℕ, List, [], Some};
 ghost use Rattle.edge_io.specs.Edge.{Rose};
 ghost use Rattle.coded_stream.specs.Blocks.{lengths};
@@ -66,7 +66,7 @@ pub fn read_word<S: Source>(source: &mut S, header: &Header, more: usize, start:
     }
 }
 
-/// Reads on behind an end word at a place of the stream: only the end may follow.
+/// Reads on after an end word at a place of the stream: only the end may follow.
 pub fn read_end<S: Source>(source: &mut S, start: u64) -> Next
     requires { start < 2 ^ 60 }
     ensures told { (input into : List ℕ) → S.left source.old ≡ Some input →

@@ -132,7 +132,7 @@ fn write_sends<D: Sink>(sink: &mut D, header: &Header) -> Result<(), SinkFault>
     Ok(())
 }
 
-/// Appends a header. After `SinkFault` a front of its bytes was appended.
+/// Appends a header. After `SinkFault` a prefix of its bytes was appended.
 pub fn write_header<D: Sink>(sink: &mut D, header: &Header) -> Result<(), SinkFault>
     ensures ok { OnOk result
         (Adds (D.held sink.old) (D.held sink.new) (header_text (header_of header.now))) }
@@ -146,7 +146,7 @@ pub fn write_header<D: Sink>(sink: &mut D, header: &Header) -> Result<(), SinkFa
     write_sends(sink, header)
 }
 
-/// Appends a block's length word, or for 0 the end word. After `SinkFault` a front of its bytes
+/// Appends a block's length word, or for 0 the end word. After `SinkFault` a prefix of its bytes
 /// was appended.
 #[tactic(auto, unfolding(crate::specs::Header::word_text))]
 pub fn write_length<D: Sink>(sink: &mut D, length: u32) -> Result<(), SinkFault>

@@ -1,4 +1,4 @@
--- What the operands of each command ask for, or the first word that is refused: behind the operands' own
+-- What the operands of each command ask for, or the first word that is refused: after the operands' own
 -- refusals 5 says that a name is missing, and then come those of the blocks.
 use Rattle.std.specs.Prelude.{ℕ, ◌*◌, List, [], if◌then◌else◌, Some, None, Ok, Err}
 use Rattle.std.specs.Option.{ok_or}

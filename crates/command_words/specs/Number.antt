@@ -4,7 +4,7 @@ use Rattle.std.specs.declared.option.Option.{Option}
 use Rattle.std.specs.Char.{is_ascii_digit}
 use Rattle.std.specs.List.{list_all}
 
--- what the digits are worth, behind n
+-- what the digits are worth, after n
 abbrev pub worth : ℕ → List ℕ → ℕ
 worth n [] = n
 worth n (digit ∷ digits) = worth (10 * n + (digit - 48)) digits

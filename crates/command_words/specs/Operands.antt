@@ -68,7 +68,7 @@ abbrev pub number_of_fault : Result (List ℕ) ℕ → Option ℕ
 number_of_fault (Ok numbers) = None
 number_of_fault (Err number) = Some number
 
--- behind the words before it
+-- after the words before it
 abbrev pub fault_under : Option Rule → (before : List (List ℕ)) → (word : List ℕ) → Option ℕ
 fault_under None before word = Some 3
 fault_under (Some rule) before word =
@@ -84,7 +84,7 @@ abbrev pub refused_or : (place : ℕ) → Option ℕ → Option WordRefusal → 
 refused_or place None later = later
 refused_or place (Some number) later = Some (record { number = number; place = place })
 
--- the first word that is refused, of those behind the words before
+-- the first word that is refused, of those after the words before
 abbrev pub first_fault : List Rule → (before words : List (List ℕ)) → Option WordRefusal
 first_fault rules before [] = None
 first_fault rules before (word ∷ words) =

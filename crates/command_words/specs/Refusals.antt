@@ -1,4 +1,4 @@
--- Words that are refused behind the operands' own refusals, or before them.
+-- Words that are refused after the operands' own refusals, or before them.
 use Rattle.std.specs.Prelude.{ℕ, ◌+◌, List, length, Some, None, Err}
 use Rattle.std.specs.declared.option.Option.{Option}
 use Rattle.std.specs.declared.result.Result.{Result}

@@ -29,7 +29,7 @@ fn encode_given(asked: &Asked) -> Result<Command, WordRefusal>
     }
 }
 
-/// What the words behind `encode` ask for.
+/// What the words after `encode` ask for.
 pub fn encode_of(operands: &[&str]) -> Result<Command, WordRefusal>
     ensures command { result ≡ encode_of (texts_of operands.now) }
     ensures lawful { IfOk result IsLawful }

@@ -39,7 +39,7 @@ fn rule_of(rules: &[Rule], name: &str) -> Option<Rule>
     None
 }
 
-/// What stands behind the name, where the word has that name.
+/// What stands after the name, where the word has that name.
 fn value_of<'a>(word: &'a str, name: &str) -> Option<&'a str>
     ensures { text_of_option result ≡ value_under name.now word.now }
 {
@@ -61,7 +61,7 @@ fn is_given(name: &str, words: &[&str]) -> bool
     false
 }
 
-/// Why a word is refused, behind the words before it.
+/// Why a word is refused, after the words before it.
 fn fault_of(rules: &[Rule], before: &[&str], word: &str) -> Option<u8>
     ensures { result ≡ fault_of rules.now (texts_of before.now) word.now }
 {

@@ -9,7 +9,7 @@ use crate::settings::{ChannelNumbers, channel_numbers, decoding_numbers};
 use crate::tables::{CHANNEL, DECODE, UPGRADE, WORKERS_NUMBER};
 use crate::words::Command;
 
-/// What the words behind `decode` ask for.
+/// What the words after `decode` ask for.
 pub fn decode_of(operands: &[&str]) -> Result<Command, WordRefusal>
     ensures command { result ≡ decode_of (texts_of operands.now) }
     ensures lawful { IfOk result IsLawful }
@@ -43,7 +43,7 @@ fn channel_asked(operands: &[&str]) -> Result<ChannelNumbers, WordRefusal>
     }
 }
 
-/// What the words behind `channel` ask for.
+/// What the words after `channel` ask for.
 pub fn channel_of(operands: &[&str]) -> Result<Command, WordRefusal>
     ensures command { result ≡ channel_of (texts_of operands.now) }
     ensures lawful { IfOk result IsLawful }
@@ -58,7 +58,7 @@ pub fn channel_of(operands: &[&str]) -> Result<Command, WordRefusal>
     }
 }
 
-/// What the words behind `points` ask for.
+/// What the words after `points` ask for.
 pub fn points_of(operands: &[&str]) -> Result<Command, WordRefusal>
     ensures command { result ≡ points_of (texts_of operands.now) }
     ensures lawful { IfOk result IsLawful }
@@ -73,7 +73,7 @@ pub fn points_of(operands: &[&str]) -> Result<Command, WordRefusal>
     }
 }
 
-/// What the words behind `upgrade` ask for.
+/// What the words after `upgrade` ask for.
 pub fn upgrade_of(operands: &[&str]) -> Result<Command, WordRefusal>
     ensures command { result ≡ upgrade_of (texts_of operands.now) }
     ensures lawful { IfOk result IsLawful }

@@ -46,7 +46,7 @@ fn trial_given(
     }
 }
 
-/// What the words behind `trial` ask for.
+/// What the words after `trial` ask for.
 pub fn trial_of(operands: &[&str]) -> Result<Command, WordRefusal>
     ensures command { result ≡ trial_of (texts_of operands.now) }
     ensures lawful { IfOk result IsLawful }

@@ -76,7 +76,7 @@ pub enum Command {
     },
 }
 
-/// What the words behind a command's name ask for.
+/// What the words after a command's name ask for.
 fn command_with(name: CommandName, operands: &[&str]) -> Result<Command, WordRefusal>
     ensures command { result ≡ command_with (Some name) (texts_of operands.now) }
     ensures lawful { IfOk result IsLawful }

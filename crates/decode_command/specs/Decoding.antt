@@ -23,7 +23,7 @@ decoded e h b = outcome (plan_of b.payload) e (received h b)
 
 -- ---- the lines
 
--- a line with ` transmissions T iterations I` behind it
+-- a line with ` transmissions T iterations I` after it
 abbrev pub with_counts : (line : List ℕ) → (transmissions iterations : ℕ) → List ℕ
 with_counts line transmissions iterations =
     line ++ codes " transmissions " ++ decimal transmissions ++ codes " iterations " ++ decimal iterations

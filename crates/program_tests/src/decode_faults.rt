@@ -20,7 +20,7 @@ fn two_blocks(rt: &(impl Abort + AllocGlobal)) -> Result<Vec<u8>, Fail> {
 #[test]
 fn each_read_fails_in_turn(rt: HostRuntime) -> Result<(), Fail> {
     let input = two_blocks(&rt)?;
-    // The first line ends behind 55 bytes.
+    // The first line ends after 55 bytes.
     let line = &LINES[..55];
     for n in 0..=input.len() {
         let calls = [n as u64];

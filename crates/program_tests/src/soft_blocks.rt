@@ -23,7 +23,7 @@ pub const LENGTH_2: [u8; 4] = [0, 0, 0, 2];
 
 pub const END: [u8; 4] = [0; 4];
 
-/// Zeros, and a one behind them.
+/// Zeros, and a one after them.
 pub fn zeros_and_one(alloc: Global, zeros: usize) -> Result<Vec<Bit>, NoMemory> {
     let mut bits = Vec::new(alloc);
     bits.resize(zeros, Bit::Zero)?;

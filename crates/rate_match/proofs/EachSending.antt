@@ -28,6 +28,6 @@ drop_at [] i s is = cc
 drop_at (t ∷ sends) zero s is = let same : t ≡ s = cc in ap (λ x. x ∷ sends) same
 drop_at (t ∷ sends) (suc i) s is = drop_at sends i s is
 
--- transmission i, in front of those behind it
+-- transmission i, in front of those after it
 pub turn_at : (sends : List Sending) (i : ℕ) (s : Sending) → slice_get sends i ≡ Some s → drop i sends ≡ s ∷ drop (i + 1) sends
 turn_at sends i s is = drop_at sends i s is ∙ ap (λ n. s ∷ drop n sends) (sym (add-one i))

@@ -9,7 +9,7 @@ pub part-long : {X : Type 0} (done run : ℕ) (out : List X) → done + run ≤ 
 part-long done run out fits =
     length-take-le (done + run - done) (drop done out) (omega (arith, length-drop done out, fits)) ∙ omega arith
 
--- the part behind those that are done is written
+-- the part after those that are done is written
 pub part_written : {X : Type 0} (done run n : ℕ) (out new : List X) → done + run ≤ length out → length new ≡ run → take (done + run) (put_mid done n out new) ≡ take done out ++ new
 part_written done run n out new fits long =
     let front = take done out in
@@ -18,7 +18,7 @@ part_written done run n out new fits long =
     ∙ take-append-add front (new ++ behind) (length new)
     ∙ ap (λ xs. front ++ xs) (take-append_seam new behind)
 
--- what stands behind a list that got longer is written
+-- what stands after a list that got longer is written
 pub behind_written : {X : Type 0} (from n len : ℕ) (old now new post rest : List X) → from ≡ length old → len ≡ from + n → length new ≡ n → take from now ≡ old → take len ((take from now ++ (new ++ post)) ++ rest) ≡ old ++ new
 behind_written {X} from n len old now new post rest first all long kept =
     ap (λ (xs : List X). take len ((xs ++ (new ++ post)) ++ rest)) kept

@@ -149,7 +149,7 @@ run-bit k fill c i is within inside above inner =
 
 -- ---- how long a run is
 
--- rows of a column up to an end behind which its places don't reach
+-- rows of a column up to an end after which its places don't reach
 pub rows-left : (r p j : ℕ) → j < div_ceil (32 * r - p) 32 → p / 32 + j < r
 rows-left r p j below = omega (arith, below)
 

@@ -1,4 +1,4 @@
--- What contracts see of `Sends`: the transmissions held, behind which the places repeat the first.
+-- What contracts see of `Sends`: the transmissions held, after which the places repeat the first.
 use Rattle.std.proofs.Common.{◌≡◌, ◌≤◌, List, [], ◌∷◌, length, take, arith}
 use Rattle.std.proofs.lemmas.List.{length-take-le}
 use Rattle.lte_bits.specs.Lists.{resized}

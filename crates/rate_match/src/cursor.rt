@@ -21,7 +21,7 @@ fn column(i: usize) -> usize
     COLUMN_ORDER[i]
 }
 
-/// The bit at place `p` of stream `number` behind its padding, where `nulls` of the stream are NULL.
+/// The bit at place `p` of stream `number` after its padding, where `nulls` of the stream are NULL.
 fn padded(ring: Ring, number: u8, nulls: usize, p: usize) -> Option<Spot>
     requires stream { number ≤ 2 }
     requires few { nulls ≤ 6144 }

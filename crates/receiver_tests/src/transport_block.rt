@@ -41,7 +41,7 @@ fn push_sent(
     Ok(())
 }
 
-/// Zeros, and a one behind them.
+/// Zeros, and a one after them.
 fn zeros_and_one(alloc: Global, zeros: usize) -> Result<Vec<Bit>, NoMemory> {
     let mut bits = Vec::new(alloc);
     bits.resize(zeros, Bit::Zero)?;

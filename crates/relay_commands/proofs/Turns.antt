@@ -9,7 +9,7 @@ use Rattle.coded_stream.specs.declared.kind.Kind.{Kind}
 use Rattle.relay_commands.specs.Relaying.{Relaying, sent_from}
 use Rattle.relay_commands.specs.Upgrade.{as_read}
 
--- the bytes of a transmission, and those behind it
+-- the bytes of a transmission, and those after it
 pub record Split (kind : Kind) (s : Sending) (sends : List Sending) (bytes : List ℕ) : Type 0 where
   pub room : transmission_size kind s.m.g ≤ length bytes
   pub own : IsTransmission kind s.m.g (take (transmission_size kind s.m.g) bytes)

@@ -20,7 +20,7 @@ pub record Scrambling : Type 0 where
   pub slot : ℕ
   pub cell : ℕ
 
--- the slot of a transmission, with n transmissions in each block: two slots behind the one before it, which is
+-- the slot of a transmission, with n transmissions in each block: two slots after the one before it, which is
 -- this project's own rule
 abbrev pub slot_of : Scrambling → (n block number : ℕ) → ℕ
 slot_of s n block number = (s.slot + 2 * (block * n + number)) % 20

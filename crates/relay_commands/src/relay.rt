@@ -51,7 +51,7 @@ pub trait Transmitter: Drop {
             (header_of header.now) turn.block turn.number m.now bytes.now) };
 }
 
-/// The bytes of a transmission, and those behind it.
+/// The bytes of a transmission, and those after it.
 fn divided<'a>(kind: Kind, m: &Match, bytes: &'a [u8]) -> (&'a [u8], &'a [u8])
     requires { transmission_size kind m.now.g ≤ length bytes.now }
     ensures own { result.0.now ≡ take (transmission_size kind m.now.g) bytes.now }

@@ -16,7 +16,7 @@ pub record Stands (a : Answer) (front : List Part) (b : Answer) (mid : Option (L
   pub out : Adds old.out new.out (texts front)
   pub report : Adds old.report new.report (lines front)
 
--- it stopped on its way; for running out of memory only once `out` has what it begins with
+-- it stopped on its way; since memory ran out only once `out` has what it begins with
 abbrev pub StoppedBehind : Answer → Edges → Edges → Status → Type 0
 StoppedBehind a old new status = (front : List Part) × (b : Answer) × (mid : Option (List ℕ))
     × Stands a front b mid old new × Stopped b mid new.left status

@@ -25,7 +25,7 @@ block-size p r is =
 pub fillers-few : (p : Plan) → IsPlan p → p.f + check_length p.c < size p 0
 fillers-few p is = fillers-room (carried (bits_of p.bytes)) p (sound-plan p is)
 
--- later blocks stand behind
+-- later blocks stand after
 pub before-le : (p : Plan) (a b : ℕ) → a ≤ b → before p a ≤ before p b
 before-le p a b le = subst (λ (n : ℕ). before p a ≤ before p n) (let e : a + (b - a) ≡ b = omega (arith, le) in e) (further (b - a))
   where

@@ -23,7 +23,7 @@ use Rattle.segmentation.proofs.WholeBits.{carried_by, fill-later}
 
 -- ---- one block
 
--- behind the fillers, and before the own check bits, stands the rest of the piece
+-- after the fillers, and before the own check bits, stands the rest of the piece
 without_own : (piece own : List Bit) (f l : ℕ) → length own ≡ l → f ≤ length piece → take (length (piece ++ own) - f - l) (drop f (piece ++ own)) ≡ drop f piece
 without_own piece own f l long within =
     let n : length (piece ++ own) - f - l ≡ length (drop f piece) = omega (arith, length-append piece own, length-drop f piece, long, within) in
@@ -60,7 +60,7 @@ whole_made-more p payload i =
     ∙ (flat_map-append (carried_by p) (map (block p payload) (range_with_len 0 i)) (block p payload i ∷ [])
     ∙ ap (λ (xs : List Bit). whole p (map (block p payload) (range_with_len 0 i)) ++ xs) (append-nil (carried_by p (block p payload i))))
 
--- the first i + 1 blocks carry the front of S without its fillers
+-- the first i + 1 blocks carry the beginning of S without its fillers
 whole_front : (payload : List ℕ) → 1 ≤ length payload → length payload ≤ 18722 → (i : ℕ) → i < (plan_of (length payload)).c
     → whole (plan_of (length payload)) (map (block (plan_of (length payload)) payload) (range_with_len 0 (i + 1)))
     ≡ drop (plan_of (length payload)).f (take (before (plan_of (length payload)) (i + 1)) (sequence (plan_of (length payload)) payload))

@@ -15,7 +15,7 @@ use Rattle.segmentation.proofs.OfPlans.{is_plan}
 
 -- ---- one block
 
--- what is left of S behind block r
+-- what is left of S after block r
 pub rest_after : (p : Plan) (r s : ℕ) (all rest back : List Bit) → rest ≡ drop (before p r) all → s ≡ share p r → back ≡ drop s rest → back ≡ drop (before p (r + 1)) all
 rest_after p r s all rest back is own behind =
     behind ∙ (ap (λ (xs : List Bit). drop s xs) is ∙ (drop-drop s (before p r) all ∙ ap (λ (n : ℕ). drop n all) (let e : before p r + s ≡ before p (r + 1) = omega (arith, own, before-more p r) in e)))

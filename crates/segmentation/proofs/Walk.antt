@@ -13,7 +13,7 @@ use Rattle.sender_model.proofs.SizeTable.{size_40, size_6144}
 
 -- ---- a list in order
 
--- each stands behind the one before it
+-- each stands after the one before it
 abbrev in_order : (ℕ → ℕ → Bool) → ℕ → List ℕ → Bool
 in_order le x [] = true
 in_order le x (y ∷ ys) = le x y && in_order le y ys

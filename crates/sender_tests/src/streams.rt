@@ -5,7 +5,7 @@ use qpp_table::qpp;
 use std::test::Fail;
 use turbo_encode::encode;
 
-/// The cell of a bit behind the fillers.
+/// The cell of a bit after the fillers.
 fn expected(bit: Bit, is_filler: bool) -> Cell {
     match bit {
         _ if is_filler => Cell::Null,

@@ -20,7 +20,7 @@ start-within plan m r below =
     rises zero a = omega (arith, ap (piece_start plan m) (let e : a + 0 ≡ a = omega arith in e))
     rises (suc n) a = omega (arith, rises n a, sum_by-range_more (piece_length m plan.c) (a + n), ap (piece_start plan m) (let e : a + suc n ≡ a + n + 1 = omega arith in e))
 
--- what is left of the codeword behind one block more
+-- what is left of the codeword after one block more
 pub rest-more : (plan : Plan) (m : Match) (r e : ℕ) (all rest back : List ℤ) → rest ≡ drop (piece_start plan m r) all → e ≡ piece_length m plan.c r → back ≡ drop e rest
     → back ≡ drop (piece_start plan m (r + 1)) all
 rest-more plan m r e all rest back is own behind =

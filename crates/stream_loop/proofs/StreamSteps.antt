@@ -29,7 +29,7 @@ taken old new bytes left old_is new_is =
 
 -- ---- a block
 
--- the reader behind a block
+-- the reader after a block
 abbrev pub past : Reading → Block → Reading
 past r b = record r { place = next_start r.place b; blocks = r.blocks + 1 }
 
@@ -77,7 +77,7 @@ gives_block w r r' failed failed' input into n old new round fails on moved made
       subst P (sym made.0.1) (read.left, read.new_is, read.new_is, same),
     )
 
--- memory was wanting once it was read
+-- memory ran out once it was read
 pub stopped_starved : (w : Handling) (r r' : Reading) (failed : ℕ) (input into : List ℕ) (n : ℕ) (old new : Option (List ℕ)) →
     GoesOn (remaining r input) (remaining r') into old new (Ok (Some n)) → Advances r r' into (Ok (Some n)) →
     Stopped (answer_ahead w r failed input) old new NoMemory
@@ -94,7 +94,7 @@ stopped_starved w r r' failed input into n old new on moved =
 
 -- ---- no block
 
--- memory was wanting before anything was read
+-- memory ran out before anything was read
 pub stopped_before : (w : Handling) (r : Reading) (failed : ℕ) (input : List ℕ) (old new : Option (List ℕ)) → new ≡ old →
     Stopped (answer_ahead w r failed input) old new NoMemory
 stopped_before w r failed input old new same =

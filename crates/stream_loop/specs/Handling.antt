@@ -19,7 +19,7 @@ pub record Handled : Type 0 where
   pub failed : Bool
 
 -- A command over a stream: which streams it takes, the header of the stream that it writes, if it writes one,
--- what each block comes to, by its number from 0, and the report's last line, behind so many blocks of which so
+-- what each block comes to, by its number from 0, and the report's last line, after so many blocks of which so
 -- many failed.
 pub record Handling : Type 0 where
   pub want : Want
@@ -41,8 +41,8 @@ abbrev pub closing_text : Option Header → List ℕ
 closing_text None = []
 closing_text (Some h) = end_word
 
--- Of the blocks behind so many others, of which so many failed. An end word of 4 bytes ends the stream, which
--- is known once the end of the input was seen behind it.
+-- Of the blocks after so many others, of which so many failed. An end word of 4 bytes ends the stream, which
+-- is known once the end of the input was seen after it.
 abbrev pub blocks_answer : Handling → Header → (number failed : ℕ) → List Block → stream.Ending → Answer
 blocks_answer w h number failed [] whole =
     closed (closing_text (w.header h)) (w.last number failed) (ending_of (nat_lt 0 failed)) 4 5
@@ -61,7 +61,7 @@ abbrev pub opening_text : Option Header → List ℕ
 opening_text None = []
 opening_text (Some h) = header_text h
 
--- a header, and the blocks behind it, or a header that is refused
+-- a header, and the blocks after it, or a header that is refused
 abbrev pub opening_answer : Handling → Opening → Answer
 opening_answer w (opens h left) =
     let size = length (header_text h) in

@@ -44,7 +44,7 @@ status_of (reader.Bad number place) = BadStream number place
 status_of reader.Fault = ReadFault
 status_of reader.NoMemory = NoMemory
 
--- the end behind so many blocks, of which so many failed
+-- the end after so many blocks, of which so many failed
 abbrev pub IsEnding : Handling → Header → (number failed : ℕ) → Stop → Type 0
 IsEnding w h number failed (End closing last some) = (closing.items ≡ closing_text (w.header h))
     × (last.items ≡ w.last number failed) × (some ≡ nat_lt 0 failed)

@@ -58,7 +58,7 @@ pub trait Handler: Drop {
         ensures { IfOk result (λ x. handled_of x ≡ (handling self.now).block (header_of header.now)
             number (block_of payload bytes.now)) };
 
-    /// The report's last line, behind so many blocks, at most 4,096, of which so many failed.
+    /// The report's last line, after so many blocks, at most 4,096, of which so many failed.
     fn last(&self, alloc: Global, blocks: usize, failed: usize) -> Result<Vec<u8>, NoMemory>
         requires few { blocks ≤ 4096 }
         requires failed { failed ≤ blocks }

@@ -46,7 +46,7 @@ fn closing<H: Handler>(alloc: Global, handler: &H, header: &Header) -> Result<Ve
     }
 }
 
-/// The end behind so many blocks, of which so many failed.
+/// The end after so many blocks, of which so many failed.
 fn ending<H: Handler>(
     alloc: Global,
     handler: &H,
@@ -113,7 +113,7 @@ fn going<H: Handler>(
     Ok((round, failed))
 }
 
-/// The number of failed blocks behind one more.
+/// The number of failed blocks after one more.
 fn counted(before: usize, failed: bool) -> usize
     requires { before < 4096 }
     ensures { result ≡ before + one_if failed }

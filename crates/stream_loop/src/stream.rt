@@ -15,8 +15,8 @@ use std::alloc::Global;
 
 /// A command that reads a stream of a kind that it takes, and is handed it block by block. It
 /// ends as the definition of the command's answer says: `BadStream` where the stream is refused,
-/// `SomeFailed` where a block failed, and else `Done`, or by a fault, or for want of memory, which
-/// comes only behind an accepted header.
+/// `SomeFailed` where a block failed, and else `Done`, or by a fault, or since memory ran out, which
+/// comes only after an accepted header.
 pub struct Stream<H: Handler>(pub H);
 
 /// Writes what `out` begins with.

@@ -59,7 +59,7 @@ impl Counts {
         }
     }
 
-    /// With those of a block more, behind fewer than 4,096.
+    /// With those of a block more, after fewer than 4,096.
     pub fn with(self, blocks: usize, sent: &[u8], outcome: &TbOutcome) -> Self
         requires few { blocks < 4096 }
         requires counts { AreFew blocks self }

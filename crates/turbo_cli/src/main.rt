@@ -26,7 +26,7 @@ fn lent(alloc: Global, words: &[String]) -> Result<Vec<&str>, AllocError> {
     Ok(lent)
 }
 
-/// How a run ends whose words couldn't be had: for want of memory, or since one is no text. It is
+/// How a run ends whose words couldn't be had: since memory ran out, or since one is no text. It is
 /// then a run without words.
 fn wordless(error: &io::Error) -> Status {
     match error.kind() {

@@ -99,7 +99,7 @@ stopped_long m rv input bytes old new long took told =
     let P : Answer → Type 0 = λ a. Stopped a old new (BadStream 4 18722) in
     subst P (sym same) (refl, refl, (bytes, took, long))
 
--- memory was wanting once the payload was read
+-- memory ran out once the payload was read
 pub stopped_starved : (m : Match) (rv : ℕ) (input payload : List ℕ) (old new : Option (List ℕ)) →
     0 < length payload → length payload ≤ 18722 → Takes old new payload → IsAtEnd new → old ≡ Some input → Stopped (block_answer m rv input) old new NoMemory
 stopped_starved m rv input payload old new some few took ended told =

@@ -12,7 +12,7 @@ use Rattle.coded_stream.specs.Opening.{first_size}
 use Rattle.coded_stream.specs.declared.version.Version.{Version}
 use Rattle.coded_stream.specs.declared.version.Version.TheVariants.{One, Two}
 use Rattle.coded_stream.proofs.OpeningSteps.{text-long}
-use Rattle.run_loop.specs.Answer.{Part, Answer, behind, refusal, size_of}
+use Rattle.run_loop.specs.Answer.{Part, Answer, behind, size_of}
 use Rattle.run_loop.specs.Due.{IsWithin, Stopped}
 use Rattle.run_loop.specs.Step.{Gives, Steps, Stops, parts_of, ending_of}
 use Rattle.run_loop.specs.declared.work.Part as rust
@@ -69,7 +69,7 @@ read_whole h k count input payload old new some all took told =
     let rest = told_rest old new payload input took told in
     record { left = rest.left; new_is = rest.new_is; answer = ap (blocks_answer h (suc k) count) rest.input_is ∙ whole_answer h k count payload rest.left some all }
 
--- memory was wanting for it
+-- memory ran out for it
 pub stopped_whole : (h : Header) (k count : ℕ) (input payload : List ℕ) (old new : Option (List ℕ)) →
     0 < h.tb → length payload ≡ h.tb → Takes old new payload → old ≡ Some input → Stopped (blocks_answer h (suc k) count input) old new NoMemory
 stopped_whole h k count input payload old new some all took told =
@@ -102,7 +102,7 @@ stops_end count due after new (End closing last failed) is at = (at, refl, sym i
 stops_end count due after new Go is at = absurd is
 stops_end count due after new (Fails status) is at = absurd is
 
--- memory was wanting once the end was seen
+-- memory ran out once the end was seen
 pub stopped_last : (h : Header) (more count : ℕ) (input payload : List ℕ) (old new : Option (List ℕ)) →
     length payload < h.tb → (more ≡ 0 → length payload ≡ 0) → Takes old new payload → IsAtEnd new → old ≡ Some input →
     Stopped (blocks_answer h more count input) old new NoMemory
@@ -153,7 +153,7 @@ gives_last h more count input payload after old new round is few no_more took en
     none_of [] none = refl
     none_of (b ∷ bytes) none = absurd (omega (arith, none))
 
--- a byte behind the last block that may come
+-- a byte after the last block that may come
 stopped_over : (h : Header) (count : ℕ) (input bytes : List ℕ) (old new : Option (List ℕ)) →
     length bytes ≡ 1 → Takes old new bytes → old ≡ Some input → Stopped (blocks_answer h 0 count input) old new (BadStream 8 (4096 * h.tb))
 stopped_over h count input bytes old new one took told =
@@ -167,7 +167,7 @@ stopped_over h count input bytes old new one took told =
       | Whole enough k next answer ↦ absurd (omega (arith, next))
     ]
 
--- the round behind it
+-- the round after it
 pub step_behind_all : (h : Header) (count : ℕ) (input : List ℕ) (after : List ℕ → Answer) (old new : Option (List ℕ)) (result : Result Round Status) →
     IsBehindAll h old new result → count ≡ 4096 → 0 < h.tb → old ≡ Some input →
     Steps (blocks_answer h 0 count input) after old new result

@@ -4,7 +4,7 @@ use Rattle.std.proofs.lemmas.List.{append-nil}
 use Rattle.std.specs.List.{slice_get}
 use Rattle.rate_match.specs.declared.sends.Sending.{Sending}
 
--- one more behind those before it
+-- one more after those before it
 more : (f : Sending → List ℕ) (sends : List Sending) (i : ℕ) (s : Sending) → slice_get sends i ≡ Some s →
     flat_map f (take (suc i) sends) ≡ flat_map f (take i sends) ++ f s
 more f [] i s is = cc

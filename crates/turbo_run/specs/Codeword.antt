@@ -19,7 +19,7 @@ abbrev pub codeword_part : Match → ℕ → List ℕ → Part
 codeword_part m rv payload =
     record { text = codeword_text m rv payload; line = []; size = length payload; wants = length payload + 1 }
 
--- an empty input is refused, and so is the byte behind 18,722; the one block is known to be the last
+-- an empty input is refused, and so is the byte after 18,722; the one block is known to be the last
 abbrev pub block_answer : Match → ℕ → List ℕ → Answer
 block_answer m rv input = if length input == 0
     then refusal 4 0 0 1

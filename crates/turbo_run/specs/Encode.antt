@@ -32,8 +32,8 @@ block_part h payload wants =
 abbrev pub end_behind : (count due : ℕ) → Answer
 end_behind count due = closed (word_text 0) (blocks_line count) finished 0 due
 
--- Behind so many blocks, where so many more may come: the input is cut into blocks of tb bytes. The last may
--- be shorter, which is known once the end of the input was seen. A byte behind the last block that may come
+-- After so many blocks, where so many more may come: the input is cut into blocks of tb bytes. The last may
+-- be shorter, which is known once the end of the input was seen. A byte after the last block that may come
 -- is refused.
 unfoldable pub blocks_answer : Header → (more count : ℕ) → (input : List ℕ) → Answer
 blocks_answer h zero count input = if length input == 0

@@ -14,7 +14,7 @@ use Rattle.run_loop.specs.declared.status.Status.TheVariants.{BadStream, ReadFau
 use Rattle.run_loop.specs.Lines.{blocks_line}
 use Rattle.turbo_run.specs.Encode.{block_part}
 
--- the end behind so many blocks
+-- the end after so many blocks
 abbrev pub IsEnd : (count : ℕ) → Stop → Type 0
 IsEnd count (End closing last failed) = (closing.items ≡ word_text 0) × (last.items ≡ blocks_line count)
     × (failed ≡ false)
@@ -25,13 +25,13 @@ abbrev pub IsOfBlock : Header → (payload : List ℕ) → (wants : ℕ) → Sto
 IsOfBlock h payload wants stop round =
     (parts_of round.parts.items ≡ block_part h payload wants ∷ []) × (round.stop ≡ stop)
 
--- of what is left behind so many blocks, which is no whole block: the end alone, or a shorter block and the end
+-- of what is left after so many blocks, which is no whole block: the end alone, or a shorter block and the end
 abbrev pub IsLast : Header → (count : ℕ) → (payload : List ℕ) → Round → Type 0
 IsLast h count payload round = ((length payload ≡ 0) × (round.parts.items ≡ []) × IsEnd count round.stop)
     ⊎ ((0 < length payload) × (parts_of round.parts.items ≡ block_part h payload (length payload + 1) ∷ [])
     × IsEnd (count + 1) round.stop)
 
--- the end, the byte that is refused, a fault before it came, or want of memory for the end
+-- the end, the byte that is refused, a fault before it came, or running out of memory for the end
 abbrev pub IsBehindAll : Header → (old new : Option (List ℕ)) → Result Round Status → Type 0
 IsBehindAll h old new (Ok round) = Takes old new [] × IsAtEnd new × IsLast h 4096 [] round
 IsBehindAll h old new (Err (BadStream number place)) = (number ≡ 8) × (place ≡ 4096 * h.tb)

@@ -9,7 +9,7 @@ use Rattle.run_loop.specs.declared.status.Status.TheVariants.{ReadFault, NoMemor
 use Rattle.turbo_run.specs.declared.input.Input.{Input}
 use Rattle.turbo_run.specs.declared.input.Input.TheVariants.{Whole, Ended}
 
--- all bytes, fewer up to the end of the input, fewer before a fault, or none where memory was wanting
+-- all bytes, fewer up to the end of the input, fewer before a fault, or none where memory ran out
 abbrev pub IsInput : (size : ℕ) → (old new : Option (List ℕ)) → Result Input Status → Type 0
 IsInput size old new (Ok (Whole bytes)) = (length bytes.items ≡ size) × Takes old new bytes.items
 IsInput size old new (Ok (Ended bytes)) = (length bytes.items < size) × Takes old new bytes.items × IsAtEnd new

@@ -55,11 +55,11 @@ pub record Runs {S D : Type 0} (words : List (List ℕ)) (source source' : S) (o
   pub refused : IfErr (command_of words) (λ refusal. (status ≡ BadWords refusal.number refusal.place)
       × (source' ≡ source) × (out' ≡ out)
       × AddsLine old.report new.report (fault_line status) old.reports new.reports)
-  -- else the run ends as the command's answer says, or by a fault, or for want of memory, and the fault line
-  -- stands behind
+  -- else the run ends as the command's answer says, by a fault, or since memory ran out, and after that stands the
+  -- fault line
   pub ends : IfOk (command_of words) (λ command. (input : List ℕ) → old.left ≡ Some input →
       Finished (answer_of command input) old new status)
-  -- where no count rose, it ends as the answer says, or for want of memory
+  -- where no count rose, it ends as the answer says, or since memory ran out
   pub complete : IfOk (command_of words) (λ command. (input : List ℕ) → old.left ≡ Some input →
       IsQuiet old new → IsEndingOf (ending_of_reply (answer_of command input)) status)
   -- each fault was counted, and accepted words are never refused, whether the source tells or not

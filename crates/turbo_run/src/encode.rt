@@ -29,7 +29,7 @@ pub struct EncodeRounds {
     ghost most: { more + count ≡ 4096 },
 }
 
-/// The end behind so many blocks.
+/// The end after so many blocks.
 fn end(alloc: Global, count: usize) -> Result<Stop, NoMemory>
     ensures { IfOk result (IsEnd count) }
 {
@@ -59,7 +59,7 @@ fn of_block(
     Ok(Round { parts, stop })
 }
 
-/// The last round, of what is left behind so many blocks.
+/// The last round, of what is left after so many blocks.
 fn last(alloc: Global, header: &Header, count: usize, payload: &[u8]) -> Result<Round, NoMemory>
     requires few { length payload.now ≤ header.now.tb }
     requires count { 0 < length payload.now → count < 4096 }
@@ -72,7 +72,7 @@ fn last(alloc: Global, header: &Header, count: usize, payload: &[u8]) -> Result<
     of_block(alloc, header, payload, payload.len() + 1, stop)
 }
 
-/// The round behind the last block that may come: a byte more is refused, and it is read without
+/// The round after the last block that may come: a byte more is refused, and it is read without
 /// memory of its own.
 fn behind_all<S: Source>(alloc: Global, header: &Header, source: &mut S) -> Result<Round, Status>
     ensures bytes { IsBehindAll (header_of header.now) (S.left source.old) (S.left source.new) result }

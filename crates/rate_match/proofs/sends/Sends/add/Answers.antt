@@ -23,7 +23,7 @@ filled_more x ys v d e =
     ∙ sym (set-append_seam ys x (replicate d x) v)
     ∙ ap (λ (zs : List Sending). set zs (length ys) v) (sym (filled x ys (suc d) e))
 
--- a transmission behind others changes neither the first nor what is common
+-- a transmission after others changes neither the first nor what is common
 same_first : (ys : List Sending) (v : Sending) → 1 ≤ length ys → first (ys ++ v ∷ []) ≡ first ys
 same_first [] v some = absurd (omega (arith, some))
 same_first (y ∷ ys) v some = refl
