@@ -129,15 +129,14 @@ impl Work for EncodeRounds {
         if self.more == 0 {
             return behind_all(alloc, &self.header, source);
         }
-        let round = match read_up_to(alloc, source, self.header.tb)? {
+        match read_up_to(alloc, source, self.header.tb)? {
             Input::Whole(payload) => {
                 self.more -= 1;
                 self.count += 1;
                 let payload = payload.as_slice();
-                of_block(alloc, &self.header, payload, payload.len(), Stop::Go)?
+                Ok(of_block(alloc, &self.header, payload, payload.len(), Stop::Go)?)
             }
-            Input::Ended(payload) => last(alloc, &self.header, self.count, payload.as_slice())?,
-        };
-        Ok(round)
+            Input::Ended(payload) => Ok(last(alloc, &self.header, self.count, payload.as_slice())?),
+        }
     }
 }

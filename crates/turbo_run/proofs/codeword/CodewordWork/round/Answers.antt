@@ -1,33 +1,56 @@
-use Rattle.std.proofs.Common.{ℕ, List, subst, arith}
+use Rattle.std.proofs.Common.{ℕ, ◌<◌, List, length, sym, subst, arith}
+use Rattle.std.proofs.lemmas.Result.{err_from_is_err_and}
+use Rattle.run_loop.specs.Due.{Stopped}
+use Rattle.run_loop.specs.declared.status.Status.{Status}
 use Rattle.turbo_run.specs.Codeword.{block_answer}
-use Rattle.turbo_run.specs.CodewordRound.{IsRoundOf}
-use Rattle.turbo_run.proofs.CodewordSteps.{step_of_input, step_of_fault, step_of_long, step_of_none}
+use Rattle.turbo_run.specs.CodewordRound.{IsCoded}
+use Rattle.turbo_run.proofs.CodewordSteps.{gives_coded, stopped_empty, stopped_long, stopped_starved, stopped_unread}
 use Rattle.turbo_run.proofs.codeword.CodewordWork.round.Goals as goal
 
-pub returns-in-Ended-clause-step : goal.returns-in-Ended-clause-step
-returns-in-Ended-clause-step g c input told =
+pub returns-in_err-payload-clause-step : goal.returns-in_err-payload-clause-step
+returns-in_err-payload-clause-step g c input told =
     let s = c.args.self.now in
-    let read = c.in-Ended.ensures.bytes in
-    let P : List ℕ → Type 0 = λ bytes. IsRoundOf s.m s.rv bytes c.of_input.result in
-    step_of_input s.m s.rv input c.in-Ended.input.items (block_answer s.m s.rv) _ (g.S.Source.left c.read_up_to.new.source) c.of_input.result
-    (subst P c.as_slice.ensures.value c.of_input.ensures) (let short = read.0 in omega (arith, short)) read.1 read.2 told
+    let p = err_from_is_err_and c.from_residual.result c.from_residual.ensures.1 in
+    rw (p.1, p.2) (stopped_unread s.m s.rv input _ (g.S.Source.left c.read_up_to.new.source) c.in_err-payload.field-0.0 c.in_err-payload.ensures.bytes told)
 
 pub returns-in-Whole-clause-step : goal.returns-in-Whole-clause-step
 returns-in-Whole-clause-step g c input told =
     let s = c.args.self.now in
+    let old = g.S.Source.left c.args.source.now in
+    let new = g.S.Source.left c.read_up_to.new.source in
     let read = c.in-Whole.ensures.bytes in
-    step_of_long s.m s.rv input c.in-Whole.field-0.items (block_answer s.m s.rv) _ (g.S.Source.left c.read_up_to.new.source) c.bad.result
-    c.bad.ensures.parts c.bad.ensures.stop read.0 read.1 told
+    let P : Status → Type 0 = λ status. Stopped (block_answer s.m s.rv input) old new status in
+    subst P (sym c.bad_length.ensures) (stopped_long s.m s.rv input c.in-Whole.field-0.items old new read.0 read.1 told)
 
-pub returns-in-Fault-clause-step : goal.returns-in-Fault-clause-step
-returns-in-Fault-clause-step g c input told =
+pub returns-then-is_empty-clause-step : goal.returns-then-is_empty-clause-step
+returns-then-is_empty-clause-step g c input told =
     let s = c.args.self.now in
-    let read = c.in-Fault.ensures.bytes in
-    step_of_fault s.m s.rv input read.0 (block_answer s.m s.rv) _ (g.S.Source.left c.read_up_to.new.source) c.stopped.result
-    c.stopped.ensures.parts c.stopped.ensures.stop (let short = read.1 in omega (arith, short)) read.2 told
+    let old = g.S.Source.left c.args.source.now in
+    let new = g.S.Source.left c.read_up_to.new.source in
+    let payload = c.in-Ended.payload.items in
+    let read = c.in-Ended.ensures.bytes in
+    let none : length payload ≡ 0 = search arith in
+    let P : Status → Type 0 = λ status. Stopped (block_answer s.m s.rv input) old new status in
+    subst P (sym c.bad_length-then-is_empty.ensures) (stopped_empty s.m s.rv input payload old new none read.1 read.2 told)
+
+pub returns-in_err-coded-clause-step : goal.returns-in_err-coded-clause-step
+returns-in_err-coded-clause-step g c input told =
+    let s = c.args.self.now in
+    let new = g.S.Source.left c.read_up_to.new.source in
+    let payload = c.in-Ended.payload.items in
+    let read = c.in-Ended.ensures.bytes in
+    let some : 0 < length payload = search arith in
+    let p = err_from_is_err_and c.from_residual-in_err-coded.result c.from_residual-in_err-coded.ensures.1 in
+    rw (p.1, p.2) (stopped_starved s.m s.rv input payload _ new some (let short = read.0 in omega (arith, short)) read.1 read.2 told)
 
 pub returns-clause-step : goal.returns-clause-step
 returns-clause-step g c input told =
     let s = c.args.self.now in
-    step_of_none s.m s.rv input (block_answer s.m s.rv) _ (g.S.Source.left c.read_up_to.new.source) c.stopped-in-NoMemory.result
-    c.stopped-in-NoMemory.ensures.parts c.stopped-in-NoMemory.ensures.stop c.in-NoMemory.ensures.bytes
+    let new = g.S.Source.left c.read_up_to.new.source in
+    let payload = c.in-Ended.payload.items in
+    let read = c.in-Ended.ensures.bytes in
+    let round = c.in_ok-coded.field-0 in
+    let some : 0 < length payload = search arith in
+    let P : List ℕ → Type 0 = λ bytes. IsCoded s.m s.rv bytes round.parts.items round.stop in
+    gives_coded s.m s.rv input payload (block_answer s.m s.rv) _ new round
+    (subst P c.as_slice.ensures.value c.in_ok-coded.ensures) some (let short = read.0 in omega (arith, short)) read.1 read.2 told
