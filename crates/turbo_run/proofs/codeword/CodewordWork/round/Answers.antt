@@ -1,9 +1,11 @@
-use Rattle.std.proofs.Common.{ℕ, ◌<◌, List, length, sym, subst, arith}
+use Rattle.std.proofs.Common.{◌≡◌, ℕ, ◌<◌, List, length, Ok, sym, subst, arith}
 use Rattle.std.proofs.lemmas.Result.{err_from_is_err_and}
 use Rattle.run_loop.specs.Due.{Stopped}
 use Rattle.run_loop.specs.declared.status.Status.{Status}
 use Rattle.turbo_run.specs.Codeword.{block_answer}
 use Rattle.turbo_run.specs.CodewordRound.{IsCoded}
+use Rattle.turbo_run.specs.Input.{IsInput}
+use Rattle.turbo_run.specs.declared.input.Input.{Input}
 use Rattle.turbo_run.proofs.CodewordSteps.{gives_coded, stopped_empty, stopped_long, stopped_starved, stopped_unread}
 use Rattle.turbo_run.proofs.codeword.CodewordWork.round.Goals as goal
 
@@ -18,7 +20,8 @@ returns-in-Whole-clause-step g c input told =
     let s = c.args.self.now in
     let old = g.S.Source.left c.args.source.now in
     let new = g.S.Source.left c.read_up_to.new.source in
-    let read = c.in-Whole.ensures.bytes in
+    let I : Input → Type 0 = λ i. IsInput 18723 (g.S.Source.left c.args.source.now) (g.S.Source.left c.read_up_to.new.source) (Ok i) in
+    let read = subst I c.in-Whole.is c.in_ok-payload.ensures.bytes in
     let P : Status → Type 0 = λ status. Stopped (block_answer s.m s.rv input) old new status in
     subst P (sym c.bad_length.ensures) (stopped_long s.m s.rv input c.in-Whole.field-0.items old new read.0 read.1 told)
 
@@ -28,7 +31,8 @@ returns-then-is_empty-clause-step g c input told =
     let old = g.S.Source.left c.args.source.now in
     let new = g.S.Source.left c.read_up_to.new.source in
     let payload = c.in-Ended.payload.items in
-    let read = c.in-Ended.ensures.bytes in
+    let I : Input → Type 0 = λ i. IsInput 18723 (g.S.Source.left c.args.source.now) (g.S.Source.left c.read_up_to.new.source) (Ok i) in
+    let read = subst I c.in-Ended.is c.in_ok-payload.ensures.bytes in
     let none : length payload ≡ 0 = search arith in
     let P : Status → Type 0 = λ status. Stopped (block_answer s.m s.rv input) old new status in
     subst P (sym c.bad_length-then-is_empty.ensures) (stopped_empty s.m s.rv input payload old new none read.1 read.2 told)
@@ -38,7 +42,8 @@ returns-in_err-coded-clause-step g c input told =
     let s = c.args.self.now in
     let new = g.S.Source.left c.read_up_to.new.source in
     let payload = c.in-Ended.payload.items in
-    let read = c.in-Ended.ensures.bytes in
+    let I : Input → Type 0 = λ i. IsInput 18723 (g.S.Source.left c.args.source.now) (g.S.Source.left c.read_up_to.new.source) (Ok i) in
+    let read = subst I c.in-Ended.is c.in_ok-payload.ensures.bytes in
     let some : 0 < length payload = search arith in
     let p = err_from_is_err_and c.from_residual-in_err-coded.result c.from_residual-in_err-coded.ensures.1 in
     rw (p.1, p.2) (stopped_starved s.m s.rv input payload _ new some (let short = read.0 in omega (arith, short)) read.1 read.2 told)
@@ -48,7 +53,8 @@ returns-clause-step g c input told =
     let s = c.args.self.now in
     let new = g.S.Source.left c.read_up_to.new.source in
     let payload = c.in-Ended.payload.items in
-    let read = c.in-Ended.ensures.bytes in
+    let I : Input → Type 0 = λ i. IsInput 18723 (g.S.Source.left c.args.source.now) (g.S.Source.left c.read_up_to.new.source) (Ok i) in
+    let read = subst I c.in-Ended.is c.in_ok-payload.ensures.bytes in
     let round = c.in_ok-coded.field-0 in
     let some : 0 < length payload = search arith in
     let P : List ℕ → Type 0 = λ bytes. IsCoded s.m s.rv bytes round.parts.items round.stop in
