@@ -17,7 +17,7 @@ pub select-requires-clause-streams : goal.select-requires-clause-streams
 select-requires-clause-streams g c =
     let plan : Plan = c.in_ok-plan.plan in
     let r : ℕ = c.args.r in
-    let below : r < plan.c = omega (arith, ap (λ (p : Plan). p.c) c.plan.view_is) in
+    let below : r < plan.c = omega (arith, ap (λ (p : Plan). p.c) c.plan-2.view_is) in
     let block = block-numbers plan r c.size.ensures.lawful below in
     let b : Block = record { fill = c.fill.result; bits = c.from_vec.result } in
     let long : length c.from_vec.result ≡ c.size.result = omega (arith, ap length c.as_slice.ensures) in

@@ -18,4 +18,4 @@ select-requires-clause-streams g c =
     let shape : AreBlocksOf p bs = subst (λ (list : List Block). AreBlocksOf p list) (sym lent) c.in_ok-blocks.ensures.shape in
     let below : r < p.c = omega (arith, c.loop-r-test.true, shape-count p bs shape) in
     subst (λ (s : Streams). AreStreams (size p r) (fill p r) s) (sym c.in_ok-streams.ensures)
-    (block-streams p bs r c.block-item.result (block-numbers p r (subst IsPlan c.plan.view_is c.plan.invariant) below) shape below c.block-item.is)
+    (block-streams p bs r c.block-item.result (block-numbers p r (subst IsPlan c.plan-2.view_is c.plan-2.invariant) below) shape below c.block-item.is)
