@@ -1,4 +1,4 @@
-use Rattle.std.proofs.Common.{◌≡◌, ◌≢◌, ℕ, ◌<◌, ◌≤◌, List, [], length, set, ℤ, pos, neg_ℤ, ◌≤ℤ◌, sym, ap, ◌∙◌, subst, inl, inr, to_z, of_z, w16, arith, rules}
+use Rattle.std.proofs.Common.{◌≡◌, ◌≢◌, ℕ, ◌<◌, ◌≤◌, List, [], length, set, ℤ, pos, neg_ℤ, ◌≤ℤ◌, sym, ◌∙◌, subst, inl, inr, to_z, of_z, w16, arith, rules}
 use Rattle.std.proofs.lemmas.Bool.{cases_lt}
 use Rattle.std.proofs.lemmas.Int.{ints}
 use Rattle.std.proofs.lemmas.List.{get_or-set_same, get_or-set_other, get_or_read, length-set}
