@@ -1,4 +1,5 @@
 //! Cells in banks, and code blocks whose windows run in lock step.
+ghost use Rattle.std.specs.Prelude.{◌≡◌, length};
 ghost use Rattle.cell_shares.specs.Orders.{IsOrderOf};
 
 use crate::mixed;
@@ -9,21 +10,32 @@ use qpp_table::qpp;
 use std::alloc::Global;
 use std::process::Abort;
 use std::test::Fail;
-use window_decode::{Border, CheckKind, Shape};
+use window_decode::{Border, CheckKind, Ext, Shape};
 
-// The cell of each place has the place as its value.
+/// 64 cells in eight banks.
+fn eight_banks(alloc: Global, cells: Vec<Ext>) -> Result<Banks<8>, NoMemory>
+    requires { length cells.items ≡ 64 }
+{
+    Banks::<8>::new(alloc, List::from_vec(cells))
+}
+
+/// Eight banks whose cells have their places as values.
+fn numbered_banks(rt: &impl Abort, alloc: Global) -> Result<Banks<8>, NoMemory> {
+    let mut places = [0; 64];
+    for (n, place) in places.iter_mut().enumerate() {
+        *place = n as i16;
+    }
+    let cells = exts(alloc, &places)?;
+    assert!(rt; cells.len() == 64);
+    eight_banks(alloc, cells)
+}
+
 #[test]
 fn cells_of_one_step_stand_in_one_row(rt: HostRuntime) -> Result<(), Fail> {
     let order = Order::Interleaved(qpp(64).ok_or("it is a size")?);
     let (r, crossing) = crossbar::<8>(&order, 8, 1);
     assert_eq!(rt; (r, crossing), (7, [2, 1, 0, 7, 6, 5, 4, 3]));
-    let mut places = [0; 64];
-    for (n, place) in places.iter_mut().enumerate() {
-        *place = n as i16;
-    }
-    let cells = exts(rt.alloc(), &places)?;
-    assert!(rt; cells.len() == 64);
-    let banks = Banks::<8>::new(rt.alloc(), List::from_vec(cells))?;
+    let banks = numbered_banks(&rt, rt.alloc())?;
     assert!(rt; banks.width() == 8);
     let row = banks.row(7).map(|cell| cell.value);
     assert_eq!(rt; row, [7, 15, 23, 31, 39, 47, 55, 63]);
