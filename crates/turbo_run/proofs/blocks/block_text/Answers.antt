@@ -10,7 +10,7 @@ pub push_codeword-requires-clause-fits : goal.push_codeword-requires-clause-fits
 push_codeword-requires-clause-fits c =
     let h = c.args.header.now in
     let s : Sending = record { m = c.at-m.result.0; rv = c.at-m.result.1 } in
-    fits_at h.sends h.tb (length c.args.payload.now) c.loop-i.i s h.sent h.fits c.at-m.ensures.value c.requires.some c.requires.few
+    rw c.in_ok-coded.ensures (fits_at h.sends h.tb (length c.args.payload.now) c.loop-i.i s h.sent h.fits c.at-m.ensures.value c.requires.some c.requires.few)
 
 pub loop-i-preserved : goal.loop-i-preserved
 loop-i-preserved c =
