@@ -85,7 +85,7 @@ remainder-low g r (d ∷ bits) low =
     ap (λ u. remainder g u bits) (small g t (omega (arith, low, e, most)))
     ∙ (remainder-low g t bits (omega (arith, low, e)) ∙ e)
 
--- eight bits behind a remainder
+-- eight bits after a remainder
 pub remainder-byte : (g r : ℕ) (bits : List Bit) → IsMonic g → r < 2 ^ 24 → length bits ≡ 8 → number bits < 256
     → remainder g r bits ≡ bit_xor (remainder g (r / 2 ^ 16 * 2 ^ 16) (replicate 8 Zero)) (r % 2 ^ 16 * 256 + number bits)
 remainder-byte g r bits monic h long few =

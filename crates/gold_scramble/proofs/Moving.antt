@@ -46,7 +46,7 @@ moved-moved g n m whole =
 pub whole_moved : (g : Registers) (n : ℕ) → AreWhole (moved g n)
 whole_moved g n = record { first = length-places (place x1_recurrence g.x1) n 31; second = length-places (place x2_recurrence g.x2) n 31 }
 
--- bits to come, and those behind them
+-- bits to come, and those after them
 pub coming-append : (g : Registers) (a b : ℕ) → AreWhole g → places (coming g) 0 (a + b) ≡ places (coming g) 0 a ++ places (coming (moved g a)) 0 b
 coming-append g a b whole =
     places-append (coming g) 0 a b

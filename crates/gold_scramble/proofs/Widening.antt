@@ -1,4 +1,4 @@
--- A register as a number, and the places behind it.
+-- A register as a number, and the places after it.
 use Rattle.std.proofs.Common.{◌≡◌, ℕ, ◌+◌, ◌-◌, ◌*◌, ◌/◌, ◌%◌, ◌^◌, ◌<◌, ◌≤◌, length, refl, ap, sym, ◌∙◌, inl, inr, arith}
 use Rattle.std.specs.Prelude.{bit_and, bit_or, bit_xor}
 use Rattle.std.proofs.lemmas.Bool.{cases_lt}
@@ -9,7 +9,7 @@ use Rattle.gold_scramble.proofs.Continuing.{place_first, place_next}
 use Rattle.gold_scramble.proofs.Digits.{digit_above, digit_below, digit_of_rest, digit_shifted, digit_xor}
 use Rattle.gold_scramble.proofs.PlaceLists.{at-highest_first, length-highest_first, places_from}
 
--- the register x, and the lowest digits of y behind it
+-- the register x, and the lowest digits of y after it
 abbrev wide : (x count y : ℕ) → ℕ
 wide x count y = x * 2 ^ count + y % 2 ^ count
 

@@ -28,7 +28,7 @@ pub fn x2_is_the_one()
 {}
 
 /// A generator gives the sequence: its bits to come are c from the first on, and where it has moved on, those
-/// behind.
+/// after.
 pub fn generators_give_the_sequence()
     ensures begins { (init n : ℕ) → coming (started init) n ≡ c init n }
     ensures goes_on { (init m n : ℕ) → coming (moved (started init) m) n ≡ c init (m + n) }

@@ -25,7 +25,7 @@ halves byte =
     let e0 : bit_at (byte % 16) 0 ≡ bit_at byte 0 = omega arith in
     rw (e7, e6, e5, e4, e3, e2, e1, e0) refl
 
--- two parts written one behind the other
+-- two parts written one after the other
 two_written : {X : Type 0} (old high low : List X) (at k m : ℕ) → at + 8 ≤ length old → length high ≡ 4 → length low ≡ 4 → m ≡ 4
     → take (at + 8) (put_mid (at + 4) k (put_mid at m old high) low) ≡ take at old ++ (high ++ low)
 two_written {X} old high low at k m fits h l four =

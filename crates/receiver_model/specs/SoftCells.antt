@@ -17,7 +17,7 @@ pub record Reception : Type 0 where
 abbrev pub reception : Match → ℕ → List ℤ → Reception
 reception m rv values = record { m = m; rv = rv; values = values }
 
--- where the piece of block r begins in the codeword, behind those of the blocks before it (36.212 5.1.5)
+-- where the piece of block r begins in the codeword, after those of the blocks before it (36.212 5.1.5)
 abbrev pub piece_start : Plan → Match → ℕ → ℕ
 piece_start plan m r = sum_by (piece_length m plan.c) (range_with_len 0 r)
 

@@ -31,7 +31,8 @@ abbrev pub OpensTo : {W : Type 0} → Answer → (after : W → List ℕ → Ans
 OpensTo a after old new (Ok work) = Reached a (after work) old new
 OpensTo a after old new (Err status) = Ended a old new status
 
-pub record Opens {W : Type 0} (answer : List ℕ → Answer) (after : W → List ℕ → Answer) (before now : Edges) (result : Result W Status) : Type 0 where
+pub record Opens {W : Type 0} (answer : List ℕ → Answer) (after : W → List ℕ → Answer) (before now : Edges)
+    (result : Result W Status) : Type 0 where
   pub opens : (input : List ℕ) → before.left ≡ Some input → OpensTo (answer input) after before now result
   pub causes : IfErr result (Causes before now)
   pub later : IsLater before now

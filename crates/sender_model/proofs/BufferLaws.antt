@@ -26,7 +26,7 @@ d2 k = record { k = k; number = 2; nulls = 0 }
 abbrev shifted : ℕ → ℕ → ℕ
 shifted k j = (read_place (rows_of k) j + 1) % (32 * rows_of k)
 
--- what stands at place m behind v0
+-- what stands at place m after v0
 abbrev behind_first : ℕ → ℕ → ℕ → Option Spot
 behind_first k fill m = if m % 2 == 0 then padded (d1 k fill) (read_place (rows_of k) (m / 2)) else padded (d2 k) (shifted k (m / 2))
 

@@ -1,4 +1,4 @@
--- A stream behind its padding, by index: which bit stands at a place, and where there is none.
+-- A stream after its padding, by index: which bit stands at a place, and where there is none.
 use Rattle.std.proofs.Common.{◌≡◌, ◌↔◌, ℕ, ◌+◌, ◌-◌, ◌*◌, ◌/◌, ◌%◌, ◌<◌, ◌≤◌, true, false, length, replicate, slice_index, slice_index_or, None, Some, refl, ap, sym, subst, ◌∙◌, inl, inr, ◌⊎◌, arith}
 use Rattle.std.specs.Prelude.{nat_lt, if◌then◌else◌, unwrap_or}
 use Rattle.std.proofs.lemmas.Bool.{cases_lt, lt-ltb, le-ltb}
@@ -68,7 +68,7 @@ padded-null d s p is within =
           )
     ]
 
--- and it is that of the stream behind its padding
+-- and it is that of the stream after its padding
 pub padded-cell : (d : Stream) (s : Streams) (p : ℕ) → IsStream d s → p < 32 * rows_of d.k → cell_at s (padded d p) ≡ slice_index_or (y d.k (stream_of s d.number)) p Null
 padded-cell d s p is within =
     elim (cases_lt p (padding d.k)) [

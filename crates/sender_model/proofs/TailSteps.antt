@@ -5,7 +5,7 @@ use Rattle.sender_model.specs.Bits.{at}
 use Rattle.sender_model.specs.ConstituentCoder.{State, zero_state, past, next, values, values_from, tail_x, tail_z}
 use Rattle.sender_model.specs.Tail.{reached, tail_input, tail_parity}
 
--- behind the values of c, a goes on as from the state after c
+-- after the values of c, a goes on as from the state after c
 pub after : (s : State) (c : List Bit) (k : ℕ) → at (past s (values_from s c)) (length c + k) ≡ at (past (reached s c) []) k
 after s [] k = ap (λ n. at (past s []) n) (let e : 0 + k ≡ k = omega arith in e)
 after s (u ∷ us) k =

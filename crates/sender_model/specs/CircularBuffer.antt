@@ -31,7 +31,7 @@ pub record Stream : Type 0 where
   pub number : ℕ
   pub nulls : ℕ
 
--- the bit at place p of y, which is the stream behind its padding; none at a NULL
+-- the bit at place p of y, which is the stream after its padding; none at a NULL
 abbrev pub padded : Stream → ℕ → Option Spot
 padded d p =
     if nat_lt p (padding d.k + d.nulls) then None
@@ -60,7 +60,7 @@ w k fill s n = cell_at s (spot k fill n)
 
 -- ---- The same in the standard's words, which the law `buffer_is_read_by_columns` ties to `w`.
 
--- y, a stream behind the NULLs that fill its rows
+-- y, a stream after the NULLs that fill its rows
 abbrev pub y : ℕ → List Cell → List Cell
 y k stream = replicate (padding k) Null ++ stream
 

@@ -14,7 +14,7 @@ pub fn streams_have_nulls_at_fillers()
     ensures { (b : Block) → b.fill ≤ length b.bits → AreStreams (length b.bits) b.fill (streams b) }
 {}
 
-/// The buffer is v0, and then v1 and v2 by turns, each read by columns out of its stream behind the
+/// The buffer is v0, and then v1 and v2 by turns, each read by columns out of its stream after the
 /// NULLs that fill the rows; that of d2 one place further on.
 pub fn buffer_is_read_by_columns()
     ensures first { (k fill j : ℕ) (s : Streams) → AreStreams k fill s → j < 32 * rows_of k →
