@@ -86,7 +86,7 @@ module _ {J D : Type 0} (answers : J → D → Type 0) where
         }
 
   module _ (jobs : List J) (slots : List (Option D)) (are : AreSlotsOf answers jobs slots) (number : ℕ) where
-    pub slot_below : number < length jobs → number < length slots
+    slot_below : number < length jobs → number < length slots
     slot_below below = let same = zip_length (λ job slot. IfSome slot (λ done. answers job done)) jobs slots are in omega arith
 
     pub slot_inside : (done : D) → IsSlipFor answers jobs (Done number done) → number < length slots

@@ -2,14 +2,15 @@ use Rattle.std.proofs.Common.{rules, IfSome, take, sym, subst, ◌+◌, arith}
 use Rattle.atomic_table.proofs.Lists.{at_index}
 use Rattle.std.specs.List.{AllZip}
 use Rattle.tb_pipeline.specs.Slips.{AreSlotsOf}
-use Rattle.tb_pipeline.proofs.AnswerSteps.{slot_below, slot_emptied}
-use Rattle.tb_pipeline.proofs.Zips.{zip_at, zip_more}
+use Rattle.tb_pipeline.proofs.AnswerSteps.{slot_emptied}
+use Rattle.tb_pipeline.proofs.Zips.{zip_at, zip_length, zip_more}
 use Rattle.tb_pipeline.proofs.finishing.finish.Goals as goal
 
 pub swap_at-slot-requires : goal.swap_at-slot-requires
 swap_at-slot-requires g c =
-    let i = c.loop-number.number in
-    slot_below g.J.Job.answers c.args.jobs.now c.loop-number.slots c.loop-number.invariant.0 i (omega (arith, c.loop-number-test.true, c.loop-number.auto.number-end))
+    let answers = g.J.Job.answers in
+    let same = zip_length (λ job slot. IfSome slot (λ done. answers job done)) c.args.jobs.now c.loop-number.slots c.loop-number.invariant.0 in
+    omega (arith, same, c.loop-number-test.true, c.loop-number.auto.number-end)
 
 pub answer_in-requires : goal.answer_in-requires
 answer_in-requires g c =
