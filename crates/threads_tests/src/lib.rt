@@ -8,6 +8,8 @@ mod board;
 #[cfg(test)]
 mod pair_gate;
 #[cfg(test)]
+mod pipeline;
+#[cfg(test)]
 mod program;
 #[cfg(test)]
 mod shares;

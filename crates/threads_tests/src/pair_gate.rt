@@ -1,6 +1,7 @@
-//! A gate that shows whether two windows run at once.
+//! A gate that shows whether two windows, or two jobs, run at once.
 use std::hint::spin_loop;
 use std::sync::atomic::{AtomicU64, Ordering};
+use tb_pipeline::Start;
 use window_workers::Gate;
 
 /// How often the first worker looks for another.
@@ -25,10 +26,9 @@ impl PairGate {
     pub fn met(&self) -> bool {
         self.entered.load(Ordering::SeqCst) >= 2 && self.turns.load(Ordering::SeqCst) < MOST_TURNS
     }
-}
 
-impl Gate for PairGate {
-    fn enter(&self, _half: u32, _window: u32) {
+    /// Enters, and holds the first who does.
+    fn pass(&self) {
         if self.entered.fetch_add(1, Ordering::SeqCst) > 0 {
             return;
         }
@@ -39,5 +39,17 @@ impl Gate for PairGate {
             self.turns.fetch_add(1, Ordering::SeqCst);
             spin_loop();
         }
+    }
+}
+
+impl Gate for PairGate {
+    fn enter(&self, _half: u32, _window: u32) {
+        self.pass();
+    }
+}
+
+impl Start for PairGate {
+    fn enter(&self, _number: usize) {
+        self.pass();
     }
 }

@@ -1,0 +1,29 @@
+//! Jobs, and what a worker passes before each.
+
+/// A job. Threads share it. One that needs memory holds the allocator that it uses, and its want of
+/// memory is a value of its `Done`.
+pub trait Job {
+    /// What a job gives.
+    type Done;
+
+    // Which values answer the job.
+    ghost answers: { Self → Self.Done → Type 0 };
+
+    /// Does the job.
+    fn run(&self) -> Self::Done
+        ensures { answers self.now result };
+}
+
+/// What a worker enters before it does a job. Threads share it.
+pub trait Start {
+    /// A worker is about to do a job, counted from 0.
+    fn enter(&self, number: usize);
+}
+
+/// A start that is always open.
+#[derive(Clone, Copy, Debug)]
+pub struct NoStart;
+
+impl Start for NoStart {
+    fn enter(&self, _number: usize) {}
+}

@@ -1,0 +1,41 @@
+//! Jobs done by several threads.
+ghost use Rattle.std.specs.Prelude.{◌≤◌, length, IfOk};
+ghost use Rattle.std.specs.List.{AllZip};
+
+use crate::answering::{ask, collect, empty_slots};
+use crate::finishing::finish;
+use crate::hand::Relay;
+use crate::job::{Job, Start};
+use crate::telling::another;
+use crate::working::work_all;
+use lte_bits::{List, NoMemory};
+use std::alloc::Global;
+use std::sync::Wait;
+use std::thread::Threads;
+
+/// Does 1 to 64 jobs with 1 to 8 workers: place i of the list is an answer of job i. All memory is taken
+/// before a worker starts. A job of which no answer came back is done at the end, by the caller. Where no
+/// thread can be made, the workers run one after the other.
+pub fn through<J: Job + Sync, G: Start + Sync, R: Threads + Wait + Sync>(
+    rt: &R,
+    alloc: Global,
+    jobs: &[J],
+    pipes: usize,
+    start: &G,
+) -> Result<List<J::Done>, NoMemory>
+where
+    J::Done: Drop + Send,
+    requires jobs { (1 ≤ length jobs.now) × (length jobs.now ≤ 64) }
+    requires pipes { (1 ≤ pipes) × (pipes ≤ 8) }
+    ensures { IfOk result (λ list. AllZip J.answers jobs.now list) }
+{
+    let mut done = Vec::with_capacity(alloc, jobs.len())?;
+    let mut slots = empty_slots(alloc, jobs)?;
+    let (answers, teller) = ask(rt, alloc, jobs)?;
+    let (relay, hands) = Relay::new(rt, alloc, jobs.len(), pipes)?;
+    let (teller, others) = another(&answers, teller);
+    work_all(rt, &relay, hands, jobs, start, &answers, others);
+    collect(jobs, &answers, teller, slots.as_mut_slice());
+    finish(jobs, start, slots.as_mut_slice(), &mut done);
+    Ok(List::from_vec(done))
+}
