@@ -1,14 +1,15 @@
 -- A codeword's values are added block after block.
-use Rattle.std.proofs.Common.{◌≡◌, ◌≢◌, ℕ, zero, suc, ◌+◌, ◌-◌, ◌*◌, ◌<◌, ◌≤◌, ℤ, List, [], length, drop, fold, set, refl, subst, ap, sym, ◌∙◌, inl, inr, arith}
+use Rattle.std.proofs.Common.{◌≡◌, ◌≢◌, ℕ, zero, suc, ◌+◌, ◌-◌, ◌*◌, ◌<◌, ◌≤◌, ℤ, List, [], ◌∷◌, ◌++◌, length, take, drop, fold, set, refl, subst, ap, sym, ◌∙◌, inl, inr, arith}
 use Rattle.std.proofs.lemmas.Bool.{cases_lt}
 use Rattle.std.proofs.lemmas.Bool.Decides.{eqb_tells}
 use Rattle.std.proofs.lemmas.List.{drop-drop, get_or-set_same, get_or-set_other, length-set}
+use Rattle.std.proofs.Math.Seq.{take-append_seam}
 use Rattle.sender_model.specs.Segmentation.{Plan, size}
 use Rattle.sender_model.specs.CircularBuffer.{Match, piece_length}
-use Rattle.sender_model.specs.declared.spot.Spot.{Spot}
 use Rattle.sender_model.proofs.RangeSums.{sum_by-range_more}
 use Rattle.receiver_model.specs.SoftCells.{Reception, added, piece_start, values_of}
-use Rattle.soft_buffers.specs.Buffers.{AreLong, IsBit, cell_of, cells_of_block}
+use Rattle.receiver_model.proofs.SoftSums.{cell-more}
+use Rattle.soft_buffers.specs.Buffers.{AreLong, Buffers, HasTaken, HaveTaken, Hold, cells_of_block}
 
 -- the pieces so far are no more than all
 pub start-within : (plan : Plan) (m : Match) (r : ℕ) → r < plan.c → piece_start plan m r + piece_length m plan.c r ≤ piece_start plan m plan.c
@@ -26,11 +27,6 @@ pub rest-more : (plan : Plan) (m : Match) (r e : ℕ) (all rest back : List ℤ)
 rest-more plan m r e all rest back is own behind =
     behind ∙ ap (drop e) is ∙ drop-drop e (piece_start plan m r) all
     ∙ ap (λ (n : ℕ). drop n all) (let sum : piece_start plan m r + e ≡ piece_start plan m (r + 1) = omega (arith, own, sum_by-range_more (piece_length m plan.c) r) in sum)
-
--- each cell of a block has the values that belong to it
-abbrev pub HasTaken : Plan → Reception → ℕ → List ℤ → List ℤ → Type 0
-HasTaken plan x r had has =
-    (s : Spot) → IsBit (size plan r) s → cell_of (size plan r) has s ≡ fold added (cell_of (size plan r) had s) (values_of plan x r s)
 
 -- the blocks below r have, and the others are as they were
 pub record IsPassed (plan : Plan) (x : Reception) (had : List (List ℤ)) (r : ℕ) (has : List (List ℤ)) : Type 0 where
@@ -68,3 +64,22 @@ passed-more plan x had has more r cells is below change long took =
   where
     apart : (q : ℕ) → q < r + 1 → q ≢ r → q < r
     apart q less other = elim (cases_lt q r) [ inl h ↦ h | inr h ↦ absurd (other (omega (arith, less, h))) ]
+
+-- ---- all blocks
+
+-- what a borrow of a whole list leaves
+pub refilled : {X : Type 0} (n : ℕ) (xs ws : List X) → n ≡ length ws → take n (ws ++ drop (length ws) xs) ≡ ws
+refilled n xs ws long = ap (λ (m : ℕ). take m (ws ++ drop (length ws) xs)) long ∙ take-append_seam ws (drop (length ws) xs)
+
+pub taken-whole : (plan : Plan) (x : Reception) (n : ℕ) (blocks old new : List (List ℤ)) → HaveTaken plan x old new → old ≡ blocks → n ≡ length new
+    → HaveTaken plan x blocks (take n (new ++ drop (length new) blocks))
+taken-whole plan x n blocks old new took is long =
+    subst (HaveTaken plan x blocks) (sym (refilled n blocks new long)) (subst (λ (had : List (List ℤ)). HaveTaken plan x had new) is took)
+
+-- buffers that hold receptions hold one more
+pub hold-more : (b : Buffers) (new : List (List ℤ)) (xs : List Reception) (x : Reception) → HaveTaken b.plan x b.cells new → Hold b xs
+    → Hold (record { plan = b.plan; limit = b.limit; cells = new }) (xs ++ x ∷ [])
+hold-more b new xs x took hold r below s inside =
+    took r below s inside
+    ∙ ap (λ (cell : ℤ). fold added cell (values_of b.plan x r s)) (hold r below s inside)
+    ∙ sym (cell-more b.plan xs x r s)

@@ -1,8 +1,10 @@
 -- What contracts see of the soft buffers of a transport block.
-use Rattle.std.specs.Prelude.{◌≡◌, ℕ, ◌+◌, ◌*◌, ◌<◌, ◌≤◌, ℤ, pos, Option, List, [], length, slice_index_or}
+use Rattle.std.specs.Prelude.{◌≡◌, ℕ, ◌+◌, ◌*◌, ◌<◌, ◌≤◌, ℤ, pos, Option, List, [], fold, length, map, slice_index_or}
+use Rattle.std.specs.List.{range_with_len}
+use Rattle.lte_bits.specs.declared.block.SoftStreams.{SoftStreams}
 use Rattle.sender_model.specs.Segmentation.{Plan, size}
 use Rattle.sender_model.specs.declared.spot.Spot.{Spot}
-use Rattle.receiver_model.specs.SoftCells.{Reception, soft_cell}
+use Rattle.receiver_model.specs.SoftCells.{Reception, added, begun_with, soft_cell, values_of}
 
 -- the plan of the transport block, N_IR or None for a full buffer, and the cells of each code block: those of
 -- d0, then of d1, then of d2
@@ -29,6 +31,29 @@ cells_of_block blocks r = slice_index_or blocks r []
 -- each block of the plan has a cell for each bit of its streams
 abbrev pub AreLong : Plan → List (List ℤ) → Type 0
 AreLong plan blocks = (r : ℕ) → r < plan.c → length (cells_of_block blocks r) ≡ 3 * (size plan r + 4)
+
+-- the cells of stream 0, 1 or 2 of a block of k bits
+abbrev pub cells_of_stream : ℕ → List ℤ → ℕ → List ℤ
+cells_of_stream k cells number = map (λ i. cell_of k cells (record { stream = number; index = i })) (range_with_len 0 (k + 4))
+
+-- the soft streams of a block of k bits with these cells, of whose first bits so many are fillers: those are
+-- known to be 0 in d0, and nothing is known of them in d1
+abbrev pub streams_of_cells : ℕ → ℕ → List ℤ → SoftStreams
+streams_of_cells k fill cells = record {
+  fill = fill;
+  d0 = begun_with fill (pos 127) (cells_of_stream k cells 0);
+  d1 = begun_with fill (pos 0) (cells_of_stream k cells 1);
+  d2 = cells_of_stream k cells 2;
+}
+
+-- the cell of each bit of block r has taken the values of a reception that belong to the bit
+abbrev pub HasTaken : Plan → Reception → ℕ → (old new : List ℤ) → Type 0
+HasTaken plan x r old new = (s : Spot) → IsBit (size plan r) s →
+    cell_of (size plan r) new s ≡ fold added (cell_of (size plan r) old s) (values_of plan x r s)
+
+-- in every block of the plan
+abbrev pub HaveTaken : Plan → Reception → (old new : List (List ℤ)) → Type 0
+HaveTaken plan x old new = (r : ℕ) → r < plan.c → HasTaken plan x r (cells_of_block old r) (cells_of_block new r)
 
 -- every cell is that of these receptions
 abbrev pub Hold : Buffers → List Reception → Type 0

@@ -1,9 +1,10 @@
 //! The soft buffers of a transport block.
 ghost use Rattle.std.specs.Prelude.{◌≡◌, ◌≤◌, ◌<◌, ◌+◌, ◌*◌, ◌++◌, [], ◌∷◌, List, IfOk, length, pos, replicate};
+ghost use Rattle.sender_model.specs.Segmentation.{fill, size};
 ghost use Rattle.sender_model.specs.CircularBuffer.{FitsIn};
 ghost use Rattle.rate_match.specs.Matching.{limit_of};
 ghost use Rattle.receiver_model.specs.SoftCells.{Reception, reception, soft_streams};
-ghost use Rattle.soft_buffers.specs.Buffers.{Hold};
+ghost use Rattle.soft_buffers.specs.Buffers.{HaveTaken, Hold, cells_of_block, streams_of_cells};
 
 use crate::pieces::add_codeword;
 use crate::streams::streams_of;
@@ -72,6 +73,7 @@ impl HarqBuffers {
         requires values { length softs.now ≡ m.now.g }
         ensures plan { self.new.plan ≡ self.old.plan }
         ensures limit { self.new.limit ≡ self.old.limit }
+        ensures added { HaveTaken self.old.plan (reception m.now rv softs.now) self.old.cells self.new.cells }
         ensures cells { (xs : List Reception) → Hold self.old xs →
             Hold self.new (xs ++ reception m.now rv softs.now ∷ []) }
     {
@@ -82,7 +84,9 @@ impl HarqBuffers {
     /// those of d1.
     pub fn streams(&self, alloc: Global, r: usize) -> Result<SoftStreams, NoMemory>
         requires { r < self.now.plan.c }
-        ensures { (xs : List Reception) → Hold self.now xs →
+        ensures cells { IfOk result (λ streams. streams ≡ streams_of_cells (size self.now.plan r)
+            (fill self.now.plan r) (cells_of_block self.now.cells r)) }
+        ensures received { (xs : List Reception) → Hold self.now xs →
             IfOk result (λ streams. streams ≡ soft_streams self.now.plan xs r) }
     {
         streams_of(

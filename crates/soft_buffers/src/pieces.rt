@@ -1,10 +1,9 @@
 //! The values of a transmission, block after block.
-ghost use Rattle.std.specs.Prelude.{◌≡◌, ◌≤◌, ◌<◌, ◌+◌, ◌*◌, ◌++◌, [], ◌∷◌, ℕ, ℤ, List, length, fold, slice_index_or};
-ghost use Rattle.sender_model.specs.declared.spot.Spot.{Spot as Bit};
+ghost use Rattle.std.specs.Prelude.{◌≡◌, ◌≤◌, ◌<◌, ◌+◌, ◌*◌, ℤ, List, length};
 ghost use Rattle.sender_model.specs.Segmentation.{size};
 ghost use Rattle.sender_model.specs.CircularBuffer.{Fits, piece_length};
-ghost use Rattle.receiver_model.specs.SoftCells.{added, piece, reception, values_of};
-ghost use Rattle.soft_buffers.specs.Buffers.{AreLong, IsBit, cell_of, cells_of_block};
+ghost use Rattle.receiver_model.specs.SoftCells.{piece, reception};
+ghost use Rattle.soft_buffers.specs.Buffers.{AreLong, HasTaken, HaveTaken};
 
 use crate::values::add_values;
 use lte_bits::{List, Soft};
@@ -20,10 +19,7 @@ fn add_piece(cells: &mut [Soft], plan: &Plan, m: &Match, r: usize, rv: u8, value
     requires few { length values.now ≤ 1000000 }
     requires values { length values.now ≡ piece_length m.now plan.now.c r }
     ensures cells { (all : List ℤ) → values.now ≡ piece plan.now (reception m.now rv all) r →
-        (s : Bit) → IsBit (size plan.now r) s →
-        cell_of (size plan.now r) cells.new s
-        ≡ fold added (cell_of (size plan.now r) cells.old s)
-        (values_of plan.now (reception m.now rv all) r s) }
+        HasTaken plan.now (reception m.now rv all) r cells.old cells.new }
     ensures long { length cells.new ≡ length cells.old }
 {
     let ring = ring_of(m, plan, r);
@@ -37,10 +33,7 @@ pub fn add_codeword(blocks: &mut [List<Soft>], plan: &Plan, m: &Match, rv: u8, s
     requires fits { Fits m.now plan.now }
     requires version { rv ≤ 3 }
     requires values { length softs.now ≡ m.now.g }
-    ensures cells { (r : ℕ) → r < plan.now.c → (s : Bit) → IsBit (size plan.now r) s →
-        cell_of (size plan.now r) (cells_of_block blocks.new r) s
-        ≡ fold added (cell_of (size plan.now r) (cells_of_block blocks.old r) s)
-        (values_of plan.now (reception m.now rv softs.now) r s) }
+    ensures cells { HaveTaken plan.now (reception m.now rv softs.now) blocks.old blocks.new }
     ensures count { length blocks.new ≡ plan.now.c }
     ensures long { AreLong plan.now blocks.new }
 {

@@ -1,6 +1,7 @@
 //! The soft streams of a code block from its cells.
-ghost use Rattle.std.specs.Prelude.{◌≡◌, ◌≤◌, ◌+◌, ◌*◌, IfOk, length, take, drop, pos};
+ghost use Rattle.std.specs.Prelude.{◌≡◌, ◌≤◌, ◌+◌, ◌*◌, IfOk, length};
 ghost use Rattle.receiver_model.specs.SoftCells.{begun_with};
+ghost use Rattle.soft_buffers.specs.Buffers.{streams_of_cells};
 
 use lte_bits::{List, NoMemory, Soft, SoftStreams};
 use std::alloc::Global;
@@ -33,15 +34,10 @@ pub fn streams_of(
     requires few { k ≤ 6144 }
     requires fillers { fill ≤ k }
     requires cells { length cells.now ≡ 3 * (k + 4) }
-    ensures { IfOk result (λ streams. streams ≡ record {
-      fill = fill;
-      d0 = begun_with fill (pos 127) (take (k + 4) cells.now);
-      d1 = begun_with fill (pos 0) (take (k + 4) (drop (k + 4) cells.now));
-      d2 = drop (k + 4) (drop (k + 4) cells.now);
-    }) }
+    ensures { IfOk result (λ streams. streams ≡ streams_of_cells k fill cells.now) }
 {
-    let (d0, behind) = cells.split_at(k + 4);
-    let (d1, d2) = behind.split_at(k + 4);
+    let (d0, after) = cells.split_at(k + 4);
+    let (d1, d2) = after.split_at(k + 4);
     Ok(SoftStreams {
         fill,
         d0: begun_with(alloc, fill, Soft::from_i8(127), d0)?,

@@ -25,5 +25,5 @@ fitting task xs r p soft shape is below same soft_is shape_is =
 pub decode-requires : goal.decode-requires
 decode-requires g c =
     let xs = c.requires.holds.0 in
-    let fits = fitting c.args.task.now xs c.args.r c.args.buffers.now.plan c.in_ok-streams.streams c.block_shape.result c.block_shape.ensures.lawful c.requires.block c.requires.plan (c.in_ok-streams.ensures xs c.requires.holds.1) c.block_shape.ensures.value in
+    let fits = fitting c.args.task.now xs c.args.r c.args.buffers.now.plan c.in_ok-streams.streams c.block_shape.result c.block_shape.ensures.lawful c.requires.block c.requires.plan (c.in_ok-streams.ensures.received xs c.requires.holds.1) c.block_shape.ensures.value in
     c.requires.takes _ _ _ (record { fill = fits.fill; d0 = fits.d0; d1 = fits.d1; d2 = fits.d2 })

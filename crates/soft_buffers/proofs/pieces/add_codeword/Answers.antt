@@ -4,9 +4,8 @@ use Rattle.std.proofs.lemmas.List.{get_or_read, length-drop}
 use Rattle.sender_model.specs.Segmentation.{Plan}
 use Rattle.sender_model.specs.CircularBuffer.{piece_length}
 use Rattle.receiver_model.specs.SoftCells.{Reception, piece, piece_start, reception}
-use Rattle.soft_buffers.specs.Buffers.{cells_of_block}
-use Rattle.soft_buffers.proofs.StreamCells.{refilled}
-use Rattle.soft_buffers.proofs.Codewords.{HasTaken, start-within, rest-more, passed-more}
+use Rattle.soft_buffers.specs.Buffers.{HasTaken, cells_of_block}
+use Rattle.soft_buffers.proofs.Codewords.{start-within, rest-more, passed-more, refilled}
 use Rattle.soft_buffers.proofs.pieces.add_codeword.Goals as goal
 
 pub split_at-requires : goal.split_at-requires

@@ -1,22 +1,23 @@
-use Rattle.std.proofs.Common.{◌≡◌, ℕ, ℤ, List, ◌++◌, length, take, drop, fold, subst, sym, ap, ◌∙◌, arith}
-use Rattle.sender_model.specs.Segmentation.{Plan, size}
-use Rattle.receiver_model.specs.SoftCells.{Reception, added, reception, values_of}
-use Rattle.receiver_model.proofs.SoftSums.{cell-more}
-use Rattle.soft_buffers.specs.Buffers.{Buffers, Hold, cell_of, cells_of_block}
+use Rattle.std.proofs.Common.{ℤ, List, ◌++◌, length, take, drop, subst, sym, ap, arith}
+use Rattle.receiver_model.specs.SoftCells.{Reception, reception}
+use Rattle.soft_buffers.specs.Buffers.{Buffers, HaveTaken, Hold}
 use Rattle.soft_buffers.specs.Shown.{shown}
-use Rattle.soft_buffers.proofs.StreamCells.{refilled}
+use Rattle.soft_buffers.proofs.Codewords.{hold-more, taken-whole}
 use Rattle.soft_buffers.proofs.buffers.HarqBuffers.combine.Goals as goal
 
-pub returns-clause-cells : goal.returns-clause-cells
-returns-clause-cells c xs hold r below s inside =
+pub returns-clause-added : goal.returns-clause-added
+returns-clause-added c =
     let b = c.self.inside in
-    let p : Plan = b.plan in
-    let k : ℕ = size p r in
     let x : Reception = reception c.args.m.now c.args.rv c.args.softs.now in
-    let before : Hold (shown b) xs = subst (λ (v : Buffers). Hold v xs) (sym c.self.view_is) hold in
     let new : List (List ℤ) = c.add_codeword.new.blocks in
-    let all : take b.blocks.len (new ++ drop (length new) b.blocks.items) ≡ new = refilled b.blocks.len b.blocks.items new (omega (arith, c.self.invariant.count, c.add_codeword.ensures.count, c.as_mut_slice.ensures.len, ap length c.as_mut_slice.ensures.value)) in
-    ap (λ (blocks : List (List ℤ)). cell_of k (cells_of_block blocks r) s) all
-    ∙ c.add_codeword.ensures.cells r below s inside
-    ∙ ap (λ (cell : ℤ). fold added cell (values_of p x r s)) (ap (λ (blocks : List (List ℤ)). cell_of k (cells_of_block blocks r) s) c.as_mut_slice.ensures.value ∙ before r below s inside)
-    ∙ sym (cell-more p xs x r s)
+    subst (λ (v : Buffers). HaveTaken v.plan x v.cells (take b.blocks.len (new ++ drop (length new) b.blocks.items))) c.self.view_is
+    (taken-whole b.plan x b.blocks.len b.blocks.items c.as_mut_slice.result.now new c.add_codeword.ensures.cells c.as_mut_slice.ensures.value
+    (omega (arith, c.self.invariant.count, c.add_codeword.ensures.count, c.as_mut_slice.ensures.len, ap length c.as_mut_slice.ensures.value)))
+
+pub returns-clause-cells : goal.returns-clause-cells
+returns-clause-cells c xs hold =
+    let b = c.self.inside in
+    let x : Reception = reception c.args.m.now c.args.rv c.args.softs.now in
+    let new : List (List ℤ) = take b.blocks.len (c.add_codeword.new.blocks ++ drop (length c.add_codeword.new.blocks) b.blocks.items) in
+    let took : HaveTaken b.plan x b.blocks.items new = subst (λ (v : Buffers). HaveTaken v.plan x v.cells new) (sym c.self.view_is) (returns-clause-added c) in
+    hold-more (shown b) new xs x took (subst (λ (v : Buffers). Hold v xs) (sym c.self.view_is) hold)

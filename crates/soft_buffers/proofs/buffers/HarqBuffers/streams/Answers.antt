@@ -1,13 +1,13 @@
-use Rattle.std.proofs.Common.{◌≡◌, ℕ, ◌+◌, ◌<◌, List, [], ℤ, IfOk, take, drop, subst, sym, ap, ◌∙◌, arith}
+use Rattle.std.proofs.Common.{◌≡◌, ℕ, ◌<◌, List, [], ℤ, ap, ◌∙◌, arith}
 use Rattle.std.proofs.lemmas.List.{get_or_read}
 use Rattle.std.proofs.lemmas.Result.{IfOk-weaker}
-use Rattle.sender_model.specs.Segmentation.{Plan}
+use Rattle.sender_model.specs.Segmentation.{size, fill}
 use Rattle.receiver_model.specs.SoftCells.{soft_streams}
 use Rattle.rate_match.proofs.BlockNumbers.{block-numbers}
-use Rattle.soft_buffers.specs.Buffers.{Buffers, Hold, cells_of_block}
+use Rattle.soft_buffers.specs.Buffers.{Buffers, cells_of_block, streams_of_cells}
 use Rattle.soft_buffers.specs.Shown.{shown}
 use Rattle.soft_buffers.specs.declared.buffers.HarqBuffers.TheInside.{Inside}
-use Rattle.soft_buffers.proofs.StreamCells.{AreOf, streams-are, streams_from}
+use Rattle.soft_buffers.proofs.StreamCells.{same_cells, streams-are}
 use Rattle.soft_buffers.proofs.buffers.HarqBuffers.streams.Goals as goal
 
 -- r is a block of the plan that is kept
@@ -26,16 +26,22 @@ streams_of-requires-clause-fillers c =
     let block = block-numbers b.plan c.args.r c.size.ensures.lawful (in_plan b c.args.self.now c.args.r c.self.view_is c.requires) in
     omega (arith, block.fills, c.size.ensures.value, c.fill.ensures)
 
-pub returns : goal.returns
-returns c xs hold =
+pub returns-clause-cells : goal.returns-clause-cells
+returns-clause-cells c =
     let b = c.self.inside in
-    let p : Plan = b.plan in
+    let v : Buffers = c.args.self.now in
     let r : ℕ = c.args.r in
-    let below : r < p.c = in_plan b c.args.self.now r c.self.view_is c.requires in
-    let w : ℕ = c.size.result + 4 in
-    let cells : List ℤ = c.as_slice.result.now in
-    let before : Hold (shown b) xs = subst (λ (v : Buffers). Hold v xs) (sym c.self.view_is) hold in
+    let below : r < b.plan.c = in_plan b v r c.self.view_is c.requires in
     let read : c.as_slice.result.now ≡ cells_of_block b.blocks.items r = c.as_slice.ensures ∙ get_or_read b.blocks.items r c.index.result.now (omega (arith, below, c.self.invariant.count)) c.index.ensures [] in
-    let are : AreOf p xs r c.as_slice.result.now = subst (λ (cells : List ℤ). AreOf p xs r cells) (sym read) (record { long = c.self.invariant.long r below; each = before r below }) in
-    subst (λ (q : Plan). IfOk c.streams_of.result (λ streams. streams ≡ soft_streams q xs r)) (ap (λ (v : Buffers). v.plan) c.self.view_is)
-    (IfOk-weaker c.streams_of.result (λ s. s ≡ streams_from c.fill.result (take w cells) (take w (drop w cells)) (drop w (drop w cells))) (λ s. s ≡ soft_streams p xs r) (λ s is. is ∙ streams-are p xs r c.size.result c.fill.result c.as_slice.result.now are c.size.ensures.value c.fill.ensures) c.streams_of.ensures)
+    let same : streams_of_cells c.size.result c.fill.result c.as_slice.result.now ≡ streams_of_cells (size v.plan r) (fill v.plan r) (cells_of_block v.cells r) =
+    same_cells (c.size.ensures.value ∙ ap (λ (w : Buffers). size w.plan r) c.self.view_is) (c.fill.ensures ∙ ap (λ (w : Buffers). fill w.plan r) c.self.view_is) (read ∙ ap (λ (w : Buffers). cells_of_block w.cells r) c.self.view_is) in
+    IfOk-weaker c.streams_of.result (λ s. s ≡ streams_of_cells c.size.result c.fill.result c.as_slice.result.now) (λ s. s ≡ streams_of_cells (size v.plan r) (fill v.plan r) (cells_of_block v.cells r))
+    (λ s is. is ∙ same) c.streams_of.ensures
+
+pub returns-clause-received : goal.returns-clause-received
+returns-clause-received c xs hold =
+    let v : Buffers = c.args.self.now in
+    let r : ℕ = c.args.r in
+    let cells : List ℤ = cells_of_block v.cells r in
+    IfOk-weaker c.streams_of.result (λ s. s ≡ streams_of_cells (size v.plan r) (fill v.plan r) cells) (λ s. s ≡ soft_streams v.plan xs r)
+    (λ s is. is ∙ streams-are v.plan xs r cells (hold r c.requires)) (returns-clause-cells c)
