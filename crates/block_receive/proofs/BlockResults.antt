@@ -8,7 +8,6 @@ use Rattle.receiver_model.specs.declared.result.CodeResult.{CodeResult}
 use Rattle.receiver_model.specs.SoftCells.{Reception, soft_streams}
 use Rattle.receiver_model.specs.TransportBlocks.{Effort, Held, all_passed, block_result, block_shape, held_after, if_passed, results_in, tried, tried_block}
 use Rattle.receiver_model.proofs.DecodedOnce.{decoded-is}
-use Rattle.block_receive.specs.Held.{unpassed}
 use Rattle.block_receive.proofs.StreamLengths.{bits-long}
 
 -- a result of block r
@@ -34,6 +33,10 @@ result-of plan e xs r lawful below =
       long = ap length is.bits ∙ bits-long soft shape x.iterations (let fills = lawful.fills r below in omega (arith, fills));
       few = omega (arith, is.to_limit, lawful.few);
     }
+
+-- what is read past the end of a list of results
+abbrev pub unpassed : CodeResult
+unpassed = record { block = record { fill = 0; bits = [] }; iterations = 0; passed = false }
 
 -- one for each block, and those that are held
 abbrev pub AllOf : Plan → List CodeResult → Type 0

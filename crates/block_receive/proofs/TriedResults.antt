@@ -1,7 +1,6 @@
 -- What the code holds from try to try, beside the definition.
-use Rattle.std.proofs.Common.{◌≡◌, ℕ, ℤ, ◌++◌, zero, suc, ◌+◌, ◌<◌, ◌≤◌, Bool, true, false, cond, List, [], ◌∷◌, length, get_or, map, take, All, refl, sym, ap, ◌∙◌, subst, arith}
-use Rattle.std.specs.Prelude.{Option, None, Some, ◌&&◌, slice_get, unwrap_or}
-use Rattle.std.specs.List.{range_with_len}
+use Rattle.std.proofs.Common.{◌≡◌, ℕ, ℤ, ◌++◌, suc, ◌+◌, ◌<◌, ◌≤◌, Bool, true, false, cond, List, [], ◌∷◌, length, get_or, map, take, All, sym, ap, ◌∙◌, subst, arith}
+use Rattle.std.specs.Prelude.{Some, ◌&&◌, slice_get}
 use Rattle.std.proofs.lemmas.List.{get_or_default, get_or-map, length-map}
 use Rattle.std.proofs.lemmas.List.FromFn.{fill_by_all}
 use Rattle.lte_bits.specs.declared.block.Block.{Block}
@@ -14,15 +13,14 @@ use Rattle.receiver_model.specs.declared.result.CheckKind.TheVariants.{A}
 use Rattle.receiver_model.specs.declared.result.CodeResult.{CodeResult}
 use Rattle.receiver_model.specs.SoftCells.{Reception, reception}
 use Rattle.receiver_model.specs.Decoding.{check_holds}
-use Rattle.receiver_model.specs.TransportBlocks.{Effort, Held, all_passed, block_result, delivers, held_after, if_passed, results_in, tried, tried_block, whole_of}
+use Rattle.receiver_model.specs.TransportBlocks.{Effort, Held, all_passed, delivers, held_after, if_passed, results_in, tried, whole_of}
 use Rattle.rate_match.specs.declared.sends.Sending.{Sending}
 use Rattle.soft_buffers.specs.Buffers.{Buffers, Hold}
 use Rattle.block_receive.specs.Receptions.{receptions}
 use Rattle.block_receive.proofs.Taken.{AreTaken, IsNext, hold-more, taken-more}
 use Rattle.block_receive.specs.declared.task.Task.{Task}
 use Rattle.block_receive.specs.Effort.{effort_in}
-use Rattle.block_receive.specs.Held.{none_of, unpassed}
-use Rattle.block_receive.proofs.BlockResults.{AllOf, AreLawful, held-at, results-of, tried-long}
+use Rattle.block_receive.proofs.BlockResults.{AllOf, AreLawful, results-of, tried-long, unpassed}
 
 pub lawful-in : (task : Task) → IsPlan task.plan → AreLawful task.plan (effort_in task)
 lawful-in task is = record {
@@ -31,41 +29,20 @@ lawful-in task is = record {
   few = task.effort.few_iterations;
 }
 
--- the results hold what is held after the last try
-abbrev pub Keeps : List CodeResult → List CodeResult → Type 0
-Keeps results last = (r : ℕ) → get_or (map if_passed results) r None ≡ get_or (held_after last) r None
-
-nothing-at : (c r : ℕ) → get_or (none_of c) r unpassed ≡ unpassed
-nothing-at zero r = refl
-nothing-at (suc c) zero = refl
-nothing-at (suc c) (suc r) = nothing-at c r
-
-nothing-held : (c r : ℕ) → get_or (map if_passed (none_of c)) r None ≡ None
-nothing-held c r = held-at (none_of c) r ∙ ap if_passed (nothing-at c r)
-
--- at first, and where all passed, none is held
-pub keeps-none : (c : ℕ) (results last : List CodeResult) → results ≡ none_of c → all_passed last ≡ true → Keeps results last
-keeps-none c results last is all r =
-    ap (λ (xs : List CodeResult). get_or (map if_passed xs) r None) is ∙ nothing-held c r
-    ∙ ap (λ (b : Bool). get_or (cond b [] (map if_passed last)) r None) (sym all)
+-- where all passed, none is held
+pub held-none : (last : List CodeResult) → all_passed last ≡ true → [] ≡ held_after last
+held-none last all = ap (λ (b : Bool). cond b [] (map if_passed last)) (sym all)
 
 -- else those that passed
-pub keeps-passed : (results last : List CodeResult) → results ≡ last → all_passed results ≡ false → Keeps results last
-keeps-passed results last is some r =
-    ap (λ (xs : List CodeResult). get_or (map if_passed xs) r None) is
-    ∙ ap (λ (b : Bool). get_or (cond b [] (map if_passed last)) r None) (sym (ap all_passed (sym is) ∙ some))
+pub held-passed : (last : List CodeResult) → all_passed last ≡ false → map if_passed last ≡ held_after last
+held-passed last some = ap (λ (b : Bool). cond b [] (map if_passed last)) (sym some)
 
 -- so a try has the results of the definition
-pub tried-is : (plan : Plan) (e : Effort) (all : List Reception) (n : ℕ) (old new : List CodeResult) → Keeps old (results_in plan e all n)
-    → new ≡ tried plan e (take (n + 1) all) (map if_passed old) → new ≡ results_in plan e all (suc n)
-tried-is plan e all n old new keeps is =
-    let held : Held = held_after (results_in plan e all n) in
-    let each : (r : ℕ) → tried_block plan e (take (n + 1) all) (map if_passed old) r ≡ tried_block plan e (take (n + 1) all) held r =
-    λ r. ap (λ (o : Option CodeResult). unwrap_or o (block_result plan e (take (n + 1) all) r)) (keeps r) in
-    let all_equal : tried_block plan e (take (n + 1) all) (map if_passed old) ≡ tried_block plan e (take (n + 1) all) held = λ i r. each r i in
-    let next : n + 1 ≡ suc n = omega arith in
-    is ∙ ap (λ (f : ℕ → CodeResult). map f (range_with_len 0 plan.c)) all_equal
-    ∙ ap (λ (m : ℕ). tried plan e (take m all) held) next
+pub tried-is : (plan : Plan) (e : Effort) (all : List Reception) (n : ℕ) (held : Held) (new : List CodeResult) → held ≡ held_after (results_in plan e all n)
+    → new ≡ tried plan e (take (n + 1) all) held → new ≡ results_in plan e all (suc n)
+tried-is plan e all n held new keeps is =
+    is ∙ ap (tried plan e (take (n + 1) all)) keeps
+    ∙ ap (λ (m : ℕ). tried plan e (take m all) (held_after (results_in plan e all n))) (let next : n + 1 ≡ suc n = omega arith in next)
 
 -- few iterations each
 pub all-few : (plan : Plan) (results : List CodeResult) → length results ≡ plan.c → AllOf plan results → All (λ x. x.iterations ≤ 16) results
@@ -101,14 +78,14 @@ pub record IsTry (task : Task) (all : List Reception) (n : ℕ) (new : List Code
   pub few : All (λ x. x.iterations ≤ 16) new
   pub shaped : AreBlocksOf task.plan (map (λ x. x.block) new)
 
-pub try-is : (task : Task) (all : List Reception) (n : ℕ) (old new : List CodeResult) → IsPlan task.plan → Keeps old (results_in task.plan (effort_in task) all n)
-    → new ≡ tried task.plan (effort_in task) (take (n + 1) all) (map if_passed old) → IsTry task all n new
-try-is task all n old new lawful keeps is =
+pub try-is : (task : Task) (all : List Reception) (n : ℕ) (held : Held) (new : List CodeResult) → IsPlan task.plan → held ≡ held_after (results_in task.plan (effort_in task) all n)
+    → new ≡ tried task.plan (effort_in task) (take (n + 1) all) held → IsTry task all n new
+try-is task all n held new lawful keeps is =
     let p : Plan = task.plan in
     let e : Effort = effort_in task in
-    let same : new ≡ results_in p e all (suc n) = tried-is p e all n old new keeps is in
+    let same : new ≡ results_in p e all (suc n) = tried-is p e all n held new keeps is in
     let of : AllOf p new = subst (AllOf p) (sym same) (results-of p e all n (lawful-in task lawful)) in
-    let long : length new ≡ p.c = ap length is ∙ tried-long p e (take (n + 1) all) (map if_passed old) in
+    let long : length new ≡ p.c = ap length is ∙ tried-long p e (take (n + 1) all) held in
     record {
       is = same;
       long = long;
@@ -125,19 +102,19 @@ pub record IsTransmission (task : Task) (sends : List Sending) (softs : List ℤ
   pub tried : IsTry task (receptions sends softs) i new
 
 -- what calls told of it
-pub record IsTold (task : Task) (s : Sending) (rest : List ℤ) (g : ℕ) (values : List ℤ) (old_b b : Buffers) (old new : List CodeResult) : Type 0 where
+pub record IsTold (task : Task) (s : Sending) (rest : List ℤ) (g : ℕ) (values : List ℤ) (old_b b : Buffers) (held : Held) (new : List CodeResult) : Type 0 where
   pub lawful : IsPlan task.plan
   pub front : values ≡ take g rest
   pub count : g ≡ s.m.g
   pub combined : (xs : List Reception) → Hold old_b xs → Hold b (xs ++ reception s.m s.rv values ∷ [])
-  pub is : (xs : List Reception) → Hold b xs → new ≡ tried task.plan (effort_in task) xs (map if_passed old)
+  pub is : (xs : List Reception) → Hold b xs → new ≡ tried task.plan (effort_in task) xs held
 
-pub transmission-is : (task : Task) (sends : List Sending) (softs : List ℤ) (i : ℕ) (rest : List ℤ) (s : Sending) (g : ℕ) (values : List ℤ) (old_b b : Buffers) (old new : List CodeResult)
+pub transmission-is : (task : Task) (sends : List Sending) (softs : List ℤ) (i : ℕ) (rest : List ℤ) (s : Sending) (g : ℕ) (values : List ℤ) (old_b b : Buffers) (held : Held) (new : List CodeResult)
     → AreTaken sends softs i rest → slice_get sends i ≡ Some s → Hold old_b (take i (receptions sends softs))
-    → Keeps old (results_in task.plan (effort_in task) (receptions sends softs) i) → IsTold task s rest g values old_b b old new
+    → held ≡ held_after (results_in task.plan (effort_in task) (receptions sends softs) i) → IsTold task s rest g values old_b b held new
     → IsTransmission task sends softs i rest s b new
-transmission-is task sends softs i rest s g values old_b b old new taken at hold keeps told =
+transmission-is task sends softs i rest s g values old_b b held new taken at hold keeps told =
     let all : List Reception = receptions sends softs in
     let next : IsNext sends softs i rest s = taken-more sends softs i rest s taken at in
-    let held : Hold b (take (i + 1) all) = hold-more b sends softs i rest s g values next told.front told.count (told.combined (take i all) hold) in
-    record { hold = held; next = next; tried = try-is task all i old new told.lawful keeps (told.is (take (i + 1) all) held) }
+    let now : Hold b (take (i + 1) all) = hold-more b sends softs i rest s g values next told.front told.count (told.combined (take i all) hold) in
+    record { hold = now; next = next; tried = try-is task all i held new told.lawful keeps (told.is (take (i + 1) all) now) }

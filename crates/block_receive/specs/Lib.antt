@@ -1,4 +1,3 @@
 pub mod Receptions
 pub mod Effort
-pub mod Held
 pub mod Decoders

@@ -12,7 +12,7 @@ ghost use Rattle.block_receive.specs.Receptions.{receptions, value_count};
 use crate::alone::decode_alone;
 use crate::joining::join;
 use crate::task::{Effort, Task};
-use crate::tries::{Decoded, all_passed, none_held, total_iterations, try_blocks};
+use crate::tries::{Decoded, all_passed, hold_passed, total_iterations, try_blocks};
 use lte_bits::{NoMemory, Soft, SoftStreams};
 use rate_match::Sends;
 use receiver_model::TbOutcome;
@@ -40,7 +40,7 @@ pub fn receive<F: Fn(Global, &SoftStreams, &Shape) -> Decoded>(
 {
     let plan = &task.plan;
     let mut buffers = HarqBuffers::new(alloc, plan, sends.buffer())?;
-    let mut results = none_held(alloc, plan.c)?;
+    let mut held = Vec::new(alloc);
     let mut iterations = 0;
     let mut rest = softs;
     for i in 0..sends.len() {
@@ -48,9 +48,9 @@ pub fn receive<F: Fn(Global, &SoftStreams, &Shape) -> Decoded>(
         let (values, after) = rest.split_at(m.g());
         rest = after;
         buffers.combine(&m, rv, values);
-        results = try_blocks(alloc, decode, task, &buffers, results)?;
+        let results = try_blocks(alloc, decode, task, &buffers, held)?;
         iterations = total_iterations(results.as_slice());
-        if all_passed(results.as_slice()) {
+        held = if all_passed(results.as_slice()) {
             let joined = join(alloc, results, plan)?;
             if joined.holds {
                 return Ok(TbOutcome::Delivered {
@@ -59,8 +59,10 @@ pub fn receive<F: Fn(Global, &SoftStreams, &Shape) -> Decoded>(
                     iterations,
                 });
             }
-            results = none_held(alloc, plan.c)?;
-        }
+            Vec::new(alloc)
+        } else {
+            hold_passed(alloc, results)?
+        };
     }
     Ok(TbOutcome::Failed {
         transmissions: sends.len(),

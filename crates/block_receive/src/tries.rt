@@ -2,38 +2,20 @@
 ghost use Rattle.std.specs.Prelude.{◌≡◌, ℕ, ◌≤◌, ◌<◌, List, All, IfOk, length, map};
 ghost use Rattle.receiver_model.specs.SoftCells.{Reception};
 ghost use Rattle.receiver_model.specs.TransportBlocks.{all_passed, block_result, if_passed, iterations_of, tried};
+ghost use Rattle.segmentation.specs.Plans.{IsPlan};
 ghost use Rattle.soft_buffers.specs.Buffers.{Hold};
 ghost use Rattle.block_receive.specs.Decoders.{GivesResults, TakesBlocks};
 ghost use Rattle.block_receive.specs.Effort.{effort_in};
-ghost use Rattle.block_receive.specs.Held.{none_of};
 
 use crate::shapes::block_shape;
 use crate::task::Task;
-use lte_bits::{Block, List, NoMemory, SoftStreams};
+use lte_bits::{NoMemory, SoftStreams};
 use soft_buffers::HarqBuffers;
 use std::alloc::Global;
 use window_decode::{CodeResult, Shape};
 
 /// What the decoding of a code block gives, or that there was no memory.
 pub type Decoded = Result<CodeResult, NoMemory>;
-
-/// Results of `c` blocks of which none passed, so that none is held.
-pub fn none_held(alloc: Global, c: usize) -> Result<Vec<CodeResult>, NoMemory>
-    ensures { IfOk result (λ results. results.items ≡ none_of c) }
-{
-    let mut results = Vec::with_capacity(alloc, c)?;
-    for _ in 0..c {
-        results.push(CodeResult {
-            block: Block {
-                fill: 0,
-                bits: List::from_vec(Vec::new(alloc)),
-            },
-            iterations: 0,
-            passed: false,
-        })?;
-    }
-    Ok(results)
-}
 
 /// Decodes block `r`, below C, from the cells so far.
 fn decode_at<F: Fn(Global, &SoftStreams, &Shape) -> Decoded>(
@@ -55,30 +37,47 @@ fn decode_at<F: Fn(Global, &SoftStreams, &Shape) -> Decoded>(
     decode(alloc, &streams, &block_shape(task, r))
 }
 
-/// The results of a try, from those of the try before, of which the ones that passed are held.
+/// The results of a try: block r has the one that stands at r in `held`, where one does, and else is decoded.
 pub fn try_blocks<F: Fn(Global, &SoftStreams, &Shape) -> Decoded>(
     alloc: Global,
     decode: &F,
     task: &Task,
     buffers: &HarqBuffers,
-    held: Vec<CodeResult>,
+    held: Vec<Option<CodeResult>>,
 ) -> Result<Vec<CodeResult>, NoMemory>
-    requires count { length held.items ≡ task.now.plan.c }
     requires plan { buffers.now.plan ≡ task.now.plan }
     requires holds { (xs : List Reception) × Hold buffers.now xs }
     requires takes { TakesBlocks (F.pre decode.now) }
     requires gives { GivesResults (F.post decode.now) }
-    ensures { (xs : List Reception) → Hold buffers.now xs → IfOk result (λ results. results.items
-        ≡ tried task.now.plan (effort_in task.now) xs (map if_passed held.items)) }
+    ensures results { (xs : List Reception) → Hold buffers.now xs → IfOk result (λ results. results.items
+        ≡ tried task.now.plan (effort_in task.now) xs held.items) }
+    ensures lawful { IsPlan task.now.plan }
 {
     let plan = &task.plan;
-    let mut results = held;
+    let mut held = held.into_iter();
+    let mut results = Vec::with_capacity(alloc, plan.c)?;
     for r in 0..plan.c {
-        if !results[r].passed {
-            results[r] = decode_at(alloc, decode, task, buffers, r)?;
-        }
+        let result = match held.next().flatten() {
+            Some(result) => result,
+            None => decode_at(alloc, decode, task, buffers, r)?,
+        };
+        results.push(result)?;
     }
     Ok(results)
+}
+
+/// Holds the results that passed for the next try.
+pub fn hold_passed(
+    alloc: Global,
+    results: Vec<CodeResult>,
+) -> Result<Vec<Option<CodeResult>>, NoMemory>
+    ensures { IfOk result (λ held. held.items ≡ map if_passed results.items) }
+{
+    let mut held = Vec::with_capacity(alloc, results.len())?;
+    for result in results {
+        held.push(result.passed.then_some(result))?;
+    }
+    Ok(held)
 }
 
 /// Whether the check of each code block holds.

@@ -1,34 +1,30 @@
-use Rattle.std.proofs.Common.{◌≡◌, ◌≤◌, ◌+◌, ℕ, suc, ◌<◌, Bool, true, false, List, [], All, length, take, drop, refl, sym, ap, ◌∙◌, subst, arith}
+use Rattle.std.proofs.Common.{◌≡◌, ◌≤◌, ◌+◌, ℕ, suc, ◌<◌, Bool, true, false, List, All, length, map, take, drop, refl, sym, ap, ◌∙◌, subst, arith}
 use Rattle.std.specs.Prelude.{◌&&◌}
 use Rattle.rate_match.specs.declared.sends.Sending.{Sending}
-use Rattle.segmentation.specs.Plans.{IsPlan}
 use Rattle.rate_match.specs.Sendings.{common}
 use Rattle.receiver_model.specs.SoftCells.{Reception}
 use Rattle.receiver_model.specs.declared.result.CheckKind.TheVariants.{A}
 use Rattle.receiver_model.specs.declared.result.TbOutcome.TheVariants.{Delivered, Failed}
 use Rattle.receiver_model.specs.Decoding.{check_holds}
-use Rattle.receiver_model.specs.TransportBlocks.{Effort, all_passed, delivers, iterations_of, payload_of, results_in, whole_of}
+use Rattle.receiver_model.specs.TransportBlocks.{Effort, all_passed, delivers, if_passed, iterations_of, payload_of, results_in, whole_of}
 use Rattle.soft_buffers.specs.Buffers.{Buffers}
 use Rattle.block_receive.specs.Effort.{effort_in}
 use Rattle.block_receive.specs.Receptions.{receptions}
 use Rattle.block_receive.proofs.Taken.{AreTaken, all-at, hold-more, receptions-long, taken-more}
-use Rattle.block_receive.proofs.TriedResults.{IsTold, IsTransmission, delivers-is, keeps-none, keeps-passed, transmission-is}
-use Rattle.block_receive.specs.Held.{none_of, unpassed}
-use Rattle.std.proofs.lemmas.List.{length-replicate}
+use Rattle.block_receive.proofs.TriedResults.{IsTold, IsTransmission, delivers-is, held-none, held-passed, transmission-is}
 use Rattle.sender_model.specs.Segmentation.{Plan}
 use Rattle.receiver_model.specs.declared.result.CodeResult.{CodeResult}
 use Rattle.serial_decode.proofs.Stopping.{check-is}
 use Rattle.block_receive.proofs.Outcomes.{none-more, outcome-delivered, outcome-failed}
 use Rattle.block_receive.proofs.receiving.receive.Goals as goal
-use Rattle.block_receive.proofs.receiving.receive.Goals.{then-all_passed+in_ok-joined+else-joined+in_ok-results-3, else-all_passed}
+use Rattle.block_receive.proofs.receiving.receive.Goals.{then-all_passed+in_ok-joined+else-joined, else-all_passed+in_ok-held}
 
 pub loop-i-init : goal.loop-i-init
 loop-i-init g c = record {
   plan = c.in_ok-buffers.ensures.plan;
   limit = c.in_ok-buffers.ensures.limit ∙ c.buffer.ensures.value;
   hold = c.in_ok-buffers.ensures.cells;
-  count = ap length (c.in_ok-results.ensures) ∙ length-replicate c.plan.inside.c unpassed ∙ ap (λ (p : Plan). p.c) c.plan.view_is;
-  keeps = keeps-none c.plan.inside.c c.in_ok-results.results.items [] c.in_ok-results.ensures refl;
+  keeps = c.new-held.ensures.items;
   total = refl;
   taken = record { later = refl; long = c.requires.values };
   failed = λ t some none. absurd (let no : ⊥ = omega (arith, some, none) in no);
@@ -66,12 +62,12 @@ pub total_iterations-iterations-requires-clause-count :
 total_iterations-iterations-requires-clause-count g c =
     let s : Sending = record { m = c.at-m.result.0; rv = c.at-m.result.1 } in
     let b : Buffers = c.combine.new.self in
-    let new : List CodeResult = c.in_ok-results-2.results.items in
-    let told : IsTold c.args.task.now s c.loop-i.rest.now c.g.result c.split_at.result.0.now c.loop-i.buffers b c.loop-i.results.items new =
-    record { lawful = subst IsPlan c.plan.view_is c.plan.invariant; front = c.split_at.ensures.front; count = c.g.ensures.value; combined = c.combine.ensures.cells; is = c.in_ok-results-2.ensures } in
+    let new : List CodeResult = c.in_ok-results.results.items in
+    let told : IsTold c.args.task.now s c.loop-i.rest.now c.g.result c.split_at.result.0.now c.loop-i.buffers b c.loop-i.held.items new =
+    record { lawful = c.try_blocks.ensures.lawful; front = c.split_at.ensures.front; count = c.g.ensures.value; combined = c.combine.ensures.cells; is = c.in_ok-results.ensures.results } in
     let inv = c.loop-i.invariant in
     let t : IsTransmission c.args.task.now c.args.sends.now c.args.softs.now c.loop-i.i c.loop-i.rest.now s b new =
-    transmission-is c.args.task.now c.args.sends.now c.args.softs.now c.loop-i.i c.loop-i.rest.now s c.g.result c.split_at.result.0.now c.loop-i.buffers b c.loop-i.results.items new
+    transmission-is c.args.task.now c.args.sends.now c.args.softs.now c.loop-i.i c.loop-i.rest.now s c.g.result c.split_at.result.0.now c.loop-i.buffers b c.loop-i.held.items new
     inv.taken c.at-m.ensures.value inv.hold inv.keeps told in
     omega (arith, ap length c.as_slice.ensures.value, t.tried.some_few)
 
@@ -80,12 +76,12 @@ pub total_iterations-iterations-requires-clause-few :
 total_iterations-iterations-requires-clause-few g c =
     let s : Sending = record { m = c.at-m.result.0; rv = c.at-m.result.1 } in
     let b : Buffers = c.combine.new.self in
-    let new : List CodeResult = c.in_ok-results-2.results.items in
-    let told : IsTold c.args.task.now s c.loop-i.rest.now c.g.result c.split_at.result.0.now c.loop-i.buffers b c.loop-i.results.items new =
-    record { lawful = subst IsPlan c.plan.view_is c.plan.invariant; front = c.split_at.ensures.front; count = c.g.ensures.value; combined = c.combine.ensures.cells; is = c.in_ok-results-2.ensures } in
+    let new : List CodeResult = c.in_ok-results.results.items in
+    let told : IsTold c.args.task.now s c.loop-i.rest.now c.g.result c.split_at.result.0.now c.loop-i.buffers b c.loop-i.held.items new =
+    record { lawful = c.try_blocks.ensures.lawful; front = c.split_at.ensures.front; count = c.g.ensures.value; combined = c.combine.ensures.cells; is = c.in_ok-results.ensures.results } in
     let inv = c.loop-i.invariant in
     let t : IsTransmission c.args.task.now c.args.sends.now c.args.softs.now c.loop-i.i c.loop-i.rest.now s b new =
-    transmission-is c.args.task.now c.args.sends.now c.args.softs.now c.loop-i.i c.loop-i.rest.now s c.g.result c.split_at.result.0.now c.loop-i.buffers b c.loop-i.results.items new
+    transmission-is c.args.task.now c.args.sends.now c.args.softs.now c.loop-i.i c.loop-i.rest.now s c.g.result c.split_at.result.0.now c.loop-i.buffers b c.loop-i.held.items new
     inv.taken c.at-m.ensures.value inv.hold inv.keeps told in
     subst (λ (rs : List CodeResult). All (λ x. x.iterations ≤ 16) rs) (sym c.as_slice.ensures.value) t.tried.few
 
@@ -93,12 +89,12 @@ pub join-requires : goal.join-requires
 join-requires g c =
     let s : Sending = record { m = c.at-m.result.0; rv = c.at-m.result.1 } in
     let b : Buffers = c.combine.new.self in
-    let new : List CodeResult = c.in_ok-results-2.results.items in
-    let told : IsTold c.args.task.now s c.loop-i.rest.now c.g.result c.split_at.result.0.now c.loop-i.buffers b c.loop-i.results.items new =
-    record { lawful = subst IsPlan c.plan.view_is c.plan.invariant; front = c.split_at.ensures.front; count = c.g.ensures.value; combined = c.combine.ensures.cells; is = c.in_ok-results-2.ensures } in
+    let new : List CodeResult = c.in_ok-results.results.items in
+    let told : IsTold c.args.task.now s c.loop-i.rest.now c.g.result c.split_at.result.0.now c.loop-i.buffers b c.loop-i.held.items new =
+    record { lawful = c.try_blocks.ensures.lawful; front = c.split_at.ensures.front; count = c.g.ensures.value; combined = c.combine.ensures.cells; is = c.in_ok-results.ensures.results } in
     let inv = c.loop-i.invariant in
     let t : IsTransmission c.args.task.now c.args.sends.now c.args.softs.now c.loop-i.i c.loop-i.rest.now s b new =
-    transmission-is c.args.task.now c.args.sends.now c.args.softs.now c.loop-i.i c.loop-i.rest.now s c.g.result c.split_at.result.0.now c.loop-i.buffers b c.loop-i.results.items new
+    transmission-is c.args.task.now c.args.sends.now c.args.softs.now c.loop-i.i c.loop-i.rest.now s c.g.result c.split_at.result.0.now c.loop-i.buffers b c.loop-i.held.items new
     inv.taken c.at-m.ensures.value inv.hold inv.keeps told in
     t.tried.shaped
 
@@ -106,12 +102,12 @@ pub returns-then-joined : goal.returns-then-joined
 returns-then-joined g c =
     let s : Sending = record { m = c.at-m.result.0; rv = c.at-m.result.1 } in
     let b : Buffers = c.combine.new.self in
-    let new : List CodeResult = c.in_ok-results-2.results.items in
-    let told : IsTold c.args.task.now s c.loop-i.rest.now c.g.result c.split_at.result.0.now c.loop-i.buffers b c.loop-i.results.items new =
-    record { lawful = subst IsPlan c.plan.view_is c.plan.invariant; front = c.split_at.ensures.front; count = c.g.ensures.value; combined = c.combine.ensures.cells; is = c.in_ok-results-2.ensures } in
+    let new : List CodeResult = c.in_ok-results.results.items in
+    let told : IsTold c.args.task.now s c.loop-i.rest.now c.g.result c.split_at.result.0.now c.loop-i.buffers b c.loop-i.held.items new =
+    record { lawful = c.try_blocks.ensures.lawful; front = c.split_at.ensures.front; count = c.g.ensures.value; combined = c.combine.ensures.cells; is = c.in_ok-results.ensures.results } in
     let inv = c.loop-i.invariant in
     let t : IsTransmission c.args.task.now c.args.sends.now c.args.softs.now c.loop-i.i c.loop-i.rest.now s b new =
-    transmission-is c.args.task.now c.args.sends.now c.args.softs.now c.loop-i.i c.loop-i.rest.now s c.g.result c.split_at.result.0.now c.loop-i.buffers b c.loop-i.results.items new
+    transmission-is c.args.task.now c.args.sends.now c.args.softs.now c.loop-i.i c.loop-i.rest.now s c.g.result c.split_at.result.0.now c.loop-i.buffers b c.loop-i.held.items new
     inv.taken c.at-m.ensures.value inv.hold inv.keeps told in
     let p : Plan = c.args.task.now.plan in
     let e : Effort = effort_in c.args.task.now in
@@ -132,12 +128,12 @@ pub loop-i-preserved : goal.loop-i-preserved
 loop-i-preserved g c =
     let s : Sending = record { m = c.at-m.result.0; rv = c.at-m.result.1 } in
     let b : Buffers = c.combine.new.self in
-    let new : List CodeResult = c.in_ok-results-2.results.items in
-    let told : IsTold c.args.task.now s c.loop-i.rest.now c.g.result c.split_at.result.0.now c.loop-i.buffers b c.loop-i.results.items new =
-    record { lawful = subst IsPlan c.plan.view_is c.plan.invariant; front = c.split_at.ensures.front; count = c.g.ensures.value; combined = c.combine.ensures.cells; is = c.in_ok-results-2.ensures } in
+    let new : List CodeResult = c.in_ok-results.results.items in
+    let told : IsTold c.args.task.now s c.loop-i.rest.now c.g.result c.split_at.result.0.now c.loop-i.buffers b c.loop-i.held.items new =
+    record { lawful = c.try_blocks.ensures.lawful; front = c.split_at.ensures.front; count = c.g.ensures.value; combined = c.combine.ensures.cells; is = c.in_ok-results.ensures.results } in
     let inv = c.loop-i.invariant in
     let t : IsTransmission c.args.task.now c.args.sends.now c.args.softs.now c.loop-i.i c.loop-i.rest.now s b new =
-    transmission-is c.args.task.now c.args.sends.now c.args.softs.now c.loop-i.i c.loop-i.rest.now s c.g.result c.split_at.result.0.now c.loop-i.buffers b c.loop-i.results.items new
+    transmission-is c.args.task.now c.args.sends.now c.args.softs.now c.loop-i.i c.loop-i.rest.now s c.g.result c.split_at.result.0.now c.loop-i.buffers b c.loop-i.held.items new
     inv.taken c.at-m.ensures.value inv.hold inv.keeps told in
     let p : Plan = c.args.task.now.plan in
     let e : Effort = effort_in c.args.task.now in
@@ -151,8 +147,7 @@ loop-i-preserved g c =
     let total : c.total_iterations-iterations.result ≡ iterations_of (results_in p e all (i + 1)) =
     c.total_iterations-iterations.ensures ∙ ap iterations_of (c.as_slice.ensures.value ∙ same) in
     elim c.if-all_passed.branch [
-      | then-all_passed+in_ok-joined+else-joined+in_ok-results-3 w ↦
-          let is : c.if-all_passed.results.items ≡ none_of c.plan.inside.c = ap (λ v. v.items) w.results-is ∙ w.in_ok-results-3.ensures in
+      | then-all_passed+in_ok-joined+else-joined w ↦
           let whole : check_holds A (whole_of p new) ≡ false = check-is w.in_ok-joined.joined.holds A (whole_of p new) w.in_ok-joined.ensures.holds ∙ w.if-joined.false in
           let all_true : all_passed new ≡ true = passed ∙ w.if-all_passed.true in
           let here : delivers p (results_in p e all (suc i)) ≡ false = ap (delivers p) (sym t.tried.is) ∙ delivers-is p new true false all_true whole in
@@ -160,22 +155,19 @@ loop-i-preserved g c =
             plan = c.combine.ensures.plan ∙ inv.plan;
             limit = c.combine.ensures.limit ∙ inv.limit;
             hold = t.hold;
-            count = ap length is ∙ length-replicate c.plan.inside.c unpassed ∙ ap (λ (p : Plan). p.c) c.plan.view_is;
-            keeps = keeps-none c.plan.inside.c c.if-all_passed.results.items (results_in p e all (i + 1)) is (ap all_passed (sym same) ∙ all_true);
+            keeps = ap (λ v. v.items) w.held-is ∙ w.new-then-all_passed.ensures.items ∙ held-none (results_in p e all (i + 1)) (ap all_passed (sym same) ∙ all_true);
             total = total;
             taken = taken;
             failed = none-more p e all i inv.failed here;
           }
-      | else-all_passed w ↦
-          let is : c.if-all_passed.results.items ≡ new = ap (λ v. v.items) w.results-is in
+      | else-all_passed+in_ok-held w ↦
           let some : all_passed new ≡ false = passed ∙ w.if-all_passed.false in
           let here : delivers p (results_in p e all (suc i)) ≡ false = ap (delivers p) (sym t.tried.is) ∙ ap (λ (b : Bool). b && check_holds A (whole_of p new)) some in
           record {
             plan = c.combine.ensures.plan ∙ inv.plan;
             limit = c.combine.ensures.limit ∙ inv.limit;
             hold = t.hold;
-            count = ap length is ∙ t.tried.long;
-            keeps = keeps-passed c.if-all_passed.results.items (results_in p e all (i + 1)) (is ∙ same) (ap all_passed is ∙ some);
+            keeps = ap (λ v. v.items) w.held-is ∙ w.in_ok-held.ensures ∙ ap (map if_passed) same ∙ held-passed (results_in p e all (i + 1)) (ap all_passed (sym same) ∙ some);
             total = total;
             taken = taken;
             failed = none-more p e all i inv.failed here;

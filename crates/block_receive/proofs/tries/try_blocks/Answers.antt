@@ -1,48 +1,47 @@
-use Rattle.std.proofs.Common.{◌≡◌, ◌<◌, ◌+◌, ℕ, List, length, set, sym, ap, ◌∙◌, subst, arith}
-use Rattle.std.proofs.lemmas.List.{get_or_default, length-set}
-use Rattle.block_receive.specs.Held.{unpassed}
-use Rattle.receiver_model.specs.declared.result.CodeResult.{CodeResult}
+use Rattle.std.proofs.Common.{◌≡◌, ℕ, List, get_or, map, sym, ap, ◌∙◌, subst, arith}
+use Rattle.std.specs.List.{range_with_len}
+use Rattle.std.specs.Prelude.{Option, None, unwrap_or}
+use Rattle.std.specs.Vec.Iter.{into_iter_items, into_iter_len}
+use Rattle.lte_bits.proofs.Pushes.{pushed_next}
 use Rattle.sender_model.specs.Segmentation.{Plan}
+use Rattle.segmentation.specs.Plans.{IsPlan}
+use Rattle.receiver_model.specs.declared.result.CodeResult.{CodeResult}
+use Rattle.receiver_model.specs.SoftCells.{Reception}
+use Rattle.receiver_model.specs.TransportBlocks.{Effort, Held, block_result, tried_block}
+use Rattle.soft_buffers.specs.Buffers.{Hold}
 use Rattle.block_receive.specs.Effort.{effort_in}
-use Rattle.block_receive.proofs.TriedBlocks.{AreTriedTo, at, tried-kept, tried-decoded, tried-all}
+use Rattle.block_receive.proofs.TriedBlocks.{drawn, drawn-next}
 use Rattle.block_receive.proofs.tries.try_blocks.Goals as goal
-use Rattle.block_receive.proofs.tries.try_blocks.Goals.{then-not-index+in_ok-results, else-not-index}
+use Rattle.block_receive.proofs.tries.try_blocks.Goals.{in-Some, in-None+in_ok-result-in-None}
 
 pub loop-r-preserved : goal.loop-r-preserved
 loop-r-preserved g c =
     let p : Plan = c.args.task.now.plan in
-    let e = effort_in c.args.task.now in
-    let old : List CodeResult = c.args.held.items in
-    let inv = c.loop-r.invariant in
+    let e : Effort = effort_in c.args.task.now in
+    let held : Held = c.args.held.items in
     let r : ℕ = c.loop-r.r in
-    let items : List CodeResult = c.loop-r.results.items in
-    let inside : r < length items = omega (arith, c.loop-r-test.true, inv.long, ap (λ (q : Plan). q.c) c.plan.view_is) in
-    let read : at items r ≡ c.index.result.now = sym (c.index.ensures ∙ get_or_default items r c.index.result.now unpassed inside) in
-    elim c.if-not-index.branch [
-      | then-not-index+in_ok-results w ↦
-          let x : CodeResult = w.in_ok-results.field-0 in
-          let is : c.if-not-index.results.items ≡ set items r x = ap (λ v. v.items) w.results-is in
-          record {
-            long = ap length is ∙ length-set items r x ∙ inv.long;
-            tried = λ xs hold.
-                subst (λ (new : List CodeResult). AreTriedTo p e xs old (r + 1) new) (sym is)
-                (tried-decoded p e xs old r items x (inv.tried xs hold) inside (ap (λ y. y.passed) read ∙ w.if-not-index.true) (w.in_ok-results.ensures xs hold));
-          }
-      | else-not-index w ↦
-          let is : c.if-not-index.results.items ≡ items = ap (λ v. v.items) w.results-is in
-          record {
-            long = ap length is ∙ inv.long;
-            tried = λ xs hold.
-                subst (λ (new : List CodeResult). AreTriedTo p e xs old (r + 1) new) (sym is)
-                (tried-kept p e xs old r items (inv.tried xs hold) (ap (λ y. y.passed) read ∙ w.if-not-index.false));
-          }
-    ]
+    let left : Held = into_iter_items c.loop-r.held in
+    let after : Held = into_iter_items c.next.new.self in
+    let step = drawn-next held left after c.next.result r c.loop-r.invariant.left
+    (drawn left after c.next.result (into_iter_len c.loop-r.held) (into_iter_len c.next.new.self) (sym c.loop-r.held.rest.ok.0) (sym c.next.new.self.rest.ok.0) c.next.ensures.cases) in
+    let at : c.flatten.result ≡ get_or held r None = c.flatten.ensures ∙ step.0 in
+    let is : (xs : List Reception) → Hold c.args.buffers.now xs → c.match-flatten.result ≡ tried_block p e xs held r =
+    λ xs hold. elim c.match-flatten.branch [
+      | in-Some w ↦ w.result-is ∙ ap (λ (o : Option CodeResult). unwrap_or o (block_result p e xs r)) (sym w.in-Some.is ∙ at)
+      | in-None+in_ok-result-in-None w ↦
+          w.result-is ∙ w.in_ok-result-in-None.ensures xs hold
+          ∙ ap (λ (o : Option CodeResult). unwrap_or o (block_result p e xs r)) (sym w.in-None.is ∙ at)
+    ] in
+    record {
+      left = step.1;
+      tried = λ xs hold. pushed_next (tried_block p e xs held) c.loop-r.results.items c.push.new.self.items r c.match-flatten.result (c.loop-r.invariant.tried xs hold) c.in_ok-push.ensures.items (is xs hold);
+    }
 
-pub returns : goal.returns
-returns g c xs hold =
+pub returns-clause-results : goal.returns-clause-results
+returns-clause-results g c xs hold =
     let p : Plan = c.args.task.now.plan in
-    let inv = c.loop-r.invariant in
     let all : c.loop-r.r ≡ p.c = omega (arith, c.loop-r-test.false, c.loop-r.auto.r-end, ap (λ (q : Plan). q.c) c.plan.view_is) in
-    tried-all p (effort_in c.args.task.now) xs c.args.held.items c.loop-r.results.items
-    (subst (λ (n : ℕ). AreTriedTo p (effort_in c.args.task.now) xs c.args.held.items n c.loop-r.results.items) all (inv.tried xs hold))
-    inv.long
+    c.loop-r.invariant.tried xs hold ∙ ap (λ (n : ℕ). map (tried_block p (effort_in c.args.task.now) xs c.args.held.items) (range_with_len 0 n)) all
+
+pub returns-clause-lawful : goal.returns-clause-lawful
+returns-clause-lawful g c = subst IsPlan c.plan.view_is c.plan.invariant

@@ -1,12 +1,14 @@
-use Rattle.std.proofs.Common.{◌≡◌, List, length}
+use Rattle.std.proofs.Common.{◌≡◌, List, drop, map}
+use Rattle.std.specs.List.{range_with_len}
+use Rattle.std.specs.Vec.Iter.{into_iter_items}
 use Rattle.receiver_model.specs.SoftCells.{Reception}
+use Rattle.receiver_model.specs.TransportBlocks.{tried_block}
 use Rattle.soft_buffers.specs.Buffers.{Hold}
 use Rattle.block_receive.specs.Effort.{effort_in}
-use Rattle.block_receive.proofs.TriedBlocks.{AreTriedTo}
 use Rattle.block_receive.proofs.tries.try_blocks.Given as goal
 
 abbrev pub invariant-loop-r : goal.invariant-loop-r
 invariant-loop-r g l = record {
-  long : length l.results.items ≡ l.task.plan.c;
-  tried : (xs : List Reception) → Hold l.buffers xs → AreTriedTo l.task.plan (effort_in l.task) xs l.fn.held.items l.r l.results.items;
+  left : into_iter_items l.held ≡ drop l.r l.fn.held.items;
+  tried : (xs : List Reception) → Hold l.buffers xs → l.results.items ≡ map (tried_block l.task.plan (effort_in l.task) xs l.fn.held.items) (range_with_len 0 l.r);
 }
