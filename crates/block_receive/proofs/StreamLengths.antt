@@ -1,13 +1,12 @@
 -- The lengths of soft streams and of decoded bits.
-use Rattle.std.proofs.Common.{◌≡◌, ℕ, suc, ◌+◌, ◌-◌, ◌*◌, ◌<◌, ◌≤◌, pos, List, ◌++◌, length, map, drop, replicate, refl, ◌∙◌, arith}
+use Rattle.std.proofs.Common.{◌≡◌, ℕ, suc, ◌+◌, ◌-◌, ◌*◌, ◌<◌, ◌≤◌, ℤ, pos, List, ◌++◌, length, map, drop, replicate, refl, ◌∙◌, arith}
 use Rattle.std.proofs.lemmas.List.{length-append, length-drop, length-map, length-replicate}
 use Rattle.std.proofs.lemmas.List.FromFn.{length-map-range_with_len}
 use Rattle.lte_bits.specs.declared.bit.Bit.TheVariants.{Zero}
 use Rattle.lte_bits.specs.declared.block.SoftStreams.{SoftStreams}
-use Rattle.sender_model.specs.Segmentation.{Plan, size, fill}
 use Rattle.receiver_model.specs.HalfIteration.{Shape}
 use Rattle.receiver_model.specs.Decoding.{before, decided_bit, decided_in}
-use Rattle.receiver_model.specs.SoftCells.{Reception, cells_of, soft_cell, soft_streams}
+use Rattle.soft_buffers.specs.Buffers.{cell_of, cells_of_stream, streams_of_cells}
 
 -- the first n values replaced
 replaced : {X : Type 0} (n : ℕ) (x : X) (xs : List X) → n ≤ length xs → length (replicate n x ++ drop n xs) ≡ length xs
@@ -22,16 +21,15 @@ pub record AreStreamsOf (k f : ℕ) (soft : SoftStreams) : Type 0 where
   pub d1 : length soft.d1 ≡ k + 4
   pub d2 : length soft.d2 ≡ k + 4
 
-pub streams-long : (plan : Plan) (xs : List Reception) (r : ℕ) → fill plan r < size plan r → AreStreamsOf (size plan r) (fill plan r) (soft_streams plan xs r)
-unfolding soft_streams
-streams-long plan xs r fills =
-    let cells : (number : ℕ) → length (cells_of plan xs r number) ≡ size plan r + 4 =
-    λ number. length-map-range_with_len (λ i. soft_cell plan xs r (record { stream = number; index = i })) 0 (size plan r + 4) in
+pub streams-long : (k f : ℕ) (cells : List ℤ) → f < k → AreStreamsOf k f (streams_of_cells k f cells)
+streams-long k f cells fills =
+    let long : (number : ℕ) → length (cells_of_stream k cells number) ≡ k + 4 =
+    λ number. length-map-range_with_len (λ i. cell_of k cells (record { stream = number; index = i })) 0 (k + 4) in
     record {
       fill = refl;
-      d0 = replaced (fill plan r) (pos 127) (cells_of plan xs r 0) (omega (arith, cells 0, fills)) ∙ cells 0;
-      d1 = replaced (fill plan r) (pos 0) (cells_of plan xs r 1) (omega (arith, cells 1, fills)) ∙ cells 1;
-      d2 = cells 2;
+      d0 = replaced f (pos 127) (cells_of_stream k cells 0) (omega (arith, long 0, fills)) ∙ long 0;
+      d1 = replaced f (pos 0) (cells_of_stream k cells 1) (omega (arith, long 1, fills)) ∙ long 1;
+      d2 = long 2;
     }
 
 cells-long : (soft : SoftStreams) (shape : Shape) (h : ℕ) → length (before soft shape (suc h)).cells ≡ shape.k

@@ -27,7 +27,6 @@ fn decode_at<F: Fn(Global, &SoftStreams, &Shape) -> Decoded>(
 ) -> Result<CodeResult, NoMemory>
     requires block { r < task.now.plan.c }
     requires plan { buffers.now.plan ≡ task.now.plan }
-    requires holds { (xs : List Reception) × Hold buffers.now xs }
     requires takes { TakesBlocks (F.pre decode.now) }
     requires gives { GivesResults (F.post decode.now) }
     ensures { (xs : List Reception) → Hold buffers.now xs →
@@ -37,7 +36,8 @@ fn decode_at<F: Fn(Global, &SoftStreams, &Shape) -> Decoded>(
     decode(alloc, &streams, &block_shape(task, r))
 }
 
-/// The results of a try: block r has the one that stands at r in `held`, where one does, and else is decoded.
+/// The results of a try: block r has the one that stands at r in `held`, where one does, and else is
+/// decoded. An empty list holds none.
 pub fn try_blocks<F: Fn(Global, &SoftStreams, &Shape) -> Decoded>(
     alloc: Global,
     decode: &F,
@@ -46,7 +46,6 @@ pub fn try_blocks<F: Fn(Global, &SoftStreams, &Shape) -> Decoded>(
     held: Vec<Option<CodeResult>>,
 ) -> Result<Vec<CodeResult>, NoMemory>
     requires plan { buffers.now.plan ≡ task.now.plan }
-    requires holds { (xs : List Reception) × Hold buffers.now xs }
     requires takes { TakesBlocks (F.pre decode.now) }
     requires gives { GivesResults (F.post decode.now) }
     ensures results { (xs : List Reception) → Hold buffers.now xs → IfOk result (λ results. results.items

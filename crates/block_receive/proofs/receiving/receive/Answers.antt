@@ -1,4 +1,4 @@
-use Rattle.std.proofs.Common.{◌≡◌, ◌≤◌, ◌+◌, ℕ, suc, ◌<◌, Bool, true, false, List, All, length, map, take, drop, refl, sym, ap, ◌∙◌, subst, arith}
+use Rattle.std.proofs.Common.{◌≡◌, ◌≤◌, ◌+◌, ℕ, suc, ◌<◌, Bool, true, false, List, All, length, map, drop, refl, sym, ap, ◌∙◌, subst, arith}
 use Rattle.std.specs.Prelude.{◌&&◌}
 use Rattle.rate_match.specs.declared.sends.Sending.{Sending}
 use Rattle.rate_match.specs.Sendings.{common}
@@ -10,7 +10,7 @@ use Rattle.receiver_model.specs.TransportBlocks.{Effort, all_passed, delivers, i
 use Rattle.soft_buffers.specs.Buffers.{Buffers}
 use Rattle.block_receive.specs.Effort.{effort_in}
 use Rattle.block_receive.specs.Receptions.{receptions}
-use Rattle.block_receive.proofs.Taken.{AreTaken, all-at, hold-more, receptions-long, taken-more}
+use Rattle.block_receive.proofs.Taken.{AreTaken, all-at, receptions-long, taken-more}
 use Rattle.block_receive.proofs.TriedResults.{IsTold, IsTransmission, delivers-is, held-none, held-passed, transmission-is}
 use Rattle.sender_model.specs.Segmentation.{Plan}
 use Rattle.receiver_model.specs.declared.result.CodeResult.{CodeResult}
@@ -46,16 +46,6 @@ pub combine-requires-clause-version : goal.combine-requires-clause-version
 combine-requires-clause-version g c =
     let s : Sending = record { m = c.at-m.result.0; rv = c.at-m.result.1 } in
     all-at (λ (x : Sending). x.rv ≤ 3) c.args.sends.now c.loop-i.i s c.at-m.ensures.lawful.versions c.at-m.ensures.value
-
-pub try_blocks-requires-clause-holds : goal.try_blocks-requires-clause-holds
-try_blocks-requires-clause-holds g c =
-    let s : Sending = record { m = c.at-m.result.0; rv = c.at-m.result.1 } in
-    let all : List Reception = receptions c.args.sends.now c.args.softs.now in
-    let next = taken-more c.args.sends.now c.args.softs.now c.loop-i.i c.loop-i.rest.now s c.loop-i.invariant.taken c.at-m.ensures.value in (
-      take (c.loop-i.i + 1) all,
-      hold-more c.combine.new.self c.args.sends.now c.args.softs.now c.loop-i.i c.loop-i.rest.now s c.g.result c.split_at.result.0.now next c.split_at.ensures.front c.g.ensures.value
-          (c.combine.ensures.cells (take c.loop-i.i all) c.loop-i.invariant.hold),
-    )
 
 pub total_iterations-iterations-requires-clause-count :
     goal.total_iterations-iterations-requires-clause-count
