@@ -7,6 +7,7 @@ use Rattle.run_loop.specs.declared.status.Status.{Status}
 use Rattle.run_loop.specs.declared.status.Status.TheVariants.{BadWords}
 use Rattle.stream_loop.specs.Handling.{stream_answer}
 use Rattle.decode_command.specs.Decoding.{decoding}
+use Rattle.batch_command.specs.Batch.{batch_answer}
 use Rattle.relay_commands.specs.Channel.{Noise, channel}
 use Rattle.relay_commands.specs.Points.{points}
 use Rattle.relay_commands.specs.Scramble.{scrambling}
@@ -16,7 +17,7 @@ use Rattle.turbo_run.specs.Codeword.{codeword_answer}
 use Rattle.turbo_run.specs.Encode.{encode_answer, hard_header}
 use Rattle.command_words.specs.Words.{command_of}
 use Rattle.command_words.specs.declared.words.Command.{Command}
-use Rattle.command_words.specs.declared.words.Command.TheVariants.{Codeword, Encode, Decode, Channel, Upgrade, Trial, Scramble, Points}
+use Rattle.command_words.specs.declared.words.Command.TheVariants.{Codeword, Encode, Decode, Batch, Channel, Upgrade, Trial, Scramble, Points}
 
 -- the noise of these numbers
 abbrev pub noise_of : (amp noise seed : ℕ) → Noise
@@ -28,6 +29,8 @@ answer_of (Codeword m rv) input = reading (codeword_answer m rv input)
 answer_of (Encode version tb sends) input = reading (encode_answer (hard_header version tb sends) input)
 answer_of (Decode windows limit workers) input =
     reading (stream_answer (decoding (record { windows = windows; limit = limit })) input)
+answer_of (Batch pipes windows limit) input =
+    reading (batch_answer (record { windows = windows; limit = limit }) pipes input)
 answer_of (Channel amp noise seed) input = reading (stream_answer (channel (noise_of amp noise seed)) input)
 answer_of Upgrade input = reading (stream_answer upgrade input)
 answer_of (Trial seed blocks tb sends amp noise windows limit) input = trial_reply (record {

@@ -1,0 +1,5 @@
+mod Coming
+mod Near
+mod Parted
+mod Ahead
+mod RoundSteps
