@@ -13,6 +13,7 @@ use stream_loop::status_of;
 
 /// Decodes the blocks of a stream of soft values, up to two for each pipe in a round: the blocks of a
 /// round are read, then `run` does them, and then they are written in their order. 1 to 8 pipes.
+#[derive(Drop)]
 pub struct Batch<'a, F: Fn(Global, &[BlockJob], usize) -> Outcomes> {
     pub run: &'a F,
     pub pipes: usize,

@@ -28,7 +28,7 @@ fn part_of(
         × (made.1 ≡ (handled_job number job.now).failed)) }
 {
     let Handled { text, line, failed } = handled(alloc, number, received?)?;
-    let size = 4 + job.bytes.len();
+    let size = 4 + job.bytes.as_slice().len();
     let part = Part {
         text,
         line,

@@ -69,7 +69,9 @@ impl<'a, F: Fn(Global, &[BlockJob], usize) -> Outcomes> Work for BatchRounds<'a,
     fn round<S: Source>(&mut self, alloc: Global, source: &mut S) -> Result<Round, Status> {
         let first = self.jobs.reader.blocks();
         let most = 2 * self.pipes;
-        let mut jobs = Vec::with_capacity(alloc, most)?;
+        let Ok(mut jobs) = Vec::with_capacity(alloc, most) else {
+            return Err(Status::NoMemory);
+        };
         let reached = self.jobs.read_jobs(alloc, source, most, &mut jobs);
         let (parts, failed) = self.done(alloc, first, jobs.as_slice())?;
         self.failed += failed;

@@ -1,7 +1,8 @@
 //! Each command.
 ghost use Rattle.run_loop.specs.Edges.{edges};
-ghost use Rattle.run_loop.specs.Reply.{Ends};
-ghost use Rattle.turbo_run.specs.Run.{answer_of, LeavesAlone};
+ghost use Rattle.std.specs.Prelude.{IfSome};
+ghost use Rattle.run_loop.specs.Reply.{Ends, EndsReply};
+ghost use Rattle.turbo_run.specs.Run.{answer_of, unread_of, LeavesAlone};
 ghost use Rattle.command_words.specs.Lawful.{IsLawful};
 ghost use Rattle.decode_command.specs.Receivers.{GivesOutcomes, TakesTransmissions};
 ghost use Rattle.batch_command.specs.Runners.{GivesAnswers, TakesJobs};
@@ -48,6 +49,9 @@ pub fn perform<
         (edges S.Source D.Sink R.Sink source.old out.old report.old)
         (edges S.Source D.Sink R.Sink source.new out.new report.new) result }
     ensures alone { LeavesAlone command source.old source.new out.old out.new }
+    ensures unread { IfSome (unread_of command) (λ reply. EndsReply reply
+        (edges S.Source D.Sink R.Sink source.old out.old report.old)
+        (edges S.Source D.Sink R.Sink source.new out.new report.new) result) }
 {
     match command {
         Command::Codeword { m, rv } => drive(alloc, Codeword { m, rv }, source, out, report),
