@@ -2,4 +2,5 @@ mod Coming
 mod Near
 mod Parted
 mod Ahead
+mod Made
 mod RoundSteps

@@ -1,5 +1,5 @@
 -- The answer to a stream begins with the parts of the jobs that were made of its blocks.
-use Rattle.std.proofs.Common.{◌≡◌, ℕ, ◌+◌, List, [], ◌∷◌, length, map, sum_by, refl, ap, sym, ◌∙◌, All, arith}
+use Rattle.std.proofs.Common.{◌≡◌, ℕ, suc, ◌+◌, List, [], ◌∷◌, length, map, sum_by, refl, ap, sym, ◌∙◌, All, arith}
 use Rattle.std.proofs.lemmas.Grind.{common_steps}
 use Rattle.receiver_model.specs.TransportBlocks.{Effort}
 use Rattle.block_receive.specs.Effort.{effort_of}
@@ -26,7 +26,9 @@ pub answered_jobs : (e : Effort) (h : Header) (number failed : ℕ) (jobs : List
 answered_jobs e h number failed [] rest are =
     ap (λ (n : ℕ). body_answer (decoding e) h n failed rest) (let a : number ≡ number + 0 = omega arith in a)
     ∙ ap (λ (n : ℕ). body_answer (decoding e) h (number + 0) n rest) (let a : failed ≡ failed + 0 = omega arith in a)
-answered_jobs e h number failed (j ∷ jobs) rest (one, others) =
+answered_jobs e h number failed (j ∷ jobs) rest all_are =
+    let one : IsJobOf e h j = all_are 0 j (omega arith) in
+    let others : All (IsJobOf e h) jobs = λ k d inside. all_are (suc k) d (omega (arith, inside)) in
     let w = decoding e in
     let b = block_in j in
     let same = handled_same e h number j one in
