@@ -1,5 +1,5 @@
 use Rattle.std.proofs.Common.{◌≡◌, ℕ, List, [], ◌∷◌, length, true, refl, ap, subst}
-use Rattle.coded_stream.specs.Header.{Header, header_text, kind_code}
+use Rattle.coded_stream.specs.Header.{header_text, kind_code}
 use Rattle.coded_stream.specs.Opening.{Opening, opens, refuses, is_wanted, opening}
 use Rattle.coded_stream.specs.Stream.{AreBytes, most_blocks}
 use Rattle.coded_stream.specs.declared.kind.Kind.{Kind}
@@ -9,7 +9,7 @@ use Rattle.coded_stream.proofs.BodySpelled.{bytes-behind}
 use Rattle.coded_stream.proofs.HeaderSpelled.{opening-spelled}
 use Rattle.run_loop.specs.Answer.{behind, heading}
 use Rattle.stream_loop.specs.Handling.{opening_answer, stream_answer}
-use Rattle.relay_commands.specs.Channel.{Noise, channel, soft_header}
+use Rattle.relay_commands.specs.Channel.{channel, soft_header}
 use Rattle.relay_commands.specs.Points.{points, SendsTwoBits}
 use Rattle.relay_commands.proofs.TwoBits.{same_body}
 use Rattle.relay_commands.proofs.laws.streams_of_two_bits_a_point_are_sent_as_by_themselves.Goals as goal
