@@ -3,7 +3,6 @@ use Rattle.std.proofs.Common.{◌≡◌, ℕ, ◌+◌, List, [], ◌∷◌, ◌+
 use Rattle.std.proofs.lemmas.List.{length-append}
 use Rattle.std.proofs.lemmas.List.Sums.{sum_by_push}
 use Rattle.std.specs.declared.option.Option.{Option}
-use Rattle.edge_io.specs.Edge.{Takes}
 use Rattle.edge_io.proofs.Known.{takes_none, takes_then}
 use Rattle.coded_stream.specs.Blocks.{Block}
 use Rattle.coded_stream.specs.Body.{Body}

@@ -4,3 +4,4 @@ mod Parted
 mod Ahead
 mod Made
 mod RoundSteps
+mod BatchOpens

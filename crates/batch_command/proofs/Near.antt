@@ -1,9 +1,8 @@
 -- A refusal of a block is known at the last byte that is read of it, or at the end of the input after it.
-use Rattle.std.proofs.Common.{ℕ, zero, suc, ◌+◌, ◌-◌, ◌≤◌, Bool, true, false, List, [], ◌∷◌, ◌++◌, length, take, drop, nat_lt, ◌==◌, if◌then◌else◌, arith}
+use Rattle.std.proofs.Common.{ℕ, zero, suc, ◌+◌, ◌≤◌, Bool, true, false, List, [], ◌∷◌, ◌++◌, length, take, drop, nat_lt, ◌==◌, if◌then◌else◌, arith}
 use Rattle.coded_stream.specs.Header.{Header, word}
 use Rattle.coded_stream.specs.Blocks.{Block, lengths, transmission_size, has_bad_bit}
-use Rattle.coded_stream.specs.Units.{Refusal, refused_at, truncated}
-use Rattle.coded_stream.specs.Body.{Step, block, ended, refused, transmissions_step, end_step, word_step, step, Ending, whole, bad, Body, no_more, onto, next_start, after_step, body}
+use Rattle.coded_stream.specs.Body.{Step, block, ended, refused, transmissions_step, end_step, word_step, step, Ending, whole, bad, Body, no_more, next_start, after_step, body}
 use Rattle.coded_stream.specs.declared.kind.Kind.{Kind}
 
 abbrev pub IsNear : Ending → Type 0

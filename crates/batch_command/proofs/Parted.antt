@@ -1,15 +1,14 @@
 -- The answer to a stream begins with the parts of the jobs that were made of its blocks.
-use Rattle.std.proofs.Common.{◌≡◌, ℕ, suc, ◌+◌, List, [], ◌∷◌, length, map, sum_by, refl, ap, sym, ◌∙◌, All, arith}
+use Rattle.std.proofs.Common.{◌≡◌, ℕ, suc, ◌+◌, List, [], ◌∷◌, length, refl, ap, sym, ◌∙◌, All, arith}
 use Rattle.std.proofs.lemmas.Grind.{common_steps}
 use Rattle.receiver_model.specs.TransportBlocks.{Effort}
 use Rattle.block_receive.specs.Effort.{effort_of}
 use Rattle.coded_stream.specs.Header.{Header}
-use Rattle.coded_stream.specs.Blocks.{Block}
 use Rattle.coded_stream.specs.Body.{Body}
-use Rattle.run_loop.specs.Answer.{Part, Answer, behind, size_of}
+use Rattle.run_loop.specs.Answer.{behind, size_of}
 use Rattle.stream_loop.specs.Handling.{Handled, body_answer, part, one_if}
 use Rattle.decode_command.specs.Decoding.{decoding, decoded, handled}
-use Rattle.batch_command.specs.Jobs.{block_in, blocks_in, outcome_of, IsJobOf}
+use Rattle.batch_command.specs.Jobs.{block_in, blocks_in, IsJobOf}
 use Rattle.batch_command.specs.Making.{failures, handled_job, job_part, job_parts}
 use Rattle.batch_command.specs.Reading.{onto_all, size_of_blocks}
 use Rattle.batch_command.specs.declared.job.BlockJob.{BlockJob}
@@ -43,7 +42,7 @@ answered_jobs e h number failed (j ∷ jobs) rest all_are =
 
 pub length-parts : (number : ℕ) (jobs : List BlockJob) → length (job_parts number jobs) ≡ length jobs
 length-parts number [] = refl
-length-parts number (j ∷ jobs) = ap (λ (n : ℕ). 1 + n) (length-parts (number + 1) jobs)
+length-parts number (j ∷ jobs) = ap suc (length-parts (number + 1) jobs)
 
 pub size-parts : (number : ℕ) (jobs : List BlockJob) → size_of (job_parts number jobs) ≡ size_of_blocks (blocks_in jobs)
 size-parts number [] = refl

@@ -1,33 +1,33 @@
 -- The rounds of `batch`.
-use Rattle.std.proofs.Common.{◌≡◌, ℕ, ◌+◌, ◌*◌, ◌<◌, ◌≤◌, List, [], ◌∷◌, ◌++◌, length, Some, None, Ok, Err, refl, ap, sym, subst, ◌∙◌, All, arith}
+use Rattle.std.proofs.Common.{◌≡◌, ℕ, ◌+◌, ◌-◌, ◌*◌, ◌<◌, ◌≤◌, List, [], ◌∷◌, ◌++◌, length, true, Some, Err, refl, ap, sym, subst, ◌∙◌, All, arith}
 use Rattle.std.proofs.lemmas.List.{append-nil, length-append}
 use Rattle.std.specs.declared.option.Option.{Option}
-use Rattle.edge_io.specs.Edge.{Takes}
+use Rattle.edge_io.specs.Edge.{Rose, Takes}
 use Rattle.edge_io.proofs.Known.{takes_none, takes_then}
 use Rattle.receiver_model.specs.TransportBlocks.{Effort}
 use Rattle.coded_stream.specs.Header.{Header}
 use Rattle.coded_stream.specs.Blocks.{Block}
 use Rattle.coded_stream.specs.Body.{Body, Ending, no_more, whole, bad}
 use Rattle.coded_stream.specs.Stream.{most_blocks}
-use Rattle.coded_stream.specs.Steps.{Reading, remaining, GoesOn, due_of, body_due}
+use Rattle.coded_stream.specs.Steps.{Reading, remaining, GoesOn, due_of}
 use Rattle.coded_stream.specs.declared.stop.StreamStop.{StreamStop}
 use Rattle.coded_stream.specs.declared.stop.StreamStop.TheVariants as reader
 use Rattle.run_loop.specs.Answer.{Part, Answer, behind, size_of}
-use Rattle.run_loop.specs.Due.{IsDue, IsWithin, Stopped, TakesSome, most_ahead}
-use Rattle.run_loop.specs.Step.{Gives, Stops, ending_of, parts_of}
+use Rattle.run_loop.specs.Due.{Stopped, TakesSome, most_ahead}
+use Rattle.run_loop.specs.Step.{FailsBy, Fewer, Gives, Stops, StopsBy, ending_of, parts_of}
 use Rattle.run_loop.specs.declared.work.Round.{Round}
 use Rattle.run_loop.specs.declared.work.Stop.{Stop}
 use Rattle.run_loop.specs.declared.work.Stop.TheVariants.{Go, End, Fails}
-use Rattle.run_loop.specs.declared.status.Status.TheVariants.{NoMemory, ReadFault, BadStream}
+use Rattle.run_loop.specs.declared.status.Status.TheVariants.{NoMemory, BadStream}
 use Rattle.stream_loop.specs.Handling.{Handling, blocks_answer, body_answer}
-use Rattle.stream_loop.specs.Rounds.{answer_ahead, status_of, IsEnding}
+use Rattle.stream_loop.specs.Rounds.{status_of, IsEnding}
 use Rattle.stream_loop.proofs.Answered.{due_behind, some_behind, some_due, within_ahead}
 use Rattle.stream_loop.proofs.StreamSteps.{taken}
 use Rattle.decode_command.specs.Decoding.{decoding}
 use Rattle.batch_command.specs.Batch.{batch_ahead, reading_ahead}
 use Rattle.batch_command.specs.Jobs.{blocks_in, IsJobOf}
 use Rattle.batch_command.specs.Making.{failures, job_parts, StopsAs}
-use Rattle.batch_command.specs.Reading.{Came, Comes, Counts, Passes, onto_all, size_of_blocks, stop_of}
+use Rattle.batch_command.specs.Reading.{Came, Comes, Counts, Passes, stop_of}
 use Rattle.batch_command.specs.declared.job.BlockJob.{BlockJob}
 use Rattle.batch_command.specs.declared.reading.Reached.{Reached}
 use Rattle.batch_command.specs.declared.reading.Reached.TheVariants as reached
@@ -61,23 +61,23 @@ spare_behind w h number failed (b ∷ blocks) ending m near few = omega (arith, 
 more_taken : (w : Handling) (h : Header) (number failed : ℕ) (s s' : Reading) (left : List ℕ) (mid new : Option (List ℕ)) (stopped : Reached) →
     (stopped ≡ reached.Full → ⊥) → GoesOn (remaining s left) (remaining s') [] mid new (stop_of stopped) →
     TakesSome mid new (λ m. let a = body_answer w h number failed (remaining s left) in IsSpare a.parts a.tail m)
-more_taken w h number failed s s' left mid new reached.Full no on = absurd (no refl)
-more_taken w h number failed s s' left mid new reached.End no (bytes, old_is, new_is, size, says) = (
+more_taken w h number failed s s' left mid new reached.Full early on = absurd (early refl)
+more_taken w h number failed s s' left mid new reached.End early (bytes, old_is, new_is, size, says) = (
   bytes,
   (let P : Option (List ℕ) → Type 0 = λ o. Takes mid o bytes in subst P (sym new_is) (old_is ∙ ap Some (sym (append-nil bytes)))),
   subst (λ (b : Body). let a = body_answer w h number failed b in IsSpare a.parts a.tail (length bytes)) (sym says) (omega (arith, size)),
 )
-more_taken w h number failed s s' left mid new (reached.Stopped (reader.Bad n place)) no (bytes, rest, due, old_is, new_is, says) = (
+more_taken w h number failed s s' left mid new (reached.Stopped (reader.Bad n place)) early (bytes, rest, due, old_is, new_is, says) = (
   bytes,
   (let P : Option (List ℕ) → Type 0 = λ o. Takes mid o bytes in subst P (sym new_is) old_is),
   subst (λ (b : Body). let a = body_answer w h number failed b in IsSpare a.parts a.tail (length bytes)) (sym says) (omega arith),
 )
-more_taken w h number failed s s' left mid new (reached.Stopped reader.Fault) no (bytes, took, few) = (
+more_taken w h number failed s s' left mid new (reached.Stopped reader.Fault) early (bytes, took, few) = (
   bytes,
   took,
   spare_behind w h number failed (remaining s left).blocks (remaining s left).ending (length bytes) (near-body s.header (most_blocks - s.blocks) s.place left) few,
 )
-more_taken w h number failed s s' left mid new (reached.Stopped reader.NoMemory) no same = (
+more_taken w h number failed s s' left mid new (reached.Stopped reader.NoMemory) early same = (
   [],
   (let P : Option (List ℕ) → Type 0 = λ o. Takes mid o [] in subst P (sym same) (takes_none mid)),
   zero_spare (body_answer w h number failed (remaining s left)),
@@ -94,11 +94,11 @@ starved_after : (e : Effort) (pipes failed : ℕ) (r before s : Reading) (input 
     1 ≤ pipes → length jobs < 2 * pipes → All (IsJobOf e r.header) jobs → (stopped ≡ reached.Full → ⊥) →
     Came r before input left (blocks_in jobs) old mid → GoesOn (remaining before left) (remaining s) [] mid new (stop_of stopped) →
     Stopped (batch_ahead e pipes r failed input) old new NoMemory
-starved_after e pipes failed r before s input left jobs old mid new stopped some few are no came on =
+starved_after e pipes failed r before s input left jobs old mid new stopped some few are early came on =
     let w = decoding e in
     let number = r.blocks + length jobs in
     let all = failed + failures r.blocks jobs in
-    let more = more_taken w r.header number all before s left mid new stopped no on in
+    let more = more_taken w r.header number all before s left mid new stopped early on in
     let b = body_answer w r.header number all (remaining before left) in
     let front = job_parts r.blocks jobs in
     let P : Answer → Type 0 = λ a. length (came.bytes ++ more.0) ≤ most_ahead a in
@@ -133,9 +133,9 @@ pub starved_round : (e : Effort) (pipes failed : ℕ) (r s : Reading) (input : L
 starved_round e pipes failed r s input jobs old new reached.Full some are (left, came) (all, live) =
     starved_full e pipes failed r s input left jobs old new (omega (arith, all)) are came
 starved_round e pipes failed r s input jobs old new reached.End some are (left, mid, before, came, on) few =
-    starved_after e pipes failed r before s input left jobs old mid new reached.End some few are (λ no. cc) came on
+    starved_after e pipes failed r before s input left jobs old mid new reached.End some few are (λ e. cc) came on
 starved_round e pipes failed r s input jobs old new (reached.Stopped why) some are (left, mid, before, came, on) few =
-    starved_after e pipes failed r before s input left jobs old mid new (reached.Stopped why) some few are (λ no. cc) came on
+    starved_after e pipes failed r before s input left jobs old mid new (reached.Stopped why) some few are (λ e. cc) came on
 
 -- and before any had
 pub starved_before : (e : Effort) (pipes failed : ℕ) (r : Reading) (input : List ℕ) (old : Option (List ℕ)) →
@@ -208,3 +208,33 @@ gives_round e pipes failed failed' r s input jobs old new (reached.Stopped why) 
     let P : Stop → Type 0 = λ stop. Stops (left_answer e pipes r failed jobs (remaining before left)) after mid new stop in
     gives_after e pipes failed r before input left jobs after old mid new round are came made
     (subst P (sym stops) (stopped_ahead (decoding e) (2 * pipes) r.header (r.blocks + length jobs) (failed + failures r.blocks jobs) before s left mid new why on))
+
+-- ---- whether more is to come
+
+-- a round that goes on has as many blocks as it may have
+pub full_of : (e : Effort) (h : Header) (blocks failed count most : ℕ) (s : Reading) (stopped : Reached) (stop : Stop) → StopsAs e h blocks failed stopped stop → stop ≡ Go →
+    Counts count most s stopped → (count ≡ most) × (s.live ≡ true)
+full_of e h blocks failed count most s reached.Full stop stops go counts = counts
+full_of e h blocks failed count most s reached.End stop stops go counts =
+    absurd (let P : Stop → Type 0 = λ x. IsEnding (decoding e) h blocks failed x in subst P go stops)
+full_of e h blocks failed count most s (reached.Stopped why) stop stops go counts = absurd (let never : ⊥ = cc (sym stops ∙ go) in never)
+
+pub fewer_of : (before now : ℕ) (stop : Stop) → (stop ≡ Go → now < before) → Fewer before now stop
+fewer_of before now Go less = less refl
+fewer_of before now (End closing last failed) less = tt
+fewer_of before now (Fails status) less = tt
+
+-- a round stops by a fault of the source only where the source counted one
+pub stops_by : (e : Effort) (h : Header) (blocks failed before now : ℕ) (stopped : Reached) (stop : Stop) → StopsAs e h blocks failed stopped stop →
+    (stopped ≡ reached.Stopped reader.Fault → Rose before now) → StopsBy before now stop
+stops_by e h blocks failed before now reached.Full stop stops rose = let P : Stop → Type 0 = λ x. StopsBy before now x in subst P (sym stops) tt
+stops_by e h blocks failed before now reached.End Go stops rose = tt
+stops_by e h blocks failed before now reached.End (End closing last some) stops rose = tt
+stops_by e h blocks failed before now reached.End (Fails status) stops rose = absurd stops
+stops_by e h blocks failed before now (reached.Stopped why) stop stops rose =
+    let P : Stop → Type 0 = λ x. StopsBy before now x in subst P (sym stops) (of why rose)
+  where
+    of : (w : StreamStop) → (reached.Stopped w ≡ reached.Stopped reader.Fault → Rose before now) → FailsBy before now (status_of w)
+    of (reader.Bad number place) r = tt
+    of reader.Fault r = r refl
+    of reader.NoMemory r = tt

@@ -9,7 +9,7 @@ use Rattle.coded_stream.specs.Steps.{Reading, remaining, GoesOn}
 use Rattle.coded_stream.specs.declared.stop.StreamStop.{StreamStop}
 use Rattle.batch_command.specs.declared.job.BlockJob.{BlockJob}
 use Rattle.batch_command.specs.declared.reading.Reached.{Reached}
-use Rattle.batch_command.specs.declared.reading.Reached.TheVariants.{Full, End, Stopped}
+use Rattle.batch_command.specs.declared.reading.Reached.TheVariants.{Full, Stopped}
 
 -- ---- one block
 

@@ -1,9 +1,6 @@
 //! The decoding of one transport block, as a job.
-ghost use Rattle.std.specs.Prelude.{◌≡◌};
-ghost use Rattle.coded_stream.specs.Blocks.{IsBlock};
-ghost use Rattle.coded_stream.specs.Shown.{header_of};
-ghost use Rattle.coded_stream.specs.declared.kind.Kind.TheVariants as kind;
-ghost use Rattle.stream_loop.specs.Rounds.{block_of};
+ghost use Rattle.std.specs.Prelude.{◌≡◌, ◌≤◌, length};
+ghost use Rattle.block_receive.specs.Receptions.{value_count};
 
 use block_receive::{Effort, receive_alone};
 use coded_stream::Header;
@@ -23,8 +20,9 @@ pub struct BlockJob {
     pub header: Header,
     pub payload: usize,
     pub bytes: List<u8>,
-    pub ghost soft: { header.kind ≡ kind.Soft },
-    pub ghost accepted: { IsBlock (header_of header) (block_of payload bytes) },
+    pub ghost some: { 1 ≤ payload },
+    pub ghost few: { payload ≤ header.tb },
+    pub ghost values: { length bytes ≡ value_count header.sends },
 }
 
 impl Job for BlockJob {

@@ -70,7 +70,7 @@ pub fn stop_of(
 ) -> Result<Stop, NoMemory>
     requires few { blocks ≤ 4096 }
     requires failed { failed ≤ blocks }
-    ensures { (e : Effort) (h : Header) → IfOk result (StopsAs e h blocks failed reached) }
+    ensures { IfOk result (λ stop. (e : Effort) (h : Header) → StopsAs e h blocks failed reached stop) }
 {
     match reached {
         Reached::Full => Ok(Stop::Go),
