@@ -69,15 +69,15 @@ split kind start b (g ∷ gs) left c rest is =
 
 -- ---- a step
 
-record IsRead (h : Header) (more : ℕ) (left : List ℕ) (c : Block) (rest : List ℕ) : Type 0 where
-  room : 0 < more
-  is : IsBlock h c
-  left_is : left ≡ block_text c ++ rest
+pub record IsRead (h : Header) (more : ℕ) (left : List ℕ) (c : Block) (rest : List ℕ) : Type 0 where
+  pub room : 0 < more
+  pub is : IsBlock h c
+  pub left_is : left ≡ block_text c ++ rest
 
 front : (left : List ℕ) → 4 ≤ length left → AreBytes left → left ≡ word_text (word left 0) ++ drop 4 left
 front left long are = sym (take-append-drop 4 left) ∙ ap (λ (xs : List ℕ). xs ++ drop 4 left) (sym (spelled-word left long are))
 
-step-block : (h : Header) (more start : ℕ) (left : List ℕ) (c : Block) (rest : List ℕ) → AreBytes left → step h more start left ≡ block c rest → IsRead h more left c rest
+pub step-block : (h : Header) (more start : ℕ) (left : List ℕ) (c : Block) (rest : List ℕ) → AreBytes left → step h more start left ≡ block c rest → IsRead h more left c rest
 unfolding step
 step-block h more start left c rest are is = by_length (nat_lt (length left) 4) refl is
   where

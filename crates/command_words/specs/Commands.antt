@@ -10,7 +10,7 @@ use Rattle.command_words.specs.Blocks.{asked_of, blocks_given}
 use Rattle.command_words.specs.Operands.{first_fault, given, number_given, only}
 use Rattle.command_words.specs.Refusals.{refused, missing, unless}
 use Rattle.command_words.specs.Settings.{channel_numbers, decoding_numbers}
-use Rattle.command_words.specs.Tables.{codeword_rules, g_number, qm_number, rv_of_one, encode_rules, decode_rules, workers_number, channel_rules, upgrade_rules, trial_rules, blocks_number, scramble_rules, rnti_number, q_number, slot_number, cell_number}
+use Rattle.command_words.specs.Tables.{codeword_rules, g_number, qm_number, rv_of_one, encode_rules, decode_rules, workers_number, batch_rules, pipes_number, channel_rules, upgrade_rules, trial_rules, blocks_number, scramble_rules, rnti_number, q_number, slot_number, cell_number}
 use Rattle.command_words.specs.declared.blocks.CodedBlocks.{CodedBlocks}
 use Rattle.command_words.specs.declared.operands.Operand.{Operand}
 use Rattle.command_words.specs.declared.operands.WordRefusal.{WordRefusal}
@@ -19,7 +19,7 @@ use Rattle.command_words.specs.declared.settings.ChannelNumbers.{ChannelNumbers}
 use Rattle.command_words.specs.declared.settings.DecodingNumbers.{DecodingNumbers}
 use Rattle.command_words.specs.declared.transmissions.Asked.{Asked}
 use Rattle.command_words.specs.declared.words.Command.{Command}
-use Rattle.command_words.specs.declared.words.Command.TheVariants.{Codeword, Encode, Decode, Channel, Upgrade, Trial, Scramble, Points}
+use Rattle.command_words.specs.declared.words.Command.TheVariants.{Codeword, Encode, Decode, Batch, Channel, Upgrade, Trial, Scramble, Points}
 
 -- ---- codeword
 
@@ -56,7 +56,7 @@ abbrev pub encode_of : (operands : List (List ℕ)) → Result Command WordRefus
 encode_of operands = unless (first_fault encode_rules [] operands)
     (encode_found (asked_of ForTransmissions operands) (missing operands))
 
--- ---- decode, channel, points, upgrade
+-- ---- decode, batch, channel, points, upgrade
 
 abbrev pub decode_found : Option DecodingNumbers → (workers : Option ℕ) → Option Command
 decode_found (Some d) (Some workers) = Some (Decode d.windows d.limit workers)
@@ -65,6 +65,15 @@ decode_found _ _ = None
 abbrev pub decode_of : (operands : List (List ℕ)) → Result Command WordRefusal
 decode_of operands = unless (first_fault decode_rules [] operands)
     (ok_or (decode_found (decoding_numbers operands) (number_given workers_number operands))
+    (missing operands))
+
+abbrev pub batch_found : Option DecodingNumbers → (pipes : Option ℕ) → Option Command
+batch_found (Some d) (Some pipes) = Some (Batch pipes d.windows d.limit)
+batch_found _ _ = None
+
+abbrev pub batch_of : (operands : List (List ℕ)) → Result Command WordRefusal
+batch_of operands = unless (first_fault batch_rules [] operands)
+    (ok_or (batch_found (decoding_numbers operands) (number_given pipes_number operands))
     (missing operands))
 
 abbrev pub channel_asked : (operands : List (List ℕ)) → Result ChannelNumbers WordRefusal

@@ -6,7 +6,7 @@ use Rattle.rate_match.specs.declared.sends.Sending.{Sending}
 use Rattle.coded_stream.specs.Header.{AreHeld}
 use Rattle.coded_stream.specs.Limit.{is_limit}
 use Rattle.command_words.specs.declared.words.Command.{Command}
-use Rattle.command_words.specs.declared.words.Command.TheVariants.{Codeword, Encode, Decode, Channel, Upgrade, Trial, Scramble, Points}
+use Rattle.command_words.specs.declared.words.Command.TheVariants.{Codeword, Encode, Decode, Batch, Channel, Upgrade, Trial, Scramble, Points}
 
 -- transmissions whose soft buffer fits every block of 1 to tb bytes
 pub record AreForBlocks (tb : ℕ) (sends : List Sending) : Type 0 where
@@ -31,6 +31,7 @@ abbrev pub IsLawful : Command → Type 0
 IsLawful (Codeword m rv) = (m.limit ≡ None) × (rv ≤ 3)
 IsLawful (Encode version tb sends) = AreForBlocks tb sends × AreHeld version sends
 IsLawful (Decode windows limit workers) = IsDecoding windows limit × (1 ≤ workers) × (workers ≤ 16)
+IsLawful (Batch pipes windows limit) = IsDecoding windows limit × (1 ≤ pipes) × (pipes ≤ 8)
 IsLawful (Channel amp noise seed) = IsChannel amp noise
 IsLawful Upgrade = Unit {0}
 IsLawful (Trial seed blocks tb sends amp noise windows limit) = AreForBlocks tb sends × AreEven sends

@@ -1,7 +1,7 @@
 -- How the numbers of an operand are spelt, and which are accepted.
 use Rattle.std.specs.Prelude.{ℕ, ◌%◌, List, Bool, ◌&&◌, nat_le, ◌==◌, codes}
 use Rattle.command_words.specs.declared.rules.Name.{Name}
-use Rattle.command_words.specs.declared.rules.Name.TheVariants.{Tb, G, Qm, Rv, Nl, Nir, Windows, Limit, Workers, Amp, Noise, Seed, Blocks, Rnti, Q, Slot, Cell}
+use Rattle.command_words.specs.declared.rules.Name.TheVariants.{Tb, G, Qm, Rv, Nl, Nir, Windows, Limit, Workers, Pipes, Amp, Noise, Seed, Blocks, Rnti, Q, Slot, Cell}
 use Rattle.command_words.specs.declared.rules.Form.{Form}
 use Rattle.command_words.specs.declared.rules.Form.TheVariants.{Number, ListOfOne, ForTransmissions}
 use Rattle.command_words.specs.declared.rules.Range.{Range}
@@ -18,6 +18,7 @@ name_text Nir = codes "nir"
 name_text Windows = codes "windows"
 name_text Limit = codes "limit"
 name_text Workers = codes "workers"
+name_text Pipes = codes "pipes"
 name_text Amp = codes "amp"
 name_text Noise = codes "noise"
 name_text Seed = codes "seed"

@@ -2,7 +2,7 @@
 use Rattle.std.specs.Prelude.{ℕ, List, [], ◌∷◌, Some, None}
 use Rattle.command_words.specs.Rules.{in_form}
 use Rattle.command_words.specs.declared.rules.Name.{Name}
-use Rattle.command_words.specs.declared.rules.Name.TheVariants.{Tb, G, Qm, Rv, Nl, Nir, Windows, Limit, Workers, Amp, Noise, Seed, Blocks, Rnti, Q, Slot, Cell}
+use Rattle.command_words.specs.declared.rules.Name.TheVariants.{Tb, G, Qm, Rv, Nl, Nir, Windows, Limit, Workers, Pipes, Amp, Noise, Seed, Blocks, Rnti, Q, Slot, Cell}
 use Rattle.command_words.specs.declared.rules.Form.TheVariants.{Number, ListOfOne, ForTransmissions}
 use Rattle.command_words.specs.declared.rules.Range.{Range}
 use Rattle.command_words.specs.declared.rules.Range.TheVariants.{Between, Even}
@@ -87,6 +87,12 @@ limit_number = optional Limit to_sixteen 8
 abbrev pub workers_number : Rule
 workers_number = optional Workers to_sixteen 1
 
+abbrev pub pipe_counts : Range
+pipe_counts = Between 1 8
+
+abbrev pub pipes_number : Rule
+pipes_number = optional Pipes pipe_counts 2
+
 -- ---- the channel
 
 abbrev pub amplitudes : Range
@@ -151,6 +157,9 @@ encode_rules = tb_number ∷ g_list ∷ qm_list ∷ rv_list ∷ nl_list ∷ nir_
 
 abbrev pub decode_rules : List Rule
 decode_rules = windows_number ∷ limit_number ∷ workers_number ∷ []
+
+abbrev pub batch_rules : List Rule
+batch_rules = windows_number ∷ limit_number ∷ pipes_number ∷ []
 
 abbrev pub channel_rules : List Rule
 channel_rules = amp_number ∷ noise_number ∷ seed_number ∷ []

@@ -4,10 +4,10 @@ use Rattle.std.specs.Prelude.{ℕ, List, [], ◌∷◌, if◌then◌else◌, Som
 use Rattle.std.specs.Str.{bytes_eq}
 use Rattle.std.specs.declared.option.Option.{Option}
 use Rattle.std.specs.declared.result.Result.{Result}
-use Rattle.command_words.specs.Commands.{codeword_of, encode_of, decode_of, channel_of, upgrade_of, trial_of, scramble_of, points_of}
+use Rattle.command_words.specs.Commands.{codeword_of, encode_of, decode_of, batch_of, channel_of, upgrade_of, trial_of, scramble_of, points_of}
 use Rattle.command_words.specs.Refusals.{refused}
 use Rattle.command_words.specs.declared.names.CommandName.{CommandName}
-use Rattle.command_words.specs.declared.names.CommandName.TheVariants.{Codeword, Encode, Decode, Channel, Upgrade, Trial, Scramble, Points}
+use Rattle.command_words.specs.declared.names.CommandName.TheVariants.{Codeword, Encode, Decode, Batch, Channel, Upgrade, Trial, Scramble, Points}
 use Rattle.command_words.specs.declared.operands.WordRefusal.{WordRefusal}
 use Rattle.command_words.specs.declared.words.Command.{Command}
 
@@ -15,6 +15,7 @@ abbrev pub command_named : (word : List ℕ) → Option CommandName
 command_named word = if bytes_eq word (codes "codeword") then Some Codeword
     else if bytes_eq word (codes "encode") then Some Encode
     else if bytes_eq word (codes "decode") then Some Decode
+    else if bytes_eq word (codes "batch") then Some Batch
     else if bytes_eq word (codes "channel") then Some Channel
     else if bytes_eq word (codes "upgrade") then Some Upgrade
     else if bytes_eq word (codes "trial") then Some Trial
@@ -26,6 +27,7 @@ abbrev pub command_with : Option CommandName → (operands : List (List ℕ)) �
 command_with (Some Codeword) operands = codeword_of operands
 command_with (Some Encode) operands = encode_of operands
 command_with (Some Decode) operands = decode_of operands
+command_with (Some Batch) operands = batch_of operands
 command_with (Some Channel) operands = channel_of operands
 command_with (Some Upgrade) operands = upgrade_of operands
 command_with (Some Trial) operands = trial_of operands

@@ -1,12 +1,12 @@
-//! The words of `decode`, `channel`, `points` and `upgrade`, which read a stream.
+//! The words of `decode`, `batch`, `channel`, `points` and `upgrade`, which read a stream.
 ghost use Rattle.std.specs.Prelude.{◌≡◌, IfOk};
 ghost use Rattle.command_words.specs.Lawful.{IsLawful, IsChannel};
 ghost use Rattle.command_words.specs.Texts.{texts_of};
-ghost use Rattle.command_words.specs.Commands.{decode_of, channel_asked, channel_of, points_of, upgrade_of};
+ghost use Rattle.command_words.specs.Commands.{batch_of, decode_of, channel_asked, channel_of, points_of, upgrade_of};
 
 use crate::operands::{WordRefusal, first_fault, missing, number_given};
 use crate::settings::{ChannelNumbers, channel_numbers, decoding_numbers};
-use crate::tables::{CHANNEL, DECODE, UPGRADE, WORKERS_NUMBER};
+use crate::tables::{BATCH, CHANNEL, DECODE, PIPES_NUMBER, UPGRADE, WORKERS_NUMBER};
 use crate::words::Command;
 
 /// What the words after `decode` ask for.
@@ -24,6 +24,26 @@ pub fn decode_of(operands: &[&str]) -> Result<Command, WordRefusal>
             windows: decoding.windows,
             limit: decoding.limit,
             workers: workers as usize,
+        }),
+        _ => Err(missing(operands)),
+    }
+}
+
+/// What the words after `batch` ask for.
+pub fn batch_of(operands: &[&str]) -> Result<Command, WordRefusal>
+    ensures command { result ≡ batch_of (texts_of operands.now) }
+    ensures lawful { IfOk result IsLawful }
+{
+    if let Some(refusal) = first_fault(&BATCH, operands) {
+        return Err(refusal);
+    }
+    let decoding = decoding_numbers(operands);
+    let pipes = number_given(&PIPES_NUMBER, operands);
+    match (decoding, pipes) {
+        (Some(decoding), Some(pipes)) => Ok(Command::Batch {
+            pipes: pipes as usize,
+            windows: decoding.windows,
+            limit: decoding.limit,
         }),
         _ => Err(missing(operands)),
     }

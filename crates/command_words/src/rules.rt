@@ -22,8 +22,10 @@ pub enum Name {
     Windows,
     /// The most iterations.
     Limit,
-    /// The threads that decode.
+    /// The threads that decode a code block.
     Workers,
+    /// The threads that decode transport blocks.
+    Pipes,
     /// The soft value of a bit 0.
     Amp,
     /// How strong the noise is.
@@ -56,6 +58,7 @@ impl Name {
             Name::Windows => "windows",
             Name::Limit => "limit",
             Name::Workers => "workers",
+            Name::Pipes => "pipes",
             Name::Amp => "amp",
             Name::Noise => "noise",
             Name::Seed => "seed",

@@ -31,12 +31,23 @@ pub const LIMIT_NUMBER: Rule = Rule {
     default: Some(8),
 };
 
-/// The threads that decode.
+/// The threads that decode a code block.
 pub const WORKERS_NUMBER: Rule = Rule {
     name: Name::Workers,
     form: Form::Number,
     range: TO_SIXTEEN,
     default: Some(1),
+};
+
+/// The threads that decode transport blocks.
+pub const PIPES_NUMBER: Rule = Rule {
+    name: Name::Pipes,
+    form: Form::Number,
+    range: Range::Between {
+        least: 1,
+        greatest: 8,
+    },
+    default: Some(2),
 };
 
 const AMPLITUDES: Range = Range::Between {
@@ -143,6 +154,9 @@ pub const ENCODE: [Rule; 6] = [TB_NUMBER, G_LIST, QM_LIST, RV_LIST, NL_LIST, NIR
 
 /// What `decode` takes.
 pub const DECODE: [Rule; 3] = [WINDOWS_NUMBER, LIMIT_NUMBER, WORKERS_NUMBER];
+
+/// What `batch` takes.
+pub const BATCH: [Rule; 3] = [WINDOWS_NUMBER, LIMIT_NUMBER, PIPES_NUMBER];
 
 /// What `channel` and `points` take.
 pub const CHANNEL: [Rule; 3] = [AMP_NUMBER, NOISE_NUMBER, SEED_NUMBER];

@@ -8,7 +8,7 @@ use crate::codeword::codeword_of;
 use crate::encode::encode_of;
 use crate::names::{CommandName, command_named};
 use crate::operands::WordRefusal;
-use crate::receiving::{channel_of, decode_of, points_of, upgrade_of};
+use crate::receiving::{batch_of, channel_of, decode_of, points_of, upgrade_of};
 use crate::scramble::scramble_of;
 use crate::trial::trial_of;
 use coded_stream::Version;
@@ -36,6 +36,13 @@ pub enum Command {
         windows: usize,
         limit: usize,
         workers: usize,
+    },
+    /// The payloads of a soft stream, with several transport blocks decoded at once: the threads
+    /// that decode transport blocks, 1 to 8, and windows and iterations as for `Decode`.
+    Batch {
+        pipes: usize,
+        windows: usize,
+        limit: usize,
     },
     /// A hard stream as soft values with noise: the value of a bit 0, 1 to 127, how strong the
     /// noise is, 0 to 127, and the seed that it is drawn from.
@@ -85,6 +92,7 @@ fn command_with(name: CommandName, operands: &[&str]) -> Result<Command, WordRef
         CommandName::Codeword => codeword_of(operands),
         CommandName::Encode => encode_of(operands),
         CommandName::Decode => decode_of(operands),
+        CommandName::Batch => batch_of(operands),
         CommandName::Channel => channel_of(operands),
         CommandName::Upgrade => upgrade_of(operands),
         CommandName::Trial => trial_of(operands),

@@ -17,7 +17,10 @@ bytes_counted (s ∷ sends) bytes (first, rest, is, one, others) =
     let more : value_count (s ∷ sends) ≡ s.m.g + value_count sends = grind (arith, common_steps) in
     omega (arith, ap length is, length-append first rest, size, more, bytes_counted sends rest others)
 
+pub bytes_of_values : (kind : Kind) (sends : List Sending) (bytes : List ℕ) → kind ≡ Soft → AreTransmissions kind (map (λ s. s.m.g) sends) bytes → length bytes ≡ value_count sends
+bytes_of_values kind sends bytes is sent =
+    let P : Kind → Type 0 = λ k. AreTransmissions k (map (λ s. s.m.g) sends) bytes in bytes_counted sends bytes (subst P is sent)
+
 pub softs_counted : (kind : Kind) (sends : List Sending) (bytes : List ℕ) → kind ≡ Soft → AreTransmissions kind (map (λ s. s.m.g) sends) bytes → length (softs_of bytes) ≡ value_count sends
 softs_counted kind sends bytes is sent =
-    let P : Kind → Type 0 = λ k. AreTransmissions k (map (λ s. s.m.g) sends) bytes in
-    length-map bytes soft_of ∙ bytes_counted sends bytes (subst P is sent)
+    length-map bytes soft_of ∙ bytes_of_values kind sends bytes is sent

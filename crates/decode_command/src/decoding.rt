@@ -57,8 +57,8 @@ impl<'a, F: Fn(Global, &Task, usize, &Sends, &[Soft]) -> Received> Decoding<'a, 
     }
 }
 
-/// What an outcome adds.
-fn handled(alloc: Global, number: usize, outcome: TbOutcome) -> Result<Handled, NoMemory>
+/// What the outcome of the block with this number adds.
+pub fn handled(alloc: Global, number: usize, outcome: TbOutcome) -> Result<Handled, NoMemory>
     ensures { IfOk result (λ x. handled_of x ≡ handled number outcome) }
 {
     let line = block_line(alloc, number, &outcome)?;

@@ -4,4 +4,5 @@
 mod decoding;
 mod lines;
 
-pub use decoding::{Decoding, Received};
+pub use decoding::{Decoding, Received, handled};
+pub use lines::last_line;

@@ -2,3 +2,4 @@ mod Turns
 mod HardBits
 mod Modulation
 mod Pairs
+mod TwoBits

@@ -1,9 +1,10 @@
 -- What `points` makes of a hard stream: as `channel`, but with the bits sent as points of 36.211, 7.1.
-use Rattle.std.specs.Prelude.{ℕ, ◌*◌, ◌/◌, ℤ, List}
+use Rattle.std.specs.Prelude.{◌≡◌, ℕ, ◌*◌, ◌/◌, ℤ, List, All}
 use Rattle.sender_model.specs.CircularBuffer.{Match}
 use Rattle.soft_channel.specs.Noise.{noise_terms}
 use Rattle.qam_points.specs.Reception.{received}
 use Rattle.coded_stream.specs.Header.{Header}
+use Rattle.coded_stream.specs.Opening.{Opening, opens, refuses}
 use Rattle.coded_stream.specs.declared.kind.Want.TheVariants as want
 use Rattle.stream_loop.specs.Handling.{Handling}
 use Rattle.stream_loop.specs.SoftBytes.{bytes_of}
@@ -25,3 +26,8 @@ sending_points n = record { want = want.Hard; header = soft_header; sent = recei
 
 abbrev pub points : Noise → Handling
 points n = relaying (sending_points n)
+
+-- each transmission of a stream that begins so is sent with two bits a point; none is where the header is refused
+abbrev pub SendsTwoBits : Opening → Type 0
+SendsTwoBits (opens h left) = All (λ s. s.m.qm ≡ 2) h.sends
+SendsTwoBits (refuses r) = Unit {0}

@@ -13,7 +13,7 @@ use Rattle.stream_loop.specs.Handling.{Handling, blocks_answer, one_if}
 use Rattle.stream_loop.specs.Rounds.{answer_ahead}
 
 -- fewer bytes than the first thing of a stream wants leave it unknown
-due_behind : (w : Handling) (h : Header) (number failed : ℕ) (blocks : List Block) (ending : Ending) (n : ℕ) → n < due_of blocks ending →
+pub due_behind : (w : Handling) (h : Header) (number failed : ℕ) (blocks : List Block) (ending : Ending) (n : ℕ) → n < due_of blocks ending →
     IsDue (blocks_answer w h number failed blocks ending).due (blocks_answer w h number failed blocks ending).parts n
 due_behind w h number failed [] whole n few = few
 due_behind w h number failed [] (bad refusal) n few = few
@@ -24,7 +24,7 @@ pub due_ahead : (w : Handling) (r : Reading) (failed : ℕ) (input : List ℕ) (
 due_ahead w r failed input n few = due_behind w r.header r.blocks failed (remaining r input).blocks (remaining r input).ending n few
 
 -- before anything was read, something is due
-some_due : (r : Reading) (input : List ℕ) → 0 < body_due (remaining r input)
+pub some_due : (r : Reading) (input : List ℕ) → 0 < body_due (remaining r input)
 some_due r input =
     let more = most_blocks - r.blocks in
     omega (arith, step-due r.header more r.place input 0 (omega arith) (omega arith), body-due r.header more r.place input)
@@ -38,7 +38,7 @@ one_behind w h number failed (b ∷ blocks) ending = one_behind w h (number + 1)
 pub one_ahead : (w : Handling) (r : Reading) (failed : ℕ) (input : List ℕ) → (answer_ahead w r failed input).ahead ≡ 1
 one_ahead w r failed input = one_behind w r.header r.blocks failed (remaining r input).blocks (remaining r input).ending
 
-some_behind : (w : Handling) (h : Header) (number failed : ℕ) (blocks : List Block) (ending : Ending) → 0 < due_of blocks ending →
+pub some_behind : (w : Handling) (h : Header) (number failed : ℕ) (blocks : List Block) (ending : Ending) → 0 < due_of blocks ending →
     (blocks_answer w h number failed blocks ending).parts ≡ [] → 0 < (blocks_answer w h number failed blocks ending).due
 some_behind w h number failed [] whole some none = some
 some_behind w h number failed [] (bad refusal) some none = some

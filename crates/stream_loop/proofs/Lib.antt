@@ -1,3 +1,3 @@
-mod Answered
-mod StreamSteps
-mod Openings
+pub mod Answered
+pub mod StreamSteps
+pub mod Openings

@@ -23,7 +23,7 @@ use Rattle.stream_loop.specs.Rounds.{answer_ahead, block_of, status_of, IsEnding
 use Rattle.stream_loop.proofs.Answered.{due_ahead, one_ahead, within_ahead}
 
 -- these bytes were taken
-taken : (old new : Option (List ℕ)) (bytes left : List ℕ) → old ≡ Some (bytes ++ left) → new ≡ Some left → Takes old new bytes
+pub taken : (old new : Option (List ℕ)) (bytes left : List ℕ) → old ≡ Some (bytes ++ left) → new ≡ Some left → Takes old new bytes
 taken old new bytes left old_is new_is =
     let P : Option (List ℕ) → Type 0 = λ o. Takes old o bytes in subst P (sym new_is) old_is
 

@@ -8,5 +8,6 @@ mod softs;
 mod stream;
 
 pub use handler::{Handled, Handler};
+pub use rounds::status_of;
 pub use softs::{push_bytes, softs_of};
 pub use stream::Stream;

@@ -4,6 +4,8 @@
 #[cfg(test)]
 mod agreement;
 #[cfg(test)]
+mod batch;
+#[cfg(test)]
 mod board;
 #[cfg(test)]
 mod pair_gate;

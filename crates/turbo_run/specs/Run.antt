@@ -1,12 +1,15 @@
 -- What a run of the program owes.
-use Rattle.std.specs.Prelude.{◌≡◌, ℕ, List, Some, IfOk, IfErr}
+use Rattle.std.specs.Prelude.{◌≡◌, ℕ, List, Some, None, IfOk, IfErr, IfSome}
+use Rattle.std.specs.declared.option.Option.{Option}
+use Rattle.rate_match.specs.declared.sends.Sending.{Sending}
 use Rattle.run_loop.specs.Edges.{Edges, Causes, IsQuiet}
 use Rattle.run_loop.specs.FaultLine.{AddsLine, Finished, fault_line}
-use Rattle.run_loop.specs.Reply.{Reply, reading, IsEndingOf, ending_of_reply}
+use Rattle.run_loop.specs.Reply.{Reply, reading, EndsReply, IsEndingOf, ending_of_reply}
 use Rattle.run_loop.specs.declared.status.Status.{Status}
 use Rattle.run_loop.specs.declared.status.Status.TheVariants.{BadWords}
 use Rattle.stream_loop.specs.Handling.{stream_answer}
 use Rattle.decode_command.specs.Decoding.{decoding}
+use Rattle.batch_command.specs.Batch.{batch_answer}
 use Rattle.relay_commands.specs.Channel.{Noise, channel}
 use Rattle.relay_commands.specs.Points.{points}
 use Rattle.relay_commands.specs.Scramble.{scrambling}
@@ -16,21 +19,15 @@ use Rattle.turbo_run.specs.Codeword.{codeword_answer}
 use Rattle.turbo_run.specs.Encode.{encode_answer, hard_header}
 use Rattle.command_words.specs.Words.{command_of}
 use Rattle.command_words.specs.declared.words.Command.{Command}
-use Rattle.command_words.specs.declared.words.Command.TheVariants.{Codeword, Encode, Decode, Channel, Upgrade, Trial, Scramble, Points}
+use Rattle.command_words.specs.declared.words.Command.TheVariants.{Codeword, Encode, Decode, Batch, Channel, Upgrade, Trial, Scramble, Points}
 
 -- the noise of these numbers
 abbrev pub noise_of : (amp noise seed : ℕ) → Noise
 noise_of amp noise seed = record { strength = record { amp = amp; noise = noise }; seed = seed }
 
--- what a command answers to an input
-abbrev pub answer_of : Command → (input : List ℕ) → Reply
-answer_of (Codeword m rv) input = reading (codeword_answer m rv input)
-answer_of (Encode version tb sends) input = reading (encode_answer (hard_header version tb sends) input)
-answer_of (Decode windows limit workers) input =
-    reading (stream_answer (decoding (record { windows = windows; limit = limit })) input)
-answer_of (Channel amp noise seed) input = reading (stream_answer (channel (noise_of amp noise seed)) input)
-answer_of Upgrade input = reading (stream_answer upgrade input)
-answer_of (Trial seed blocks tb sends amp noise windows limit) input = trial_reply (record {
+-- what a trial of these numbers answers
+abbrev pub trial_answer : (seed blocks tb : ℕ) → List Sending → (amp noise windows limit : ℕ) → Reply
+trial_answer seed blocks tb sends amp noise windows limit = trial_reply (record {
   seed = seed;
   blocks = blocks;
   tb = tb;
@@ -38,9 +35,28 @@ answer_of (Trial seed blocks tb sends amp noise windows limit) input = trial_rep
   strength = record { amp = amp; noise = noise };
   effort = record { windows = windows; limit = limit };
 })
+
+-- what a command answers to an input
+abbrev pub answer_of : Command → (input : List ℕ) → Reply
+answer_of (Codeword m rv) input = reading (codeword_answer m rv input)
+answer_of (Encode version tb sends) input = reading (encode_answer (hard_header version tb sends) input)
+answer_of (Decode windows limit workers) input =
+    reading (stream_answer (decoding (record { windows = windows; limit = limit })) input)
+answer_of (Batch pipes windows limit) input =
+    reading (batch_answer (record { windows = windows; limit = limit }) pipes input)
+answer_of (Channel amp noise seed) input = reading (stream_answer (channel (noise_of amp noise seed)) input)
+answer_of Upgrade input = reading (stream_answer upgrade input)
+answer_of (Trial seed blocks tb sends amp noise windows limit) input =
+    trial_answer seed blocks tb sends amp noise windows limit
 answer_of (Scramble rnti q slot cell) input =
     reading (stream_answer (scrambling (record { rnti = rnti; q = q; slot = slot; cell = cell })) input)
 answer_of (Points amp noise seed) input = reading (stream_answer (points (noise_of amp noise seed)) input)
+
+-- what a command answers that reads nothing
+abbrev pub unread_of : Command → Option Reply
+unread_of (Trial seed blocks tb sends amp noise windows limit) =
+    Some (trial_answer seed blocks tb sends amp noise windows limit)
+unread_of _ = None
 
 -- a command that reads nothing leaves the source and `out` as they are, whether these tell what they hold or not
 abbrev pub LeavesAlone : {S D : Type 0} → Command → (source source' : S) → (out out' : D) → Type 0
@@ -66,3 +82,6 @@ pub record Runs {S D : Type 0} (words : List (List ℕ)) (source source' : S) (o
   pub causes : IfOk (command_of words) (λ _. Causes old new status)
   -- a command that reads nothing leaves the source and `out` as they are
   pub alone : IfOk (command_of words) (λ command. LeavesAlone command source source' out out')
+  -- and ends as its answer says, even where the source doesn't tell what it gives
+  pub unread : IfOk (command_of words) (λ command. IfSome (unread_of command) (λ reply.
+      Finished reply old new status × (IsQuiet old new → IsEndingOf (ending_of_reply reply) status)))

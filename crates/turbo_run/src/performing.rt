@@ -1,12 +1,15 @@
 //! Each command.
 ghost use Rattle.run_loop.specs.Edges.{edges};
-ghost use Rattle.run_loop.specs.Reply.{Ends};
-ghost use Rattle.turbo_run.specs.Run.{answer_of, LeavesAlone};
+ghost use Rattle.std.specs.Prelude.{IfSome};
+ghost use Rattle.run_loop.specs.Reply.{Ends, EndsReply};
+ghost use Rattle.turbo_run.specs.Run.{answer_of, unread_of, LeavesAlone};
 ghost use Rattle.command_words.specs.Lawful.{IsLawful};
 ghost use Rattle.decode_command.specs.Receivers.{GivesOutcomes, TakesTransmissions};
+ghost use Rattle.batch_command.specs.Runners.{GivesAnswers, TakesJobs};
 
 use crate::codeword::Codeword;
 use crate::encode::Encode;
+use batch_command::{Batch, BlockJob, Outcomes};
 use block_receive::{Effort, Task};
 use coded_stream::{Header, Kind};
 use command_words::Command;
@@ -20,10 +23,11 @@ use std::alloc::Global;
 use stream_loop::Stream;
 use trial_command::{Trial, run_trial};
 
-/// Does a command, without the line that tells a fault. Where blocks of a stream are decoded, `receive`
-/// does it.
+/// Does a command, without the line that tells a fault. Where blocks of a stream are decoded one after the
+/// other, `receive` does it, and where several are decoded at once, `run_jobs`.
 pub fn perform<
     F: Fn(Global, &Task, usize, &Sends, &[Soft]) -> Received,
+    B: Fn(Global, &[BlockJob], usize) -> Outcomes,
     S: Source,
     D: Sink,
     R: Sink,
@@ -31,6 +35,7 @@ pub fn perform<
     alloc: Global,
     command: Command,
     receive: &F,
+    run_jobs: &B,
     source: &mut S,
     out: &mut D,
     report: &mut R,
@@ -38,10 +43,15 @@ pub fn perform<
     requires lawful { IsLawful command }
     requires takes { TakesTransmissions (F.pre receive.now) }
     requires gives { GivesOutcomes (F.post receive.now) }
+    requires takes_jobs { TakesJobs (B.pre run_jobs.now) }
+    requires gives_answers { GivesAnswers (B.post run_jobs.now) }
     ensures ends { Ends (answer_of command)
         (edges S.Source D.Sink R.Sink source.old out.old report.old)
         (edges S.Source D.Sink R.Sink source.new out.new report.new) result }
     ensures alone { LeavesAlone command source.old source.new out.old out.new }
+    ensures unread { IfSome (unread_of command) (λ reply. EndsReply reply
+        (edges S.Source D.Sink R.Sink source.old out.old report.old)
+        (edges S.Source D.Sink R.Sink source.new out.new report.new) result) }
 {
     match command {
         Command::Codeword { m, rv } => drive(alloc, Codeword { m, rv }, source, out, report),
@@ -66,6 +76,18 @@ pub fn perform<
                 effort: Effort { windows, limit },
             };
             drive(alloc, Stream(decoding), source, out, report)
+        }
+        Command::Batch {
+            pipes,
+            windows,
+            limit,
+        } => {
+            let batch = Batch {
+                run: run_jobs,
+                pipes,
+                effort: Effort { windows, limit },
+            };
+            drive(alloc, batch, source, out, report)
         }
         Command::Channel { amp, noise, seed } => {
             let channel = Channel { amp, noise, seed };

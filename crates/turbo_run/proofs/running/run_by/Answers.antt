@@ -10,5 +10,5 @@ returns-in-Ok g c =
     let mid = edges g.S.Source g.D.Sink g.R.Sink done.new.source done.new.out done.new.report in
     record {
       runs = runs_as _ c.in-Ok.command c.args.source.now done.new.source c.args.out.now done.new.out old mid (g.R.Sink.held c.write_fault_line.new.report) (g.R.Sink.faults c.write_fault_line.new.report) done.result
-          (sym c.in-Ok.ensures.command) done.ensures.ends done.ensures.alone c.write_fault_line.ensures.later c.write_fault_line.ensures.told;
+          (sym c.in-Ok.ensures.command) done.ensures.ends done.ensures.alone done.ensures.unread c.write_fault_line.ensures.later c.write_fault_line.ensures.told;
     }

@@ -1,0 +1,7 @@
+mod Coming
+mod Near
+mod Parted
+mod Ahead
+mod Made
+mod RoundSteps
+mod BatchOpens

@@ -1,0 +1,5 @@
+pub mod Batch
+pub mod Jobs
+pub mod Reading
+pub mod Making
+pub mod Runners

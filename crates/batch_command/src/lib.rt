@@ -1,0 +1,14 @@
+//! The command `batch`: what `decode` does, with several transport blocks at once.
+#![tactic(auto)]
+
+mod batch;
+mod each;
+pub mod job;
+mod making;
+pub mod reading;
+mod rounds;
+
+pub use batch::Batch;
+pub use each::run_each;
+pub use job::BlockJob;
+pub use rounds::Outcomes;

@@ -1,0 +1,22 @@
+//! Why the program stops early.
+use lte_bits::NoMemory;
+use std::io;
+
+/// What kept the payload from being sent or told of.
+#[derive(Debug, Drop)]
+pub enum Fault {
+    NoMemory,
+    Io(io::Error),
+}
+
+impl From<NoMemory> for Fault {
+    fn from(_error: NoMemory) -> Fault {
+        Fault::NoMemory
+    }
+}
+
+impl From<io::Error> for Fault {
+    fn from(error: io::Error) -> Fault {
+        Fault::Io(error)
+    }
+}
