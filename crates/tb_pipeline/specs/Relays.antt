@@ -89,7 +89,7 @@ abbrev pub SomeHasEnded : ℕ → ℕ → List Known → Type 0
 SomeHasEnded count hands views =
     (j : ℕ) × (v : Known) × (get_elem? views j ≡ some v) × (v.all ≡ all_items count hands) × (v.ended ≡ true)
 
--- the item x was put behind the others, by who goes on filling
+-- the item x was put after the others, by who goes on filling
 abbrev pub puts : Known → Item → Known → Type 0
 puts v x w = (w.role ≡ Filling) × (w.all ≡ v.all ++ x ∷ [])
 

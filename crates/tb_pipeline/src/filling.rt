@@ -10,7 +10,7 @@ use crate::known::{Deals, Item, Known, Line, Puts};
 use crossbeam_queue::Pass;
 use std::sync::Wait;
 
-/// Puts an item behind the others.
+/// Puts an item after the others.
 fn put<R: Wait>(
     rt: &R,
     queue: &Line,

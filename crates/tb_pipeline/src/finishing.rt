@@ -20,7 +20,7 @@ fn answer_in<J: Job, G: Start>(job: &J, number: usize, slot: Option<J::Done>, st
     }
 }
 
-/// Puts an answer of each job behind the others, in the order of the jobs.
+/// Puts an answer of each job after the others, in the order of the jobs.
 pub(crate) fn finish<J: Job, G: Start>(
     jobs: &[J],
     start: &G,

@@ -7,7 +7,7 @@ use crate::known::{Item, Known, Line};
 use crossbeam_queue::Pass;
 use std::snapshot::Snapshot;
 
-/// The numbers of jobs, in a queue that threads share, and behind them an end mark for each hand.
+/// The numbers of jobs, in a queue that threads share, and after them an end mark for each hand.
 #[derive(Drop)]
 pub struct Relay {
     pub(crate) queue: Line,

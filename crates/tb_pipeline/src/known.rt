@@ -48,7 +48,7 @@ impl Protocol<Item, Known> for InOrder {
     ghost first = { filler [] };
 }
 
-/// An item is put behind the others.
+/// An item is put after the others.
 pub(crate) struct Puts;
 
 impl Outcome<Item, Known> for Puts {

@@ -40,7 +40,7 @@ impl<J, D> Outcome<Slip<J, D>, Asked<J>> for Asks {
     ghost then = { asks };
 }
 
-/// An answer is put behind the others.
+/// An answer is put after the others.
 pub(crate) struct Tells;
 
 impl<J, D> Outcome<Slip<J, D>, Asked<J>> for Tells {
