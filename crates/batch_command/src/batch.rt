@@ -1,9 +1,7 @@
 //! The command `batch` as a whole.
-ghost use Rattle.std.specs.Prelude.{◌≤◌};
-
-use crate::job::BlockJob;
 use crate::reading::JobReader;
-use crate::rounds::{BatchRounds, Outcomes};
+use crate::rounds::BatchRounds;
+use crate::runner::Runner;
 use block_receive::Effort;
 use coded_stream::{StreamReader, Want};
 use edge_io::{Sink, Source};
@@ -12,40 +10,36 @@ use std::alloc::Global;
 use stream_loop::status_of;
 
 /// Decodes the blocks of a stream of soft values, up to two for each pipe in a round: the blocks of a
-/// round are read, then `run` does them, and then they are written in their order. 1 to 8 pipes.
+/// round are read, then decoded, and then written in their order.
 #[derive(Drop)]
-pub struct Batch<'a, F: Fn(Global, &[BlockJob], usize) -> Outcomes> {
-    pub run: &'a F,
-    pub pipes: usize,
+pub struct Batch<R: Runner> {
+    pub runner: R,
     pub effort: Effort,
-    pub ghost some_pipes: { 1 ≤ pipes },
-    pub ghost few_pipes: { pipes ≤ 8 },
 }
 
-impl<'a, F: Fn(Global, &[BlockJob], usize) -> Outcomes> Open for Batch<'a, F> {
+impl<R: Runner> Open for Batch<R> {
     ghost use Rattle.block_receive.specs.Effort.{effort_of};
     ghost use Rattle.batch_command.specs.Batch.{batch_answer};
-    ghost use Rattle.batch_command.specs.Runners.{GivesAnswers, TakesJobs};
 
-    type Rounds = BatchRounds<'a, F>;
+    type Rounds = BatchRounds<R>;
 
-    ghost answer = { λ s input. batch_answer (effort_of s.effort) s.pipes input };
+    ghost answer = { λ s input. batch_answer (effort_of s.effort) (R.pipes s.runner) input };
 
-    ghost able = { λ s. TakesJobs (F.pre s.run.now) × GivesAnswers (F.post s.run.now) };
+    ghost able = { λ s. R.able s.runner };
 
     fn open<S: Source, D: Sink>(
         self,
         alloc: Global,
         source: &mut S,
         _out: &mut D,
-    ) -> Result<BatchRounds<'a, F>, Status> {
+    ) -> Result<BatchRounds<R>, Status> {
+        let Batch { runner, effort } = self;
         match StreamReader::begin(source, Want::Soft) {
             Ok(reader) => Ok(BatchRounds {
-                run: self.run,
-                pipes: self.pipes,
+                runner,
                 jobs: JobReader {
                     reader,
-                    effort: self.effort,
+                    effort,
                     rooms: Vec::new(alloc),
                 },
                 failed: 0,

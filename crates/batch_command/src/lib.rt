@@ -7,8 +7,9 @@ pub mod job;
 mod making;
 pub mod reading;
 mod rounds;
+mod runner;
 
 pub use batch::Batch;
 pub use each::run_each;
 pub use job::BlockJob;
-pub use rounds::Outcomes;
+pub use runner::{Outcomes, Pipes, Runner};

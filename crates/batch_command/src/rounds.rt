@@ -2,33 +2,25 @@
 ghost use Rattle.std.specs.Prelude.{◌≡◌, ◌≤◌, ◌*◌, ◌+◌, ◌-◌, IfOk, length};
 ghost use Rattle.run_loop.specs.Step.{parts_of};
 ghost use Rattle.batch_command.specs.Making.{failures, job_parts};
-ghost use Rattle.batch_command.specs.Runners.{GivesAnswers, TakesJobs};
 
 use crate::job::BlockJob;
 use crate::making::{parts_of, stop_of};
 use crate::reading::JobReader;
-use decode_command::Received;
+use crate::runner::Runner;
 use edge_io::Source;
-use lte_bits::{List, NoMemory};
+use lte_bits::NoMemory;
 use run_loop::{Part, Round, Status, Work};
 use std::alloc::Global;
 
-/// What the jobs of a round give, in their order, or that there was no memory.
-pub type Outcomes = Result<List<Received>, NoMemory>;
-
-/// Who does the jobs of a round, by up to how many pipes, 1 to 8, the reader, and how many blocks
-/// failed.
+/// Who does the jobs of a round, the reader, and how many blocks failed.
 #[derive(Drop)]
-pub struct BatchRounds<'a, F: Fn(Global, &[BlockJob], usize) -> Outcomes> {
-    pub run: &'a F,
-    pub pipes: usize,
+pub struct BatchRounds<R: Runner> {
+    pub runner: R,
     pub jobs: JobReader,
     pub failed: usize,
-    pub ghost some_pipes: { 1 ≤ pipes },
-    pub ghost few_pipes: { pipes ≤ 8 },
 }
 
-impl<'a, F: Fn(Global, &[BlockJob], usize) -> Outcomes> BatchRounds<'a, F> {
+impl<R: Runner> BatchRounds<R> {
     /// Does the jobs, the first of which has this number: what they add, and how many blocks failed.
     fn done(
         &self,
@@ -36,8 +28,7 @@ impl<'a, F: Fn(Global, &[BlockJob], usize) -> Outcomes> BatchRounds<'a, F> {
         first: usize,
         jobs: &[BlockJob],
     ) -> Result<(Vec<Part>, usize), NoMemory>
-        requires takes { TakesJobs (F.pre self.now.run.now) }
-        requires gives { GivesAnswers (F.post self.now.run.now) }
+        requires able { R.able self.now.runner }
         requires round { length jobs.now ≤ 16 }
         requires few { first + length jobs.now ≤ 4096 }
         ensures parts { IfOk result (λ made. parts_of made.0.items ≡ job_parts first jobs.now) }
@@ -46,29 +37,28 @@ impl<'a, F: Fn(Global, &[BlockJob], usize) -> Outcomes> BatchRounds<'a, F> {
         if jobs.is_empty() {
             return Ok((Vec::new(alloc), 0));
         }
-        let outcomes = (self.run)(alloc, jobs, self.pipes)?;
+        let outcomes = self.runner.run(alloc, jobs)?;
         parts_of(alloc, first, jobs, outcomes)
     }
 }
 
-impl<'a, F: Fn(Global, &[BlockJob], usize) -> Outcomes> Work for BatchRounds<'a, F> {
+impl<R: Runner> Work for BatchRounds<R> {
     ghost use Rattle.coded_stream.specs.Stream.{most_blocks};
     ghost use Rattle.block_receive.specs.Effort.{effort_of};
     ghost use Rattle.decode_command.specs.Decoding.{decoding};
     ghost use Rattle.stream_loop.specs.Rounds.{IsReady};
     ghost use Rattle.batch_command.specs.Batch.{batch_ahead};
-    ghost use Rattle.batch_command.specs.Runners.{GivesAnswers, TakesJobs};
 
-    ghost answer = { λ s input. batch_ahead (effort_of s.jobs.effort) s.pipes s.jobs.reader s.failed input };
+    ghost answer = { λ s input. batch_ahead (effort_of s.jobs.effort) (R.pipes s.runner) s.jobs.reader s.failed input };
 
-    ghost ready = { λ s. TakesJobs (F.pre s.run.now) × GivesAnswers (F.post s.run.now)
+    ghost ready = { λ s. R.able s.runner
         × IsReady (decoding (effort_of s.jobs.effort)) s.jobs.reader s.failed };
 
     ghost budget = { λ s. most_blocks - s.jobs.reader.blocks };
 
     fn round<S: Source>(&mut self, alloc: Global, source: &mut S) -> Result<Round, Status> {
         let first = self.jobs.reader.blocks();
-        let most = 2 * self.pipes;
+        let most = 2 * self.runner.pipes();
         let Ok(mut jobs) = Vec::with_capacity(alloc, most) else {
             return Err(Status::NoMemory);
         };

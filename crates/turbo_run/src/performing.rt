@@ -9,7 +9,7 @@ ghost use Rattle.batch_command.specs.Runners.{GivesAnswers, TakesJobs};
 
 use crate::codeword::Codeword;
 use crate::encode::Encode;
-use batch_command::{Batch, BlockJob, Outcomes};
+use batch_command::{Batch, BlockJob, Outcomes, Pipes};
 use block_receive::{Effort, Task};
 use coded_stream::{Header, Kind};
 use command_words::Command;
@@ -83,8 +83,10 @@ pub fn perform<
             limit,
         } => {
             let batch = Batch {
-                run: run_jobs,
-                pipes,
+                runner: Pipes {
+                    run: run_jobs,
+                    pipes,
+                },
                 effort: Effort { windows, limit },
             };
             drive(alloc, batch, source, out, report)

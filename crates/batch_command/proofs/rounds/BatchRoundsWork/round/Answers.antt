@@ -1,4 +1,4 @@
-use Rattle.std.proofs.Common.{◌≡◌, ℕ, ◌+◌, true, ap, sym, subst, ◌∙◌, arith}
+use Rattle.std.proofs.Common.{◌≡◌, ℕ, ◌≤◌, ◌*◌, ◌+◌, length, true, ap, sym, subst, ◌∙◌, arith}
 use Rattle.std.proofs.lemmas.Result.{err_from_is_err_and}
 use Rattle.block_receive.specs.Effort.{effort_of}
 use Rattle.block_receive.specs.declared.task.Effort as rust
@@ -11,6 +11,7 @@ use Rattle.run_loop.specs.declared.work.Round.{Round}
 use Rattle.stream_loop.specs.Rounds.{IsReady}
 use Rattle.decode_command.specs.Decoding.{decoding}
 use Rattle.batch_command.specs.Batch.{batch_ahead}
+use Rattle.batch_command.specs.Reading.{Counts}
 use Rattle.batch_command.specs.Making.{StopsAs, failures, job_parts}
 use Rattle.batch_command.proofs.Made.{failures_few}
 use Rattle.batch_command.proofs.RoundSteps.{fewer_of, full_of, gives_round, starved_before, starved_round, stops_by}
@@ -19,39 +20,45 @@ use Rattle.batch_command.proofs.rounds.BatchRoundsWork.round.Goals as goal
 pub returns-in_default-clause-step : goal.returns-in_default-clause-step
 returns-in_default-clause-step g c input told =
     let s = c.args.self.now in
-    starved_before (effort_of s.jobs.effort) s.pipes s.failed s.jobs.reader input (g.S.Source.left c.args.source.now)
+    starved_before (effort_of s.jobs.effort) (g.R.Runner.pipes s.runner) s.failed s.jobs.reader input (g.S.Source.left c.args.source.now)
 
 pub returns-in_err-parts-clause-step : goal.returns-in_err-parts-clause-step
 returns-in_err-parts-clause-step g c input told =
     let s = c.args.self.now in
     let read = c.read_jobs-reached in
+    let N : ℕ → Type 0 = λ n. Counts (length read.new.jobs.items) (2 * n) read.new.self.reader read.result in
+    let counts = subst N c.pipes-most.ensures.value read.ensures.counts in
+    let some : 1 ≤ g.R.Runner.pipes s.runner = omega (arith, c.pipes-most.ensures.some, c.pipes-most.ensures.value) in
     let p = err_from_is_err_and c.from_residual.result c.from_residual.ensures.1 in
     rw (p.1, p.2)
-    (starved_round (effort_of s.jobs.effort) s.pipes s.failed s.jobs.reader read.new.self.reader input read.new.jobs.items (g.S.Source.left c.args.source.now) (g.S.Source.left read.new.source) read.result
-    s.some_pipes read.ensures.jobs (read.ensures.comes input told) read.ensures.counts)
+    (starved_round (effort_of s.jobs.effort) (g.R.Runner.pipes s.runner) s.failed s.jobs.reader read.new.self.reader input read.new.jobs.items (g.S.Source.left c.args.source.now) (g.S.Source.left read.new.source) read.result
+    some read.ensures.jobs (read.ensures.comes input told) counts)
 
 pub overflow_add-self : goal.overflow_add-self
 overflow_add-self g c =
     let r = c.args.self.now.jobs.reader in
     let jobs = c.read_jobs-reached.new.jobs.items in
     let counted = c.in_ok-parts.ensures.failed ∙ ap (failures c.blocks-first.result) c.as_slice.ensures.value ∙ ap (λ (n : ℕ). failures n jobs) c.blocks-first.ensures in
-    omega (arith, counted, failures_few r.blocks jobs, c.requires.2.few, c.read_jobs-reached.ensures.passes.blocks, c.read_jobs-reached.ensures.within)
+    omega (arith, counted, failures_few r.blocks jobs, c.requires.1.few, c.read_jobs-reached.ensures.passes.blocks, c.read_jobs-reached.ensures.within)
 
 pub stop_of-requires-clause-failed : goal.stop_of-requires-clause-failed
 stop_of-requires-clause-failed g c =
     let r = c.args.self.now.jobs.reader in
     let jobs = c.read_jobs-reached.new.jobs.items in
     let counted = c.in_ok-parts.ensures.failed ∙ ap (failures c.blocks-first.result) c.as_slice.ensures.value ∙ ap (λ (n : ℕ). failures n jobs) c.blocks-first.ensures in
-    omega (arith, counted, failures_few r.blocks jobs, c.requires.2.few, c.read_jobs-reached.ensures.passes.blocks, c.blocks-2.ensures)
+    omega (arith, counted, failures_few r.blocks jobs, c.requires.1.few, c.read_jobs-reached.ensures.passes.blocks, c.blocks-2.ensures)
 
 pub returns-in_err-stop-clause-step : goal.returns-in_err-stop-clause-step
 returns-in_err-stop-clause-step g c input told =
     let s = c.args.self.now in
     let read = c.read_jobs-reached in
+    let N : ℕ → Type 0 = λ n. Counts (length read.new.jobs.items) (2 * n) read.new.self.reader read.result in
+    let counts = subst N c.pipes-most.ensures.value read.ensures.counts in
+    let some : 1 ≤ g.R.Runner.pipes s.runner = omega (arith, c.pipes-most.ensures.some, c.pipes-most.ensures.value) in
     let p = err_from_is_err_and c.from_residual-in_err-stop.result c.from_residual-in_err-stop.ensures.1 in
     rw (p.1, p.2)
-    (starved_round (effort_of s.jobs.effort) s.pipes s.failed s.jobs.reader read.new.self.reader input read.new.jobs.items (g.S.Source.left c.args.source.now) (g.S.Source.left read.new.source) read.result
-    s.some_pipes read.ensures.jobs (read.ensures.comes input told) read.ensures.counts)
+    (starved_round (effort_of s.jobs.effort) (g.R.Runner.pipes s.runner) s.failed s.jobs.reader read.new.self.reader input read.new.jobs.items (g.S.Source.left c.args.source.now) (g.S.Source.left read.new.source) read.result
+    some read.ensures.jobs (read.ensures.comes input told) counts)
 
 pub returns-clause-step : goal.returns-clause-step
 returns-clause-step g c input told =
@@ -68,9 +75,9 @@ returns-clause-step g c input told =
     let made = c.in_ok-parts.ensures.parts ∙ ap (job_parts c.blocks-first.result) c.as_slice.ensures.value ∙ ap (λ (n : ℕ). job_parts n jobs) c.blocks-first.ensures in
     let N : ℕ → Type 0 = λ n. StopsAs e r.header n failed read.result c.in_ok-stop.stop in
     let stops = subst N c.blocks-2.ensures (c.in_ok-stop.ensures e r.header) in
-    let G : rust.Effort → Reading → Type 0 = λ x t. Gives (batch_ahead e s.pipes r s.failed input) (batch_ahead (effort_of x) s.pipes t failed) source left round in
+    let G : rust.Effort → Reading → Type 0 = λ x t. Gives (batch_ahead e (g.R.Runner.pipes s.runner) r s.failed input) (batch_ahead (effort_of x) (g.R.Runner.pipes s.runner) t failed) source left round in
     let gives : G s.jobs.effort read.new.self.reader =
-    gives_round e s.pipes s.failed failed r read.new.self.reader input jobs source left read.result round read.ensures.jobs (read.ensures.comes input told) read.ensures.passes
+    gives_round e (g.R.Runner.pipes s.runner) s.failed failed r read.new.self.reader input jobs source left read.result round read.ensures.jobs (read.ensures.comes input told) read.ensures.passes
     (ap (λ (n : ℕ). s.failed + n) counted) made stops in
     subst (λ (x : rust.Effort). G x c.keep_rooms.new.self.reader) (sym (c.keep_rooms.ensures.effort ∙ read.ensures.effort))
     (subst (λ (t : Reading). G s.jobs.effort t) (sym c.keep_rooms.ensures.reader) gives)
@@ -89,11 +96,10 @@ returns-clause-ready g c go =
     let H : Header → Type 0 = λ h. is_wanted want.Soft (kind_code h.kind) ≡ true in
     let R : Reading → Type 0 = λ x. IsReady (decoding (effort_of c.keep_rooms.new.self.effort)) x failed in (
       c.requires.0,
-      c.requires.1,
       subst R (sym c.keep_rooms.ensures.reader) (record {
         live = full.1;
-        wanted = subst H (sym read.ensures.passes.header) c.requires.2.wanted;
-        few = omega (arith, counted, failures_few r.blocks jobs, c.requires.2.few, read.ensures.passes.blocks);
+        wanted = subst H (sym read.ensures.passes.header) c.requires.1.wanted;
+        few = omega (arith, counted, failures_few r.blocks jobs, c.requires.1.few, read.ensures.passes.blocks);
         within = read.ensures.within;
       }),
     )
@@ -107,7 +113,7 @@ returns-clause-fewer g c =
     let t = read.new.self.reader in
     fewer_of _ _ c.in_ok-stop.stop (λ go.
     let full = full_of e r.header c.blocks-2.result (s.failed + c.in_ok-parts.failed) _ _ t read.result c.in_ok-stop.stop (c.in_ok-stop.ensures e r.header) go read.ensures.counts in
-    omega (arith, full.0, s.some_pipes, read.ensures.passes.blocks, read.ensures.within, ap (λ (x : Reading). x.blocks) c.keep_rooms.ensures.reader))
+    omega (arith, full.0, c.pipes-most.ensures.some, read.ensures.passes.blocks, read.ensures.within, ap (λ (x : Reading). x.blocks) c.keep_rooms.ensures.reader))
 
 pub returns-clause-stops : goal.returns-clause-stops
 returns-clause-stops g c =
