@@ -41,9 +41,19 @@ fn codewords_are_written_whole(rt: HostRuntime) -> Result<(), Fail> {
 #[test]
 fn lengths_up_to_18722_are_taken(rt: HostRuntime) -> Result<(), Fail> {
     let line = "codeword g=2 qm=2 rv=0";
-    expect_run(rt.alloc(), line, &[], (refused(0), &[], "bad stream 4 at 0\n"))?;
+    expect_run(
+        rt.alloc(),
+        line,
+        &[],
+        (refused(0), &[], "bad stream 4 at 0\n"),
+    )?;
     let most = vec![in rt.alloc(); 0u8; 18_722]?;
-    expect_run(rt.alloc(), line, &most, (Status::Done, &[0], "end bits 2\n"))?;
+    expect_run(
+        rt.alloc(),
+        line,
+        &most,
+        (Status::Done, &[0], "end bits 2\n"),
+    )?;
     let more = vec![in rt.alloc(); 0u8; 18_724]?;
     let long = "bad stream 4 at 18722\n";
     expect_run(rt.alloc(), line, &more, (refused(18_722), &[], long))

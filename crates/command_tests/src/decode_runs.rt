@@ -43,7 +43,10 @@ fn a_second_transmission_delivers_what_the_first_does_not(rt: HostRuntime) -> Re
     let failed = (Status::SomeFailed, nothing, report);
     assert_eq!(rt; Status::SomeFailed.exit(), 1);
     expect_run(rt.alloc(), "decode limit=3", &alone, failed)?;
-    let both = joined(rt.alloc(), &[&SOFT_TWICE, &LENGTH_2, &values, &[100; 132], &END])?;
+    let both = joined(
+        rt.alloc(),
+        &[&SOFT_TWICE, &LENGTH_2, &values, &[100; 132], &END],
+    )?;
     let report =
         "block 0 delivered bytes 2 transmissions 2 iterations 1\nend blocks 1 delivered 1 failed 0\n";
     let done = (Status::Done, [0u8, 0].as_slice(), report);
@@ -104,7 +107,12 @@ fn each_change_of_a_stream_is_refused_at_its_byte(rt: HostRuntime) -> Result<(),
         }
         let report = format!(in rt.alloc(); "bad stream {number} at {place}\n")?;
         let refused = Status::BadStream { number, place };
-        expect_run(rt.alloc(), "decode", &input, (refused, &[], report.as_str()))?;
+        expect_run(
+            rt.alloc(),
+            "decode",
+            &input,
+            (refused, &[], report.as_str()),
+        )?;
     }
     Ok(())
 }
@@ -116,7 +124,11 @@ fn streams_of_4096_blocks_are_decoded(rt: HostRuntime) -> Result<(), Fail> {
         place: 24_595,
     };
     let rows: [(usize, Status, &[u8]); 2] = [
-        (4096, Status::Done, b"end blocks 4096 delivered 4096 failed 0\n"),
+        (
+            4096,
+            Status::Done,
+            b"end blocks 4096 delivered 4096 failed 0\n",
+        ),
         (4097, refused, b"bad stream 8 at 24595\n"),
     ];
     for (count, status, last) in rows {

@@ -115,7 +115,11 @@ fn each_write_fails_in_turn(rt: HostRuntime) -> Result<(), Fail> {
 #[test]
 fn the_line_of_a_fault_may_fail_itself(rt: HostRuntime) -> Result<(), Fail> {
     let line = b"read fault\n";
-    for command in ["codeword g=132 qm=2 rv=0", "encode tb=2 g=132 qm=2 rv=0", "decode"] {
+    for command in [
+        "codeword g=132 qm=2 rv=0",
+        "encode tb=2 g=132 qm=2 rv=0",
+        "decode",
+    ] {
         for n in 0..line.len() {
             let calls = [n as u64];
             let ran = run_of(rt.alloc(), command, &[0, 1], failing(&[0], &[], &calls))?;

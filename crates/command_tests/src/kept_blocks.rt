@@ -4,8 +4,8 @@ use sample_blocks::{sent_of_block, zeros_and_one};
 use std::test::Fail;
 use turbo_run::Status;
 
-// Block 0 passes at once. In the first row its later values would spoil it, were it decoded anew; in the second
-// all pass but the transport block's check fails, so that none is kept.
+// Block 0 passes at once. In the first row its later values would spoil it, were it decoded anew; in the
+// second all pass but the transport block's check fails, so that none is kept.
 #[test]
 fn blocks_that_passed_are_kept(rt: HostRuntime) -> Result<(), Fail> {
     let failing = zeros_and_one(rt.alloc(), 3135, &[])?;

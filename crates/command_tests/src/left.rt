@@ -1,5 +1,5 @@
-//! What runs leave of their input: nothing once they are done, what stands behind a refused unit, and all of it where
-//! nothing is to be read.
+//! What runs leave of their input: nothing once they are done, what stands behind a refused unit, and all of
+//! it where nothing is to be read.
 use memory_runs::{END, LENGTH_2, SOFT, joined, run_of, sound};
 use std::test::Fail;
 

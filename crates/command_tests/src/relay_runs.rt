@@ -97,7 +97,12 @@ fn bits_are_scrambled_and_scrambled_back(rt: HostRuntime) -> Result<(), Fail> {
         rt.alloc(),
         &[&header, &LENGTH_2, &[0x02, 0x1A, 0x12, 0x7A], &END],
     )?;
-    expect_chain(rt.alloc(), &[encode, scramble], &[0, 0], (&once, "end blocks 1\n"))?;
+    expect_chain(
+        rt.alloc(),
+        &[encode, scramble],
+        &[0, 0],
+        (&once, "end blocks 1\n"),
+    )?;
     let back = joined(rt.alloc(), &[&header, &LENGTH_2, &[0; 4], &END])?;
     let lines = [encode, scramble, scramble];
     expect_chain(rt.alloc(), &lines, &[0, 0], (&back, "end blocks 1\n"))

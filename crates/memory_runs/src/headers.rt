@@ -1,8 +1,8 @@
 //! Headers of streams, and the words behind them.
 use std::alloc::{AllocError, Global};
 
-/// The header of version One of a hard stream of payloads of at most 2 bytes, with one transmission a block: G = 132,
-/// Q_m = 2 and redundancy version 0.
+/// The header of version One of a hard stream of payloads of at most 2 bytes, with one transmission a block:
+/// G = 132, Q_m = 2 and redundancy version 0.
 pub const HARD: [u8; 19] = [
     0x4C, 0x54, 0x43, 0x31, 0, 2, 1, 1, 0, 2, 0, 0, 0, 132, 0, 0, 0, 0, 0,
 ];
@@ -17,8 +17,8 @@ pub const SOFT_TWICE: [u8; 20] = [
     0x4C, 0x54, 0x43, 0x31, 1, 2, 1, 2, 0, 2, 0, 0, 0, 132, 0, 0, 0, 0, 0, 2,
 ];
 
-/// The header of version Two of a hard stream of two transmissions a block: G = 132, Q_m = 2 and version 0, and
-/// G = 8, Q_m = 4 and version 2.
+/// The header of version Two of a hard stream of two transmissions a block: G = 132, Q_m = 2 and version 0,
+/// and G = 8, Q_m = 4 and version 2.
 pub const TWO: [u8; 26] = [
     0x4C, 0x54, 0x43, 0x32, 0, 2, 0, 2, 0, 0, 0, 0, 2, 1, 0, 0, 0, 0, 132, 4, 1, 2, 0, 0, 0, 8,
 ];

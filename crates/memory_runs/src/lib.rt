@@ -1,4 +1,5 @@
-//! Runs of the program over memory, for tests: how they end, what they write and what they leave of their input.
+//! Runs of the program over memory, for tests: how they end, what they write, and what they leave of their
+//! input.
 #![tactic(auto)]
 
 mod headers;

@@ -11,7 +11,7 @@ pub fn list_of<T: Copy>(alloc: Global, items: &[T]) -> Result<List<T>, AllocErro
     Ok(List::from_vec(Vec::from_slice(alloc, items)?))
 }
 
-/// A sink with room for so many bytes, which takes them a piece at a time and whose calls of these numbers fail.
+/// A sink with room for so many bytes, which takes them a piece at a time. Its calls of these numbers fail.
 pub fn sink_of(
     alloc: Global,
     room: usize,

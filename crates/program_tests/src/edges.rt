@@ -2,8 +2,8 @@
 ghost use Rattle.std.specs.Prelude.{◌≤◌};
 
 use edge_io::{
-    MemSource, ReadStop, Sink, SinkFault, Source, SourceFault, StdSink, StdSource,
-    SteadySource, read_exactly, write_all,
+    MemSource, ReadStop, Sink, SinkFault, Source, SourceFault, StdSink, StdSource, SteadySource,
+    read_exactly, write_all,
 };
 use memory_runs::{list_of, sink_of};
 use std::io;

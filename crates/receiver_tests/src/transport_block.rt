@@ -123,7 +123,7 @@ fn a_block_that_passed_is_kept(rt: HostRuntime) -> Result<(), Fail> {
     Ok(())
 }
 
-// Both blocks pass, one with wrong bits: a one and its check bits, 800063. So the check of the transport block
+// Both blocks pass, one with wrong bits: a one and its check bits, 800063. So the transport block's check
 // fails.
 #[test]
 fn none_is_kept_where_all_passed(rt: HostRuntime) -> Result<(), Fail> {

@@ -18,8 +18,8 @@ pub fn zeros_and_one(alloc: Global, zeros: usize, behind: &[u8]) -> Result<Vec<B
     Ok(bits)
 }
 
-/// What redundancy version 0 sends, with Q_m = 2 and over a full buffer, of code block `r` of a payload of so many
-/// bytes, where the block has these bits: 20 for each 0 and -20 for each 1. G is for all blocks.
+/// What redundancy version 0 sends, with Q_m = 2 and over a full buffer, of code block `r` of a payload of so
+/// many bytes, where the block has these bits: 20 for each 0 and -20 for each 1. G is for all blocks.
 pub fn sent_of_block(
     alloc: Global,
     bytes: usize,

@@ -83,6 +83,7 @@ fn codewords_of_an_independent_encoder(rt: HostRuntime) -> Result<(), Fail> {
         ),
     ];
     for (g, qm, rv, payload, want) in rows {
+        assert!(rt; 1 <= payload.len() && payload.len() <= 18_722 && rv <= 3);
         let m = Match::new(qm, 1, g, Buffer::Full).expect(&rt, "a matching");
         let bits = codeword(rt.alloc(), payload, &m, rv)?;
         assert_eq!(rt; bits.as_slice().len(), g as usize);

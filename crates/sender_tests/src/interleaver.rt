@@ -45,7 +45,7 @@ fn each_of_the_188_sizes_is_permuted(rt: HostRuntime) -> Result<(), Fail> {
     Ok(())
 }
 
-// Both numbers of a row may be changed where they stand, and the row still be lawful. The sums are from outside.
+// A number may be changed everywhere alike and its row still be lawful. The sums come from outside.
 #[test]
 fn the_numbers_of_the_table_have_known_sums(rt: HostRuntime) {
     let mut row = 0usize;

@@ -6,6 +6,8 @@ mod agreement;
 #[cfg(test)]
 mod board;
 #[cfg(test)]
+mod kept_blocks;
+#[cfg(test)]
 mod noting_gate;
 #[cfg(test)]
 mod pair_gate;

@@ -9,8 +9,8 @@ use std::thread::Threads;
 use turbo_run::{Status, run, run_gated};
 use window_workers::{Gate, NoGate};
 
-/// What a line makes of a stream: one block, which is delivered with this payload after so many iterations. Where
-/// there is a gate, workers enter it.
+/// What a line makes of a stream: one block, which is delivered with this payload after so many iterations.
+/// Where there is a gate, workers enter it.
 fn assert_delivered<H: Threads + Wait + Sync + Abort + AllocGlobal, G: Gate + Sync>(
     rt: &H,
     line: &str,
@@ -30,8 +30,9 @@ fn assert_delivered<H: Threads + Wait + Sync + Abort + AllocGlobal, G: Gate + Sy
     assert_eq!(rt; status, Status::Done);
     let (payload, iterations) = want;
     assert_eq!(rt; out.bytes(), payload);
+    let counts = format!(in alloc; "transmissions 1 iterations {iterations}")?;
     let told = format!(in alloc;
-        "block 0 delivered bytes {} transmissions 1 iterations {iterations}\nend blocks 1 delivered 1 failed 0\n",
+        "block 0 delivered bytes {} {counts}\nend blocks 1 delivered 1 failed 0\n",
         payload.len()
     )?;
     assert_eq!(rt; report.bytes(), told.as_bytes());

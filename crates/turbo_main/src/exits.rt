@@ -23,8 +23,8 @@ fn exit(status: Status) -> ExitCode
     ExitCode::from(status.exit())
 }
 
-/// How a run ends whose arguments couldn't be read: since memory ran out, or since one is no text. It is then a
-/// run without words.
+/// How a run ends whose arguments couldn't be read: since memory ran out, or since one is no text. It is then
+/// a run without words.
 fn unread(error: &io::Error) -> Status
     ensures { exit_of result ≡ exit_unread (error_kind error.now) }
 {
@@ -46,7 +46,8 @@ fn run_words<H: Threads + Wait + Sync, S: Source, D: Sink, R: Sink>(
     out: &mut D,
     report: &mut R,
 ) -> ExitCode
-    ensures runs { RunsTo (map string_bytes words.now) source.old source.new out.old out.new report.old report.new
+    ensures runs { RunsTo (map string_bytes words.now)
+        source.old source.new out.old out.new report.old report.new
         (edges S.Source D.Sink R.Sink source.old out.old report.old)
         (edges S.Source D.Sink R.Sink source.new out.new report.new) (exit_status result) }
 {
@@ -56,8 +57,9 @@ fn run_words<H: Threads + Wait + Sync, S: Source, D: Sink, R: Sink>(
     exit(run(rt, alloc, &words, source, out, report))
 }
 
-/// Does what the program's arguments ask for, from the source to `out` and the report, and says how the program
-/// is to exit. The first argument is the program's name. Where they couldn't be read, nothing is read or written.
+/// Does what the program's arguments ask for, from the source to `out` and the report, and says how the
+/// program is to exit. The first argument is the program's name. Where they couldn't be read, nothing is read
+/// or written.
 pub fn exit_of_run<H: Threads + Wait + Sync, S: Source, D: Sink, R: Sink>(
     rt: &H,
     alloc: Global,

@@ -1,4 +1,5 @@
-//! The program, with words that it refuses: its stored run ends with status 2, and writes nothing to standard output.
+//! The program, for a stored run with words that it refuses: it ends with status 2, and writes nothing to
+//! standard output.
 #![tactic(auto)]
 
 use edge_io::{StdSink, StdSource};
