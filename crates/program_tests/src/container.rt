@@ -1,6 +1,7 @@
 //! The container is read: each refusal at its byte, and how far.
-use crate::streams::{Outcome, Stream, assert_reads, bad, bytes_of, many_blocks, read};
+use crate::streams::{Outcome, Stream, assert_reads, bad, bytes_of, read};
 use coded_stream::{StreamStop, Want};
+use memory_runs::small_blocks;
 use std::test::Fail;
 
 #[test]
@@ -122,8 +123,8 @@ fn each_failed_read_ends_the_stream(rt: HostRuntime) -> Result<(), Fail> {
 
 #[test]
 fn streams_have_at_most_4096_blocks(rt: HostRuntime) -> Result<(), Fail> {
-    let many = many_blocks(rt.alloc(), 4096)?;
+    let many = small_blocks(rt.alloc(), 4096)?;
     assert_reads(&rt, &many, Want::Soft, (4096, None, 0))?;
-    let many = many_blocks(rt.alloc(), 4097)?;
+    let many = small_blocks(rt.alloc(), 4097)?;
     assert_reads(&rt, &many, Want::Soft, (4096, bad(8, 24595), 6))
 }

@@ -1,11 +1,11 @@
 //! Reads and writes in small pieces, with failures in mid-stream.
 ghost use Rattle.std.specs.Prelude.{◌≤◌};
 
-use crate::memory::list_of;
 use edge_io::{
-    MemSink, MemSource, ReadStop, Sink, SinkFault, Source, SourceFault, StdSink, StdSource,
-    SteadySource, read_exactly, write_all,
+    MemSource, ReadStop, Sink, SinkFault, Source, SourceFault, StdSink, StdSource, SteadySource,
+    read_exactly, write_all,
 };
+use memory_runs::{list_of, sink_of};
 use std::io;
 use std::io::{Read, Write};
 use std::process::Abort;
@@ -46,8 +46,7 @@ fn assert_writes(
 ) -> Result<(), Fail>
     requires { 1 ≤ piece }
 {
-    let mut sink = MemSink::new(rt.alloc(), piece, list_of(rt.alloc(), &[1])?);
-    sink.reserve(9)?;
+    let mut sink = sink_of(rt.alloc(), 9, piece, &[1])?;
     for (text, want, held) in steps {
         assert_eq!(rt; write_all(&mut sink, text.as_bytes()), *want);
         assert_eq!(rt; sink.bytes(), held.as_bytes());

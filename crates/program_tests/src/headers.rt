@@ -1,8 +1,7 @@
 //! Headers are written as they are read, and why a stream stops is told in words.
-use crate::memory::list_of;
-use crate::streams::{ONE, TWO};
 use coded_stream::{StreamReader, StreamStop, Version, Want, write_header, write_length};
-use edge_io::{MemSink, MemSource, SinkFault};
+use edge_io::{MemSource, SinkFault};
+use memory_runs::{SOFT, TWO, list_of, sink_of};
 use std::process::Abort;
 use std::test::Fail;
 
@@ -19,8 +18,7 @@ fn assert_writes(
     let reader = StreamReader::begin(&mut source, Want::Any).expect(rt, "a header");
     assert_eq!(rt; reader.header().version, version);
     assert_eq!(rt; reader.place(), header.len() as u64);
-    let mut sink = MemSink::new(rt.alloc(), 7, list_of(rt.alloc(), &[])?);
-    sink.reserve(room)?;
+    let mut sink = sink_of(rt.alloc(), room, 7, &[])?;
     assert_eq!(rt; write_header(&mut sink, reader.header()), want);
     assert_eq!(rt; sink.bytes(), &header[..room.min(header.len())]);
     Ok(())
@@ -29,15 +27,14 @@ fn assert_writes(
 #[test]
 fn a_header_is_written_and_read(rt: HostRuntime) -> Result<(), Fail> {
     for room in 0..19 {
-        assert_writes(&rt, &ONE, room, Version::One, Err(SinkFault))?;
+        assert_writes(&rt, &SOFT, room, Version::One, Err(SinkFault))?;
     }
-    assert_writes(&rt, &ONE, 19, Version::One, Ok(()))?;
+    assert_writes(&rt, &SOFT, 19, Version::One, Ok(()))?;
     for room in 0..26 {
         assert_writes(&rt, &TWO, room, Version::Two, Err(SinkFault))?;
     }
     assert_writes(&rt, &TWO, 26, Version::Two, Ok(()))?;
-    let mut sink = MemSink::new(rt.alloc(), 7, list_of(rt.alloc(), &[])?);
-    sink.reserve(4)?;
+    let mut sink = sink_of(rt.alloc(), 4, 7, &[])?;
     write_length(&mut sink, 0x0102_0304).expect(&rt, "a word");
     assert_eq!(rt; sink.bytes(), [1, 2, 3, 4].as_slice());
     Ok(())

@@ -1,26 +1,12 @@
 //! Streams of both versions, and what reading one gives.
 ghost use Rattle.std.specs.Prelude.{◌≤◌};
 
-use crate::memory::list_of;
 use coded_stream::{StreamReader, StreamStop, Want};
 use edge_io::MemSource;
+use memory_runs::{END, HARD, LENGTH_2, SOFT, TWO, list_of};
 use std::alloc::{AllocError, Global};
 use std::process::Abort;
 use std::test::Fail;
-
-/// A header of version One of G = 132, Q_m = 2, one transmission a block, soft values, and
-/// payloads of at most 2 bytes.
-pub const ONE: [u8; 19] = [
-    0x4C, 0x54, 0x43, 0x31, 0x01, 0x02, 0x01, 0x01, 0x00, 0x02, 0x00, 0x00, 0x00, 0x84, 0x00, 0x00,
-    0x00, 0x00, 0x00,
-];
-
-/// A header of version Two, of hard bits: G = 132, Q_m = 2 and version 0, and G = 8, Q_m = 4 and
-/// version 2.
-pub const TWO: [u8; 26] = [
-    0x4C, 0x54, 0x43, 0x32, 0x00, 0x02, 0x00, 0x02, 0x00, 0x00, 0x00, 0x00, 0x02, 0x01, 0x00, 0x00,
-    0x00, 0x00, 0x84, 0x04, 0x01, 0x02, 0x00, 0x00, 0x00, 0x08,
-];
 
 /// The codewords of these transmissions for the payload 00 01.
 const SENT: [u8; 18] = [
@@ -41,19 +27,17 @@ pub enum Stream {
 
 pub fn bytes_of(alloc: Global, stream: Stream) -> Result<Vec<u8>, AllocError> {
     let mut bytes = match stream {
-        Stream::Soft | Stream::Hard => Vec::from_slice(alloc, &ONE)?,
+        Stream::Soft => Vec::from_slice(alloc, &SOFT)?,
+        Stream::Hard => Vec::from_slice(alloc, &HARD)?,
         Stream::Two => Vec::from_slice(alloc, &TWO)?,
     };
-    bytes.extend_from_slice(&[0, 0, 0, 2])?;
+    bytes.extend_from_slice(&LENGTH_2)?;
     match stream {
         Stream::Soft => bytes.extend_from_slice(&[0; 132])?,
-        Stream::Hard => {
-            bytes[4] = 0;
-            bytes.extend_from_slice(&SENT[..17])?;
-        }
+        Stream::Hard => bytes.extend_from_slice(&SENT[..17])?,
         Stream::Two => bytes.extend_from_slice(&SENT)?,
     }
-    bytes.extend_from_slice(&[0, 0, 0, 0])?;
+    bytes.extend_from_slice(&END)?;
     Ok(bytes)
 }
 
@@ -121,16 +105,4 @@ pub fn assert_reads(
 
 pub fn bad(number: u8, place: u64) -> Option<StreamStop> {
     Some(StreamStop::Bad { number, place })
-}
-
-/// Soft blocks of one byte, of G = 2.
-pub fn many_blocks(alloc: Global, count: usize) -> Result<Vec<u8>, AllocError> {
-    let mut bytes = Vec::from_slice(alloc, &ONE)?;
-    bytes[9] = 1;
-    bytes[13] = 2;
-    for _ in 0..count {
-        bytes.extend_from_slice(&[0, 0, 0, 1, 0, 0])?;
-    }
-    bytes.extend_from_slice(&[0, 0, 0, 0])?;
-    Ok(bytes)
 }

@@ -1,13 +1,13 @@
 //! Words that are refused, each before any other, and words that are accepted.
-use crate::running::words_of;
 use coded_stream::Version;
+use memory_runs::words_of;
 use rate_match::{Buffer, Match, Sends};
 use std::test::Fail;
 use turbo_run::{Command, WordRefusal, read_words};
 
 #[test]
 fn the_first_word_that_is_refused_is_named(rt: HostRuntime) -> Result<(), Fail> {
-    let rows: [(&str, u8, usize); 84] = [
+    let rows: [(&str, u8, usize); 85] = [
         ("", 1, 0),
         ("fly", 2, 0),
         ("codewords g=2", 2, 0),
@@ -52,6 +52,7 @@ fn the_first_word_that_is_refused_is_named(rt: HostRuntime) -> Result<(), Fail> 
         ("encode tb=2 g=132,6 qm=2 rv=0,1 nl=1,2", 7, 2),
         ("encode tb=766 g=132 qm=2 rv=0 nir=6176", 8, 5),
         ("encode nir=6176 g=133 qm=2 rv=0 tb=766", 7, 2),
+        ("encode tb=2 g=133 qm=2 rv=0", 7, 2),
         ("decode tb=2", 3, 1),
         ("decode workers=1 workers=2", 4, 2),
         ("decode windows=08", 6, 1),

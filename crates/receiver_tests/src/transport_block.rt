@@ -2,52 +2,14 @@
 ghost use Rattle.std.specs.Prelude.{◌≤◌};
 
 use block_receive::{TbOutcome, receive_alone};
-use lte_bits::{Bit, Block, List, NoMemory, Soft};
-use qpp_table::qpp;
-use rate_match::{Buffer, Match, Sends, fits_plan, select};
+use lte_bits::{NoMemory, Soft};
+use rate_match::{Buffer, Match, Sends, fits_plan};
+use sample_blocks::{sent_of_block, zeros_and_one};
+use segmentation::plan;
 use segmentation::plans::Plan;
-use segmentation::{fill, plan, size};
 use std::alloc::Global;
 use std::process::Abort;
 use std::test::Fail;
-use turbo_encode::encode;
-
-/// Appends what redundancy version 0 sends of block `r` with these bits: 20 for a 0, -20 for a 1.
-fn push_sent(
-    rt: &impl Abort,
-    alloc: Global,
-    values: &mut Vec<Soft>,
-    bits: &[Bit],
-    m: &Match,
-    plan: &Plan,
-    r: usize,
-) -> Result<(), NoMemory> {
-    assert!(rt; r < plan.c);
-    assert!(rt; fits_plan(m, plan));
-    let mut own = Vec::new(alloc);
-    own.extend_from_slice(bits)?;
-    let block = Block {
-        fill: fill(plan, r),
-        bits: List::from_vec(own),
-    };
-    assert!(rt; block.bits.as_slice().len() == size(plan, r));
-    assert!(rt; qpp(block.bits.as_slice().len()).is_some());
-    let streams = encode(alloc, &block)?;
-    let sent = select(alloc, &streams, m, r, plan, 0)?;
-    for bit in &sent {
-        let value = if *bit == Bit::One { -20 } else { 20 };
-        values.push(Soft::from_i8(value))?;
-    }
-    Ok(())
-}
-
-/// Zeros, and a one after them.
-fn zeros_and_one(alloc: Global, zeros: usize) -> Result<Vec<Bit>, NoMemory> {
-    let mut bits = Vec::new(alloc);
-    bits.resize(zeros, Bit::Zero)?;
-    bits.push(Bit::One)?;
-    Ok(bits)
-}
 
 /// Appends so many equal values.
 fn push_equal(values: &mut Vec<Soft>, count: usize, value: i8) -> Result<(), NoMemory> {
@@ -130,9 +92,8 @@ fn a_second_transmission_outweighs_the_first(rt: HostRuntime) -> Result<(), Fail
     let m = Match::new(2, 1, 132, Buffer::Full)
         .ok()
         .ok_or("it is a matching")?;
-    let mut softs = Vec::new(rt.alloc());
-    let bits = zeros_and_one(rt.alloc(), 39)?;
-    push_sent(&rt, rt.alloc(), &mut softs, bits.as_slice(), &m, &plan, 0)?;
+    let bits = zeros_and_one(rt.alloc(), 39, &[])?;
+    let mut softs = sent_of_block(rt.alloc(), 2, 132, 0, bits)?;
     let outcome = receive_once(&rt, rt.alloc(), &plan, m, softs.as_slice())?;
     assert_eq!(rt; failed(&outcome), Some((1, 3)));
     push_equal(&mut softs, 132, 100)?;
@@ -150,8 +111,9 @@ fn a_block_that_passed_is_kept(rt: HostRuntime) -> Result<(), Fail> {
         .ok_or("it is a matching")?;
     let mut softs = Vec::new(rt.alloc());
     push_equal(&mut softs, 9420, 100)?;
-    let bits = zeros_and_one(rt.alloc(), 3135)?;
-    push_sent(&rt, rt.alloc(), &mut softs, bits.as_slice(), &m, &plan, 1)?;
+    let bits = zeros_and_one(rt.alloc(), 3135, &[])?;
+    let second = sent_of_block(rt.alloc(), 766, 18840, 1, bits)?;
+    softs.extend_from_slice(&second)?;
     let outcome = receive_once(&rt, rt.alloc(), &plan, m, softs.as_slice())?;
     assert_eq!(rt; failed(&outcome), Some((1, 4)));
     push_equal(&mut softs, 9420, -127)?;
@@ -161,7 +123,7 @@ fn a_block_that_passed_is_kept(rt: HostRuntime) -> Result<(), Fail> {
     Ok(())
 }
 
-// Both blocks pass, one with wrong bits: a one and its check bits, 800063. So the check of the transport block
+// Both blocks pass, one with wrong bits: a one and its check bits, 800063. So the transport block's check
 // fails.
 #[test]
 fn none_is_kept_where_all_passed(rt: HostRuntime) -> Result<(), Fail> {
@@ -171,12 +133,9 @@ fn none_is_kept_where_all_passed(rt: HostRuntime) -> Result<(), Fail> {
         .ok_or("it is a matching")?;
     let mut softs = Vec::new(rt.alloc());
     push_equal(&mut softs, 9420, 100)?;
-    let mut bits = zeros_and_one(rt.alloc(), 3111)?;
-    for zeros_to in [3112, 3129, 3130, 3134, 3135] {
-        bits.resize(zeros_to, Bit::Zero)?;
-        bits.push(Bit::One)?;
-    }
-    push_sent(&rt, rt.alloc(), &mut softs, bits.as_slice(), &m, &plan, 1)?;
+    let bits = zeros_and_one(rt.alloc(), 3111, &[0x80, 0x00, 0x63])?;
+    let second = sent_of_block(rt.alloc(), 766, 18840, 1, bits)?;
+    softs.extend_from_slice(&second)?;
     let outcome = receive_once(&rt, rt.alloc(), &plan, m, softs.as_slice())?;
     assert_eq!(rt; failed(&outcome), Some((1, 2)));
     push_equal(&mut softs, 18840, 100)?;

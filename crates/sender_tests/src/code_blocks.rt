@@ -14,6 +14,7 @@ fn plans_have_the_numbers_of_the_standard(rt: HostRuntime) -> Result<(), Fail> {
     for (bytes, numbers) in [
         (765, [1, 6144, 0, 1, 0, 0]),
         (766, [2, 3136, 3072, 1, 1, 8]),
+        (9422, [13, 5824, 5760, 13, 0, 0]),
         (18722, [25, 6016, 5952, 25, 0, 0]),
     ] {
         let p = plan(bytes)?;

@@ -9,11 +9,15 @@ use turbo_encode::encode;
 #[test]
 fn codewords_of_an_independent_encoder(rt: HostRuntime) -> Result<(), Fail> {
     // G, Q_m, the redundancy version, the payload, and the codeword
-    let rows: [(u32, u8, u8, &[u8], &[u8]); 13] = [
+    let rows: [(u32, u8, u8, &[u8], &[u8]); 17] = [
         (8, 2, 1, b"\x00\x01", b"\x24"),
         (8, 2, 2, b"\x00\x01", b"\xe6"),
         (8, 2, 3, b"\x00\x01", b"\x10"),
         (2, 2, 0, &[0; 766], b"\x00"),
+        (132, 2, 0, &[0; 2], &[0; 17]),
+        (132, 2, 1, &[0; 2], &[0; 17]),
+        (132, 2, 2, &[0; 2], &[0; 17]),
+        (132, 2, 3, &[0; 2], &[0; 17]),
         (
             120,
             2,
@@ -79,6 +83,7 @@ fn codewords_of_an_independent_encoder(rt: HostRuntime) -> Result<(), Fail> {
         ),
     ];
     for (g, qm, rv, payload, want) in rows {
+        assert!(rt; 1 <= payload.len() && payload.len() <= 18_722 && rv <= 3);
         let m = Match::new(qm, 1, g, Buffer::Full).expect(&rt, "a matching");
         let bits = codeword(rt.alloc(), payload, &m, rv)?;
         assert_eq!(rt; bits.as_slice().len(), g as usize);

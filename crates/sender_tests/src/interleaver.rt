@@ -45,6 +45,23 @@ fn each_of_the_188_sizes_is_permuted(rt: HostRuntime) -> Result<(), Fail> {
     Ok(())
 }
 
+// A number may be changed everywhere alike and its row still be lawful. The sums come from outside.
+#[test]
+fn the_numbers_of_the_table_have_known_sums(rt: HostRuntime) {
+    let mut row = 0usize;
+    let mut sums = [0usize; 4];
+    for q in (0..6300usize).filter_map(qpp) {
+        row = row.saturating_add(1);
+        let (f1, f2) = (q.f1(), q.f2());
+        let numbers = [f1, f2, row.saturating_mul(f1), row.saturating_mul(f2)];
+        for (sum, number) in sums.iter_mut().zip(numbers) {
+            *sum = sum.saturating_add(number);
+        }
+    }
+    // Of f1 and of f2, and of each times the number of its row, counted from 1.
+    assert_eq!(rt; sums, [17_068, 28_162, 1_963_992, 3_333_390]);
+}
+
 /// The bank and the row of place 1 of window `t` of four.
 fn place_one(q: &Qpp, t: usize) -> (usize, usize)
     requires size { size_in q.now ≡ 40 }

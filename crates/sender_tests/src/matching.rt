@@ -133,3 +133,15 @@ fn numbers_of_the_worked_blocks(rt: HostRuntime) -> Result<(), Fail> {
     }
     Ok(())
 }
+
+#[test]
+fn thirteen_blocks_share_a_codeword(rt: HostRuntime) -> Result<(), Fail> {
+    let m = Match::new(6, 1, 82800, Buffer::Limited(77328)).expect(&rt, "a matching");
+    let plan = plan(9422).expect(&rt, "a plan");
+    assert_eq!(rt; plan.c, 13);
+    for r in 0..13 {
+        let piece = if r < 6 { 6366 } else { 6372 };
+        assert_eq!(rt; piece_len(&m, &plan, r), piece, "block {r}");
+    }
+    Ok(())
+}

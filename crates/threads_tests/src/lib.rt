@@ -8,6 +8,10 @@ mod batch;
 #[cfg(test)]
 mod board;
 #[cfg(test)]
+mod kept_blocks;
+#[cfg(test)]
+mod noting_gate;
+#[cfg(test)]
 mod pair_gate;
 #[cfg(test)]
 mod pipeline;

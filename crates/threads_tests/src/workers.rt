@@ -1,15 +1,12 @@
-//! Code blocks and a transport block, decoded by several threads.
+//! Code blocks, decoded by several threads.
 ghost use Rattle.std.specs.Prelude.{◌≡◌, IfOk, length};
 
+use crate::noting_gate::NotingGate;
 use crate::pair_gate::PairGate;
 use block_crc::crc24a;
-use block_receive::{TbOutcome, receive_shared};
 use lte_bits::{Bit, Block, Cell, List, NoMemory, Soft, SoftStreams};
 use qpp_table::qpp;
-use rate_match::{Buffer, Match, Sends, fits_plan};
-use segmentation::plan;
 use std::alloc::Global;
-use std::process::Abort;
 use std::test::Fail;
 use std::thread::join;
 use turbo_encode::encode;
@@ -100,9 +97,11 @@ fn any_number_of_workers_decodes_alike(rt: HostRuntime) -> Result<(), Fail> {
     for windows in [1usize, 8, 64] {
         let shape = Shape::new(512, 0, CheckKind::A, windows, 8).ok_or("it is a shape")?;
         let (one, _) = decode_block_shared(&rt, rt.alloc(), &streams, &shape, 1, &NoGate)?;
-        let (many, closed) = decode_block_shared(&rt, rt.alloc(), &streams, &shape, 16, &NoGate)?;
+        let gate = NotingGate::new(rt.alloc(), windows)?;
+        let (many, closed) = decode_block_shared(&rt, rt.alloc(), &streams, &shape, 16, &gate)?;
         assert_eq!(rt; (many.passed, many.iterations), (true, one.iterations));
         assert_eq!(rt; closed.half() as usize + 1, 2 * one.iterations);
+        assert!(rt; gate.saw_each_once(2 * one.iterations), "{windows} windows");
         assert_eq!(rt; one.block.bits.as_slice(), block.bits.as_slice());
         assert_eq!(rt; many.block.bits.as_slice(), block.bits.as_slice());
     }
@@ -120,70 +119,5 @@ fn two_windows_run_at_once(rt: HostRuntime) -> Result<(), Fail> {
         (result.iterations, result.passed, closed.half()),
         (1, true, 1)
     );
-    Ok(())
-}
-
-/// How many bytes an outcome delivers, all 0, and its transmissions and iterations.
-fn told(outcome: &TbOutcome) -> (usize, usize, usize) {
-    match outcome {
-        TbOutcome::Delivered {
-            bytes,
-            transmissions,
-            iterations,
-        } if bytes.as_slice().iter().all(|byte| *byte == 0) => {
-            (bytes.as_slice().len(), *transmissions, *iterations)
-        }
-        TbOutcome::Failed {
-            transmissions,
-            iterations,
-        } => (0, *transmissions, *iterations),
-        _ => (0, 0, 0),
-    }
-}
-
-/// 9,420 soft values of each of these numbers.
-fn stretches(alloc: Global, numbers: &[i8]) -> Result<Vec<Soft>, NoMemory> {
-    let mut values = Vec::new(alloc);
-    for number in numbers {
-        for _ in 0..9420 {
-            values.push(Soft::from_i8(*number))?;
-        }
-    }
-    Ok(values)
-}
-
-// Block 0 passes at once. Its later values would spoil it, were it decoded anew.
-#[test]
-fn workers_keep_a_block_that_passed(rt: HostRuntime) -> Result<(), Fail> {
-    let plan = plan(766).ok().ok_or("it has a plan")?;
-    let m = Match::new(2, 1, 18840, Buffer::Full)
-        .ok()
-        .ok_or("it is a matching")?;
-    assert!(rt; fits_plan(&m, &plan));
-    let once = Sends::one(m, 0).ok_or("a transmission")?;
-    let mut twice = Sends::one(m, 0).ok_or("a transmission")?;
-    assert!(rt; twice.add(m, 0));
-    for workers in [1usize, 4] {
-        let softs = stretches(rt.alloc(), &[100, -20])?;
-        assert!(rt; softs.len() == m.g());
-        let softs = softs.as_slice();
-        let outcome = receive_shared(&rt, rt.alloc(), &plan, &once, 8, 3, softs, workers, &NoGate)?;
-        assert_eq!(rt; told(&outcome), (0, 1, 4));
-        let softs = stretches(rt.alloc(), &[100, -20, -127, 100])?;
-        assert!(rt; softs.len() == 2 * m.g());
-        let softs = softs.as_slice();
-        let outcome = receive_shared(
-            &rt,
-            rt.alloc(),
-            &plan,
-            &twice,
-            8,
-            3,
-            softs,
-            workers,
-            &NoGate,
-        )?;
-        assert_eq!(rt; told(&outcome), (766, 2, 2));
-    }
     Ok(())
 }

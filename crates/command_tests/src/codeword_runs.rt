@@ -1,7 +1,6 @@
 //! Runs of `codeword` over memory, against worked codewords.
-use crate::memory::list_of;
-use crate::running::{assert_run, words_of};
 use edge_io::{MemSink, SteadySource};
+use memory_runs::{expect_run, list_of, words_of};
 use std::test::Fail;
 use turbo_run::{Status, run};
 
@@ -34,7 +33,7 @@ fn codewords_are_written_whole(rt: HostRuntime) -> Result<(), Fail> {
         ("codeword g=2 qm=2 rv=0", &[0; 766], &[0], "end bits 2\n"),
     ];
     for (line, input, out, report) in rows {
-        assert_run(&rt, line, input, (Status::Done, out, report))?;
+        expect_run(rt.alloc(), line, input, (Status::Done, out, report))?;
     }
     Ok(())
 }
@@ -42,12 +41,22 @@ fn codewords_are_written_whole(rt: HostRuntime) -> Result<(), Fail> {
 #[test]
 fn lengths_up_to_18722_are_taken(rt: HostRuntime) -> Result<(), Fail> {
     let line = "codeword g=2 qm=2 rv=0";
-    assert_run(&rt, line, &[], (refused(0), &[], "bad stream 4 at 0\n"))?;
+    expect_run(
+        rt.alloc(),
+        line,
+        &[],
+        (refused(0), &[], "bad stream 4 at 0\n"),
+    )?;
     let most = vec![in rt.alloc(); 0u8; 18_722]?;
-    assert_run(&rt, line, &most, (Status::Done, &[0], "end bits 2\n"))?;
+    expect_run(
+        rt.alloc(),
+        line,
+        &most,
+        (Status::Done, &[0], "end bits 2\n"),
+    )?;
     let more = vec![in rt.alloc(); 0u8; 18_724]?;
     let long = "bad stream 4 at 18722\n";
-    assert_run(&rt, line, &more, (refused(18_722), &[], long))
+    expect_run(rt.alloc(), line, &more, (refused(18_722), &[], long))
 }
 
 #[test]
@@ -57,7 +66,7 @@ fn refused_words_read_and_write_nothing(rt: HostRuntime) -> Result<(), Fail> {
         place: 5,
     };
     let line = "encode tb=766 g=132 qm=2 rv=0 nir=6176";
-    assert_run(&rt, line, &[1], (status, &[], "bad words 8 at 5\n"))
+    expect_run(rt.alloc(), line, &[1], (status, &[], "bad words 8 at 5\n"))
 }
 
 #[test]

@@ -1,5 +1,5 @@
 //! Runs of `trial` over memory.
-use crate::running::assert_run;
+use memory_runs::expect_run;
 use std::test::Fail;
 use turbo_run::Status;
 
@@ -18,7 +18,7 @@ fn trials_count_what_was_delivered(rt: HostRuntime) -> Result<(), Fail> {
     let nothing: &[u8] = &[];
     for (line, report) in rows {
         // Each run twice, on an input that isn't read.
-        assert_run(&rt, line, b"left", (Status::Done, nothing, report))?;
+        expect_run(rt.alloc(), line, b"left", (Status::Done, nothing, report))?;
     }
     Ok(())
 }

@@ -1,49 +1,51 @@
 //! Runs of `encode` over memory, against worked streams.
 use crate::codeword_runs::{BYTE_01, BYTES_00_01};
-use crate::running::{assert_run, joined, run_of, sound};
+use memory_runs::{END, HARD, LENGTH_2, TWO, expect_run, joined, run_of, sound};
 use std::test::Fail;
 use turbo_run::Status;
 
-/// The header of one transmission with Q_m = 2 and redundancy version 0, and payloads of at most 2
-/// bytes.
-fn header(g: u8) -> [u8; 19] {
-    [
-        0x4C, 0x54, 0x43, 0x31, 0, 2, 1, 1, 0, 2, 0, 0, 0, g, 0, 0, 0, 0, 0,
-    ]
+/// The header of one transmission of G bits, with Q_m = 2, and payloads of at most 2 bytes.
+fn header(g: u8, rv: u8) -> [u8; 19] {
+    let mut header = HARD;
+    header[13] = g;
+    header[18] = rv;
+    header
 }
 
 #[test]
 fn streams_of_one_transmission(rt: HostRuntime) -> Result<(), Fail> {
-    let g132 = "encode tb=2 g=132 qm=2 rv=0";
-    let g116 = "encode tb=2 g=116 qm=2 rv=0";
-    let rows: [(&str, &[u8], [u8; 19], &[&[u8]], &str); 4] = [
-        (g132, &[], header(132), &[], "end blocks 0\n"),
+    let written: [u8; 23] = [
+        0x4C, 0x54, 0x43, 0x31, 0x00, 0x02, 0x01, 0x01, 0x00, 0x02, 0x00, 0x00, 0x00, 0x84, 0x00,
+        0x00, 0x00, 0x00, 0x00, 0x00, 0x00, 0x00, 0x00,
+    ];
+    let empty = (Status::Done, written.as_slice(), "end blocks 0\n");
+    expect_run(rt.alloc(), "encode tb=2 g=132 qm=2 rv=0", &[], empty)?;
+    let rows: [(u8, u8, &[u8], &[&[u8]], &str); 6] = [
+        (132, 0, &[0, 0], &[&LENGTH_2, &[0; 17]], "end blocks 1\n"),
+        (132, 1, &[0, 0], &[&LENGTH_2, &[0; 17]], "end blocks 1\n"),
+        (132, 2, &[0, 0], &[&LENGTH_2, &[0; 17]], "end blocks 1\n"),
+        (132, 3, &[0, 0], &[&LENGTH_2, &[0; 17]], "end blocks 1\n"),
         (
-            g132,
-            &[0, 0],
-            header(132),
-            &[&[0, 0, 0, 2], &[0; 17]],
-            "end blocks 1\n",
-        ),
-        (
-            g132,
+            132,
+            0,
             &[0, 1, 0, 1],
-            header(132),
-            &[&[0, 0, 0, 2], &BYTES_00_01, &[0, 0, 0, 2], &BYTES_00_01],
+            &[&LENGTH_2, &BYTES_00_01, &LENGTH_2, &BYTES_00_01],
             "end blocks 2\n",
         ),
         (
-            g116,
+            116,
+            0,
             &[0, 0, 1],
-            header(116),
-            &[&[0, 0, 0, 2], &[0; 15], &[0, 0, 0, 1], &BYTE_01],
+            &[&LENGTH_2, &[0; 15], &[0, 0, 0, 1], &BYTE_01],
             "end blocks 2\n",
         ),
     ];
-    for (line, input, header, blocks, report) in rows {
+    for (g, rv, input, blocks, report) in rows {
+        let line = format!(in rt.alloc(); "encode tb=2 g={g} qm=2 rv={rv}")?;
         let blocks = joined(rt.alloc(), blocks)?;
-        let out = joined(rt.alloc(), &[&header, blocks.as_slice(), &[0; 4]])?;
-        assert_run(&rt, line, input, (Status::Done, out.as_slice(), report))?;
+        let out = joined(rt.alloc(), &[&header(g, rv), &blocks, &END])?;
+        let done = (Status::Done, out.as_slice(), report);
+        expect_run(rt.alloc(), line.as_str(), input, done)?;
     }
     Ok(())
 }
@@ -51,16 +53,10 @@ fn streams_of_one_transmission(rt: HostRuntime) -> Result<(), Fail> {
 #[test]
 fn transmissions_of_their_own_lengths_are_of_version_two(rt: HostRuntime) -> Result<(), Fail> {
     let line = "encode tb=2 g=132,8 qm=2,4 rv=0,2";
-    let header: [u8; 26] = [
-        0x4C, 0x54, 0x43, 0x32, 0, 2, 0, 2, 0, 0, 0, 0, 2, 1, 0, 0, 0, 0, 0x84, 4, 1, 2, 0, 0, 0, 8,
-    ];
-    let out = joined(
-        rt.alloc(),
-        &[&header, &[0, 0, 0, 2], &BYTES_00_01, &[0xE6], &[0; 4]],
-    )?;
+    let out = joined(rt.alloc(), &[&TWO, &LENGTH_2, &BYTES_00_01, &[0xE6], &END])?;
     assert_eq!(rt; out.len(), 52);
     let done = (Status::Done, out.as_slice(), "end blocks 1\n");
-    assert_run(&rt, line, &[0, 1], done)
+    expect_run(rt.alloc(), line, &[0, 1], done)
 }
 
 #[test]

@@ -1,6 +1,6 @@
 //! Each read and each write of a run failing in turn: what stands then is a part of what the run
 //! without a fault wrote.
-use crate::running::{Edges, Ran, run_of, sound};
+use memory_runs::{Edges, Ran, run_of, sound};
 use std::process::Abort;
 use std::test::Fail;
 use turbo_run::{SinkName, Status};
@@ -107,6 +107,24 @@ fn each_write_fails_in_turn(rt: HostRuntime) -> Result<(), Fail> {
             assert_eq!(rt; ran.out.bytes(), whole.out.bytes());
             let line = whole.report.bytes();
             assert_eq!(rt; ran.report.bytes(), &line[..n.min(line.len())]);
+        }
+    }
+    Ok(())
+}
+
+#[test]
+fn the_line_of_a_fault_may_fail_itself(rt: HostRuntime) -> Result<(), Fail> {
+    let line = b"read fault\n";
+    for command in [
+        "codeword g=132 qm=2 rv=0",
+        "encode tb=2 g=132 qm=2 rv=0",
+        "decode",
+    ] {
+        for n in 0..line.len() {
+            let calls = [n as u64];
+            let ran = run_of(rt.alloc(), command, &[0, 1], failing(&[0], &[], &calls))?;
+            assert_eq!(rt; ran.status, Status::ReadFault);
+            assert_eq!(rt; ran.report.bytes(), &line[..n], "of {command}");
         }
     }
     Ok(())

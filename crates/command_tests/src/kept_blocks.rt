@@ -1,26 +1,20 @@
 //! Runs of `decode` over several code blocks, of which some pass at once.
-use crate::running::{assert_run, joined};
-use crate::soft_blocks::{END, large_header, sent_values, zeros_and_one};
-use lte_bits::Bit;
+use memory_runs::{END, bytes_of, expect_run, joined, large_header};
+use sample_blocks::{sent_of_block, zeros_and_one};
 use std::test::Fail;
 use turbo_run::Status;
 
-// Block 0 passes at once. In the first row its later values would spoil it, were it decoded anew; in the second
-// all pass but the transport block's check fails, so that none is kept.
+// Block 0 passes at once. In the first row its later values would spoil it, were it decoded anew; in the
+// second all pass but the transport block's check fails, so that none is kept.
 #[test]
 fn blocks_that_passed_are_kept(rt: HostRuntime) -> Result<(), Fail> {
-    let failing = zeros_and_one(rt.alloc(), 3135)?;
-    let mut passing = zeros_and_one(rt.alloc(), 3111)?;
-    for i in 0..24 {
-        let bit = if i == 0 || i == 17 || i == 18 || i == 22 || i == 23 {
-            Bit::One
-        } else {
-            Bit::Zero
-        };
-        passing.push(bit)?;
-    }
-    let failing = sent_values(&rt, 766, 18840, 1, failing)?;
-    let passing = sent_values(&rt, 766, 18840, 1, passing)?;
+    let failing = zeros_and_one(rt.alloc(), 3135, &[])?;
+    let failing = sent_of_block(rt.alloc(), 766, 18840, 1, failing)?;
+    let failing = bytes_of(rt.alloc(), &failing)?;
+    // A one and its check bits.
+    let passing = zeros_and_one(rt.alloc(), 3111, &[0x80, 0x00, 0x63])?;
+    let passing = sent_of_block(rt.alloc(), 766, 18840, 1, passing)?;
+    let passing = bytes_of(rt.alloc(), &passing)?;
     let rows: [(&[u8], u8, &str); 2] = [
         (
             &failing,
@@ -39,7 +33,7 @@ fn blocks_that_passed_are_kept(rt: HostRuntime) -> Result<(), Fail> {
         let once = large_header(rt.alloc(), 1)?;
         let alone = joined(rt.alloc(), &[&once, &length, &first, &END])?;
         let failed = (Status::SomeFailed, [].as_slice(), report);
-        assert_run(&rt, "decode limit=3", &alone, failed)?;
+        expect_run(rt.alloc(), "decode limit=3", &alone, failed)?;
         let twice = large_header(rt.alloc(), 2)?;
         let both = joined(
             rt.alloc(),
@@ -48,7 +42,7 @@ fn blocks_that_passed_are_kept(rt: HostRuntime) -> Result<(), Fail> {
         let report =
             "block 0 delivered bytes 766 transmissions 2 iterations 2\nend blocks 1 delivered 1 failed 0\n";
         let done = (Status::Done, [0; 766].as_slice(), report);
-        assert_run(&rt, "decode limit=3", &both, done)?;
+        expect_run(rt.alloc(), "decode limit=3", &both, done)?;
     }
     Ok(())
 }

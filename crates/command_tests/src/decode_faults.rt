@@ -1,7 +1,6 @@
 //! Runs of `decode` in which a read or a write fails.
-use crate::running::{Edges, joined, run_of, sound};
-use crate::soft_blocks::{END, LENGTH_2, ONE, failing_values};
-use std::process::Abort;
+use memory_runs::{END, Edges, LENGTH_2, SOFT, failing_values, joined, run_of, sound};
+use std::alloc::Global;
 use std::test::Fail;
 use turbo_run::{SinkName, Status};
 
@@ -9,17 +8,17 @@ const LINES: &str =
     "block 0 delivered bytes 2 transmissions 1 iterations 1\nblock 1 failed transmissions 1 iterations 3\n";
 
 /// A stream of a block that is delivered and one that fails.
-fn two_blocks(rt: &(impl Abort + AllocGlobal)) -> Result<Vec<u8>, Fail> {
-    let values = failing_values(rt)?;
+fn two_blocks(alloc: Global) -> Result<Vec<u8>, Fail> {
+    let values = failing_values(alloc)?;
     Ok(joined(
-        rt.alloc(),
-        &[&ONE, &LENGTH_2, &[0; 132], &LENGTH_2, &values, &END],
+        alloc,
+        &[&SOFT, &LENGTH_2, &[0; 132], &LENGTH_2, &values, &END],
     )?)
 }
 
 #[test]
 fn each_read_fails_in_turn(rt: HostRuntime) -> Result<(), Fail> {
-    let input = two_blocks(&rt)?;
+    let input = two_blocks(rt.alloc())?;
     // The first line ends after 55 bytes.
     let line = &LINES[..55];
     for n in 0..=input.len() {
@@ -48,7 +47,7 @@ fn each_read_fails_in_turn(rt: HostRuntime) -> Result<(), Fail> {
 
 #[test]
 fn each_write_to_out_fails_in_turn(rt: HostRuntime) -> Result<(), Fail> {
-    let input = two_blocks(&rt)?;
+    let input = two_blocks(rt.alloc())?;
     for n in 0..2u64 {
         let edges = Edges {
             piece: 1,
@@ -71,7 +70,7 @@ fn each_write_to_out_fails_in_turn(rt: HostRuntime) -> Result<(), Fail> {
 
 #[test]
 fn each_write_to_the_report_fails_in_turn(rt: HostRuntime) -> Result<(), Fail> {
-    let input = two_blocks(&rt)?;
+    let input = two_blocks(rt.alloc())?;
     let whole = run_of(rt.alloc(), "decode limit=3", &input, sound(1))?;
     assert_eq!(rt; whole.status, Status::SomeFailed);
     for n in 0..whole.report.bytes().len() {

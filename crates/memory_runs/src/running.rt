@@ -1,10 +1,7 @@
 //! Runs of the program over memory.
-ghost use Rattle.std.specs.Prelude.{◌≤◌};
-
-use crate::memory::list_of;
+use crate::lists::{list_of, sink_of, words_of};
 use edge_io::{MemSink, MemSource};
 use std::alloc::{AllocError, Global};
-use std::process::Abort;
 use std::test::Fail;
 use turbo_run::{Status, run_alone};
 
@@ -17,12 +14,13 @@ pub struct Edges<'a> {
     pub reports: &'a [u64],
 }
 
-/// How a run ended, and what `out` and the report hold.
+/// How a run ended, what `out` and the report hold, and how many bytes the source still has.
 #[derive(Drop)]
 pub struct Ran {
     pub status: Status,
     pub out: MemSink,
     pub report: MemSink,
+    pub left: usize,
 }
 
 /// Edges that don't fail.
@@ -35,26 +33,10 @@ pub fn sound(piece: usize) -> Edges<'static> {
     }
 }
 
-/// The words of a line.
-pub fn words_of(alloc: Global, line: &str) -> Result<Vec<&str>, AllocError> {
-    let mut words = Vec::new(alloc);
-    for word in line.split_whitespace() {
-        words.push(word)?;
-    }
-    Ok(words)
-}
+/// The room of a sink: enough for the report of 4,096 blocks.
+const ROOM: usize = 300_000;
 
-fn sink_of(alloc: Global, piece: usize, failing: &[u64]) -> Result<MemSink, AllocError>
-    requires { 1 ≤ piece }
-{
-    let mut sink = MemSink::new(alloc, piece, list_of(alloc, failing)?);
-    match sink.reserve(100_000) {
-        Ok(()) => Ok(sink),
-        Err(_) => Err(AllocError),
-    }
-}
-
-/// Does what the words of a line ask for.
+/// Does what the words of a line ask for, on one thread.
 pub fn run_of(
     alloc: Global,
     line: &str,
@@ -64,28 +46,39 @@ pub fn run_of(
     let words = words_of(alloc, line)?;
     let piece = edges.piece.max(1);
     let mut source = MemSource::new(list_of(alloc, input)?, piece, list_of(alloc, edges.reads)?);
-    let mut out = sink_of(alloc, piece, edges.outs)?;
-    let mut report = sink_of(alloc, piece, edges.reports)?;
+    let mut out = sink_of(alloc, ROOM, piece, edges.outs)?;
+    let mut report = sink_of(alloc, ROOM, piece, edges.reports)?;
     let status = run_alone(alloc, &words, &mut source, &mut out, &mut report);
     Ok(Ran {
         status,
         out,
         report,
+        left: source.left().len(),
     })
 }
 
-/// Does so in pieces of 1 and of 7 bytes, with no failure.
-pub fn assert_run(
-    rt: &(impl Abort + AllocGlobal),
+/// Whether a run ended so, with this output and this report.
+fn expect(line: &str, ran: &Ran, want: (Status, &[u8], &str)) -> Result<(), Fail> {
+    let (status, out, report) = want;
+    if ran.status != status || ran.out.bytes() != out {
+        return Err(Fail::new(format_args!("of {line}: {:?}, {:?}", ran.status, ran.out.bytes())));
+    }
+    if ran.report.bytes() != report.as_bytes() {
+        return Err(Fail::new(format_args!("of {line}: report {:?}", ran.report.bytes())));
+    }
+    Ok(())
+}
+
+/// Does what a line asks for, in pieces of 1 and of 7 bytes, with no failure.
+pub fn expect_run(
+    alloc: Global,
     line: &str,
     input: &[u8],
     want: (Status, &[u8], &str),
 ) -> Result<(), Fail> {
     for piece in [1, 7] {
-        let ran = run_of(rt.alloc(), line, input, sound(piece))?;
-        assert_eq!(rt; ran.status, want.0, "of {line}");
-        assert_eq!(rt; ran.out.bytes(), want.1, "of {line}");
-        assert_eq!(rt; ran.report.bytes(), want.2.as_bytes(), "of {line}");
+        let ran = run_of(alloc, line, input, sound(piece))?;
+        expect(line, &ran, want)?;
     }
     Ok(())
 }
@@ -103,11 +96,14 @@ pub fn chain_of(alloc: Global, lines: &[&str], input: &[u8]) -> Result<Option<Ra
     Ok(ran)
 }
 
-/// The pieces, one after the other.
-pub fn joined(alloc: Global, pieces: &[&[u8]]) -> Result<Vec<u8>, AllocError> {
-    let mut bytes = Vec::new(alloc);
-    for piece in pieces {
-        bytes.extend_from_slice(piece)?;
-    }
-    Ok(bytes)
+/// What the last of several lines leaves, which is done.
+pub fn expect_chain(
+    alloc: Global,
+    lines: &[&str],
+    input: &[u8],
+    want: (&[u8], &str),
+) -> Result<(), Fail> {
+    let ran = chain_of(alloc, lines, input)?.ok_or("some command ran")?;
+    let last = lines.last().copied().unwrap_or("");
+    expect(last, &ran, (Status::Done, want.0, want.1))
 }
