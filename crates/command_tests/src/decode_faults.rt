@@ -1,4 +1,4 @@
-//! Runs of `decode` in which a read or a write fails.
+//! Runs of `decode` and `batch` in which a read or a write fails.
 use memory_runs::{END, Edges, LENGTH_2, SOFT, failing_values, joined, run_of, sound};
 use std::alloc::Global;
 use std::test::Fail;
@@ -6,6 +6,14 @@ use turbo_run::{SinkName, Status};
 
 const LINES: &str =
     "block 0 delivered bytes 2 transmissions 1 iterations 1\nblock 1 failed transmissions 1 iterations 3\n";
+
+/// The commands that decode a stream, and do the same.
+const DECODERS: [&str; 4] = [
+    "decode limit=3",
+    "batch pipes=1 limit=3",
+    "batch limit=3",
+    "batch pipes=8 limit=3",
+];
 
 /// A stream of a block that is delivered and one that fails.
 fn two_blocks(alloc: Global) -> Result<Vec<u8>, Fail> {
@@ -21,26 +29,28 @@ fn each_read_fails_in_turn(rt: HostRuntime) -> Result<(), Fail> {
     let input = two_blocks(rt.alloc())?;
     // The first line ends after 55 bytes.
     let line = &LINES[..55];
-    for n in 0..=input.len() {
-        let calls = [n as u64];
-        let edges = Edges {
-            piece: 1,
-            reads: &calls,
-            outs: &[],
-            reports: &[],
-        };
-        let ran = run_of(rt.alloc(), "decode limit=3", &input, edges)?;
-        assert_eq!(rt; ran.status, Status::ReadFault);
-        let (out, told): (&[u8], &str) = if n < 155 {
-            (&[], "")
-        } else if n < 291 {
-            (&[0, 0], line)
-        } else {
-            (&[0, 0], LINES)
-        };
-        assert_eq!(rt; ran.out.bytes(), out);
-        let told = format!(in rt.alloc(); "{told}read fault\n")?;
-        assert_eq!(rt; ran.report.bytes(), told.as_bytes());
+    for decoder in DECODERS {
+        for n in 0..=input.len() {
+            let calls = [n as u64];
+            let edges = Edges {
+                piece: 1,
+                reads: &calls,
+                outs: &[],
+                reports: &[],
+            };
+            let ran = run_of(rt.alloc(), decoder, &input, edges)?;
+            assert_eq!(rt; ran.status, Status::ReadFault);
+            let (out, told): (&[u8], &str) = if n < 155 {
+                (&[], "")
+            } else if n < 291 {
+                (&[0, 0], line)
+            } else {
+                (&[0, 0], LINES)
+            };
+            assert_eq!(rt; ran.out.bytes(), out);
+            let told = format!(in rt.alloc(); "{told}read fault\n")?;
+            assert_eq!(rt; ran.report.bytes(), told.as_bytes());
+        }
     }
     Ok(())
 }
@@ -48,22 +58,24 @@ fn each_read_fails_in_turn(rt: HostRuntime) -> Result<(), Fail> {
 #[test]
 fn each_write_to_out_fails_in_turn(rt: HostRuntime) -> Result<(), Fail> {
     let input = two_blocks(rt.alloc())?;
-    for n in 0..2u64 {
-        let edges = Edges {
-            piece: 1,
-            reads: &[],
-            outs: &[n],
-            reports: &[],
-        };
-        let ran = run_of(rt.alloc(), "decode limit=3", &input, edges)?;
-        assert_eq!(rt;
-            ran.status,
-            Status::WriteFault {
-                sink: SinkName::Out
-            }
-        );
-        assert_eq!(rt; ran.out.bytes().len() as u64, n);
-        assert_eq!(rt; ran.report.bytes(), b"write fault out\n".as_slice());
+    for decoder in DECODERS {
+        for n in 0..2u64 {
+            let edges = Edges {
+                piece: 1,
+                reads: &[],
+                outs: &[n],
+                reports: &[],
+            };
+            let ran = run_of(rt.alloc(), decoder, &input, edges)?;
+            assert_eq!(rt;
+                ran.status,
+                Status::WriteFault {
+                    sink: SinkName::Out
+                }
+            );
+            assert_eq!(rt; ran.out.bytes().len() as u64, n);
+            assert_eq!(rt; ran.report.bytes(), b"write fault out\n".as_slice());
+        }
     }
     Ok(())
 }
@@ -71,26 +83,28 @@ fn each_write_to_out_fails_in_turn(rt: HostRuntime) -> Result<(), Fail> {
 #[test]
 fn each_write_to_the_report_fails_in_turn(rt: HostRuntime) -> Result<(), Fail> {
     let input = two_blocks(rt.alloc())?;
-    let whole = run_of(rt.alloc(), "decode limit=3", &input, sound(1))?;
-    assert_eq!(rt; whole.status, Status::SomeFailed);
-    for n in 0..whole.report.bytes().len() {
-        let calls = [n as u64];
-        let edges = Edges {
-            piece: 1,
-            reads: &[],
-            outs: &[],
-            reports: &calls,
-        };
-        let ran = run_of(rt.alloc(), "decode limit=3", &input, edges)?;
-        assert_eq!(rt;
-            ran.status,
-            Status::WriteFault {
-                sink: SinkName::Report
-            }
-        );
-        assert_eq!(rt; ran.out.bytes(), [0u8, 0].as_slice());
-        let told = whole.report.bytes();
-        assert_eq!(rt; ran.report.bytes(), &told[..n.min(told.len())]);
+    for decoder in DECODERS {
+        let whole = run_of(rt.alloc(), decoder, &input, sound(1))?;
+        assert_eq!(rt; whole.status, Status::SomeFailed);
+        for n in 0..whole.report.bytes().len() {
+            let calls = [n as u64];
+            let edges = Edges {
+                piece: 1,
+                reads: &[],
+                outs: &[],
+                reports: &calls,
+            };
+            let ran = run_of(rt.alloc(), decoder, &input, edges)?;
+            assert_eq!(rt;
+                ran.status,
+                Status::WriteFault {
+                    sink: SinkName::Report
+                }
+            );
+            assert_eq!(rt; ran.out.bytes(), [0u8, 0].as_slice());
+            let told = whole.report.bytes();
+            assert_eq!(rt; ran.report.bytes(), &told[..n.min(told.len())]);
+        }
     }
     Ok(())
 }

@@ -1,10 +1,13 @@
-//! Runs of `decode` over memory.
+//! Runs of `decode` and `batch` over memory.
 use memory_runs::{
     END, HARD, LENGTH_2, SOFT, SOFT_TWICE, expect_run, failing_values, joined, run_of,
     small_blocks, sound,
 };
 use std::test::Fail;
 use turbo_run::Status;
+
+/// The commands that decode a stream, and do the same.
+const DECODERS: [&str; 4] = ["decode", "batch pipes=1", "batch", "batch pipes=8"];
 
 const DELIVERED: &str = "block 0 delivered bytes 2 transmissions 1 iterations 1\n";
 
@@ -69,15 +72,17 @@ fn failed_blocks_add_a_line_alone(rt: HostRuntime) -> Result<(), Fail> {
 #[test]
 fn every_cut_is_refused_where_it_is(rt: HostRuntime) -> Result<(), Fail> {
     let input = joined(rt.alloc(), &[&SOFT, &LENGTH_2, &[0; 132], &END])?;
-    for n in 0..input.len() {
-        let ran = run_of(rt.alloc(), "decode", &input[..n], sound(7))?;
-        let refused = Status::BadStream {
-            number: 6,
-            place: n as u64,
-        };
-        assert_eq!(rt; ran.status, refused);
-        let whole: &[u8] = if n < 155 { &[] } else { &[0, 0] };
-        assert_eq!(rt; ran.out.bytes(), whole);
+    for decoder in DECODERS {
+        for n in 0..input.len() {
+            let ran = run_of(rt.alloc(), decoder, &input[..n], sound(7))?;
+            let refused = Status::BadStream {
+                number: 6,
+                place: n as u64,
+            };
+            assert_eq!(rt; ran.status, refused);
+            let whole: &[u8] = if n < 155 { &[] } else { &[0, 0] };
+            assert_eq!(rt; ran.out.bytes(), whole);
+        }
     }
     Ok(())
 }
@@ -131,12 +136,14 @@ fn streams_of_4096_blocks_are_decoded(rt: HostRuntime) -> Result<(), Fail> {
         ),
         (4097, refused, b"bad stream 8 at 24595\n"),
     ];
-    for (count, status, last) in rows {
-        let input = small_blocks(rt.alloc(), count)?;
-        let ran = run_of(rt.alloc(), "decode", &input, sound(4096))?;
-        assert_eq!(rt; ran.status, status);
-        assert_eq!(rt; ran.out.bytes(), [0; 4096].as_slice());
-        assert!(rt; ran.report.bytes().ends_with(last), "of {count} blocks");
+    for decoder in DECODERS {
+        for (count, status, last) in rows {
+            let input = small_blocks(rt.alloc(), count)?;
+            let ran = run_of(rt.alloc(), decoder, &input, sound(4096))?;
+            assert_eq!(rt; ran.status, status);
+            assert_eq!(rt; ran.out.bytes(), [0; 4096].as_slice());
+            assert!(rt; ran.report.bytes().ends_with(last), "of {count} blocks");
+        }
     }
     Ok(())
 }
