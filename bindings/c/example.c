@@ -11,7 +11,7 @@ int main(void) {
     const uint8_t *sent = (const uint8_t *)text;
     const size_t length = sizeof text - 1;
     const struct gomzelat_transmission transmissions[2] = {{2, 1, BITS, 0}, {2, 1, BITS, 2}};
-    const struct gomzelat_channel channel = {.seed = 1, .amp = 40, .noise = 50};
+    const struct gomzelat_channel channel = {.seed = 1, .amp = 40, .noise = 40};
     const struct gomzelat_receiver receiver = {.n_ir = 0, .windows = 8, .limit = 8};
 
     int8_t values[2 * BITS];

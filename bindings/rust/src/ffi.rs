@@ -11,7 +11,11 @@ pub struct Receiver {
 
 impl From<types::Receiver> for Receiver {
     fn from(receiver: types::Receiver) -> Receiver {
-        Receiver { n_ir: receiver.buffer.n_ir(), windows: receiver.windows, limit: receiver.limit }
+        Receiver {
+            n_ir: receiver.buffer.n_ir(),
+            windows: receiver.windows,
+            limit: receiver.limit,
+        }
     }
 }
 

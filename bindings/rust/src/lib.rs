@@ -42,7 +42,11 @@ pub const MOST_BITS: u32 = 1_000_000;
 ///
 /// `BadLength`, `BadQm`, `BadNl`, `BadG`, `BadVersion` or `BadBuffer` for what is refused, the first in this order;
 /// `NoMemory`.
-pub fn codeword(payload: &[u8], transmission: Transmission, buffer: Buffer) -> Result<Vec<u8>, Error> {
+pub fn codeword(
+    payload: &[u8],
+    transmission: Transmission,
+    buffer: Buffer,
+) -> Result<Vec<u8>, Error> {
     // A greater G is refused, with no need of room.
     let mut out = vec![0; (transmission.g.min(MOST_BITS) as usize).div_ceil(8)];
     // SAFETY: pointers and lengths are those of slices that are borrowed for the call, and only `out` is written to.
@@ -102,11 +106,22 @@ pub fn receive(
             &mut outcome,
         )
     })?;
-    let ffi::Outcome { transmissions, iterations, .. } = outcome;
+    let ffi::Outcome {
+        transmissions,
+        iterations,
+        ..
+    } = outcome;
     Ok(if outcome.delivered == 1 {
-        Outcome::Delivered { payload, transmissions, iterations }
+        Outcome::Delivered {
+            payload,
+            transmissions,
+            iterations,
+        }
     } else {
-        Outcome::Failed { transmissions, iterations }
+        Outcome::Failed {
+            transmissions,
+            iterations,
+        }
     })
 }
 
@@ -116,7 +131,13 @@ pub fn receive(
 /// # Errors
 ///
 /// `BadBits`, `BadAmp`, `BadNoise` or `BadNumber` for what is refused, the first in this order; `NoMemory`.
-pub fn noisy(bits: &[u8], count: usize, channel: Channel, block: u32, number: u32) -> Result<Vec<i8>, Error> {
+pub fn noisy(
+    bits: &[u8],
+    count: usize,
+    channel: Channel,
+    block: u32,
+    number: u32,
+) -> Result<Vec<i8>, Error> {
     // More bits than there are are refused, with no need of room.
     let mut out = vec![0; count.min(bits.len().saturating_mul(8))];
     // SAFETY: pointers and lengths are those of slices that are borrowed for the call, and only `out` is written to.

@@ -59,9 +59,16 @@ pub struct Receiver {
 #[derive(Clone, Debug, PartialEq, Eq, Hash)]
 pub enum Outcome {
     /// All checks held after so many transmissions, and not before.
-    Delivered { payload: Vec<u8>, transmissions: usize, iterations: usize },
+    Delivered {
+        payload: Vec<u8>,
+        transmissions: usize,
+        iterations: usize,
+    },
     /// The checks held after none of so many transmissions.
-    Failed { transmissions: usize, iterations: usize },
+    Failed {
+        transmissions: usize,
+        iterations: usize,
+    },
 }
 
 /// A channel: what its noise comes from; the soft value of a bit 0, 1 to 127, where that of a bit 1 is its negative; and

@@ -12,8 +12,8 @@ use Rattle.gomzelat_c.specs.declared.receiver.Outcome.{Outcome}
 use Rattle.gomzelat_c.specs.declared.receiver.Receiver.{Receiver}
 use Rattle.gomzelat_c.specs.declared.transmission.Transmission.{Transmission}
 
--- what a receiver makes of the transmissions of a payload of so many bytes, from their soft values, one transmission
--- after the other; -128 is taken as -127
+-- what a receiver makes of the transmissions of a payload of so many bytes, from their soft values, one
+-- transmission after the other; -128 is taken as -127
 abbrev pub received : (bytes : ℕ) → List Transmission → Receiver → (values : List ℤ) → TbOutcome
 received bytes ts r values =
     outcome (plan_of bytes) (record { windows = r.windows; limit = r.limit })

@@ -31,8 +31,8 @@ abbrev pub told : Option Refusal → ℕ
 told None = 0
 told (Some refusal) = number_of refusal
 
--- what a call answers that takes memory, where this is the first that is refused: its number; and where nothing is
--- refused, that the call is done, or that memory ran out
+-- what a call answers that takes memory, where this is the first that is refused: its number; and where
+-- nothing is refused, that the call is done, or that memory ran out
 abbrev pub IsTold : ℕ → Option Refusal → Type 0
 IsTold n (Some refusal) = n ≡ number_of refusal
 IsTold n None = (n ≡ 0) ⊎ (n ≡ number_of NoMemory)

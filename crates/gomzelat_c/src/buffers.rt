@@ -37,12 +37,12 @@ pub fn softs_of(alloc: Global, numbers: &[i8]) -> Result<List<Soft>, NoMemory>
     Ok(List::from_vec(softs))
 }
 
-/// The first bits of bytes.
+/// The first bits of bytes, of which those behind are left alone.
 pub fn bits_of(alloc: Global, count: usize, bytes: &[u8]) -> Result<List<Bit>, NoMemory>
     requires { byte_count count ≤ length bytes.now }
     ensures { IfOk result (λ bits. bits ≡ take count (unpacked bytes.now)) }
 {
-    let mut bits = unpack(alloc, bytes)?;
+    let mut bits = unpack(alloc, &bytes[..count.div_ceil(8)])?;
     bits.resize(count, Bit::Zero)?;
     Ok(bits)
 }

@@ -13,8 +13,8 @@ use segmentation::MOST_BYTES;
 use soft_channel::{noisy, payload};
 use std::alloc::Global;
 
-/// A channel: the seed that its noise comes from; the amplitude of sent bits, 1 to 127; and the noise on them, 0 to
-/// 127, about its standard deviation.
+/// A channel: the seed that its noise comes from; the amplitude of sent bits, 1 to 127; and the noise on
+/// them, 0 to 127, about its standard deviation.
 #[repr(C)]
 #[derive(Clone, Copy, Debug)]
 pub struct Channel {
@@ -71,9 +71,9 @@ fn write_noisy(
     Ok(())
 }
 
-/// Writes to the front of `out` a soft value, -127 to 127, for each of the first `count` bits of `bits`, whose bytes
-/// have the highest bit first: what the channel makes of transmission `number`, 0 to 7, of a block, both counted from
-/// 0. Answers 0, or a `Refusal`'s number, and then nothing is changed.
+/// Writes to the front of `out` a soft value, -127 to 127, for each of the first `count` bits of `bits`,
+/// whose bytes have the highest bit first: what the channel makes of transmission `number`, 0 to 7, of a
+/// block, both counted from 0. Answers 0, or a `Refusal`'s number, and then nothing is changed.
 #[unsafe(no_mangle)]
 pub extern "C" fn gomzelat_noisy(
     alloc: Global,
@@ -105,8 +105,8 @@ fn write_payload(alloc: Global, seed: u64, block: u32, out: &mut [u8]) -> Result
     Ok(())
 }
 
-/// Fills `out`, of 1 to 18,722 bytes, with the payload of a trial's block, counted from 0. Answers 0, or a `Refusal`'s
-/// number, and then nothing is changed.
+/// Fills `out`, of 1 to 18,722 bytes, with the payload of a trial's block, counted from 0. Answers 0, or
+/// a `Refusal`'s number, and then nothing is changed.
 #[unsafe(no_mangle)]
 pub extern "C" fn gomzelat_payload(alloc: Global, seed: u64, block: u32, out: &mut [u8]) -> u32
     ensures answer { IsTold result (first_failed (length_test (length out.old) ∷ [])) }

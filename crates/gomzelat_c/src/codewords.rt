@@ -19,8 +19,8 @@ use rate_match::{codeword, fits_buffer};
 use segmentation::plan;
 use std::alloc::Global;
 
-/// The transmission of a payload of `bytes` bytes, whose codeword is to be written to a buffer of `room` bytes; or
-/// what is refused.
+/// The transmission of a payload of `bytes` bytes, whose codeword is to be written to a buffer of `room`
+/// bytes; or what is refused.
 fn accepted(
     bytes: usize,
     transmission: &Transmission,
@@ -49,7 +49,8 @@ fn packed_codeword(alloc: Global, payload: &[u8], sending: &Sending) -> Result<L
     requires few { length payload.now ≤ 18722 }
     requires fits { Fits sending.now.m (plan_of (length payload.now)) }
     requires version { sending.now.rv ≤ 3 }
-    ensures bytes { IfOk result (λ bytes. bytes ≡ packed (codeword payload.now sending.now.m sending.now.rv)) }
+    ensures bytes { IfOk result (λ bytes. bytes
+        ≡ packed (codeword payload.now sending.now.m sending.now.rv)) }
     ensures long { IfOk result (λ bytes. length bytes ≡ byte_count sending.now.m.g) }
 {
     let bits = codeword(alloc, payload, &sending.m, sending.rv)?;
@@ -75,9 +76,9 @@ fn write_codeword(
     Ok(())
 }
 
-/// Writes the codeword of a payload of 1 to 18,722 bytes to the front of `out`: G bits in G/8 bytes, rounded up, the
-/// highest bit first, the unused low bits of the last byte 0. `n_ir` is 0 for a full soft buffer, or N_IR. Answers 0,
-/// or a `Refusal`'s number, and then nothing is changed.
+/// Writes the codeword of a payload of 1 to 18,722 bytes to the front of `out`: G bits in G/8 bytes,
+/// rounded up, the highest bit first, the unused low bits of the last byte 0. `n_ir` is 0 for a full soft
+/// buffer, or N_IR. Answers 0, or a `Refusal`'s number, and then nothing is changed.
 #[unsafe(no_mangle)]
 pub extern "C" fn gomzelat_codeword(
     alloc: Global,

@@ -1,6 +1,6 @@
-//! The chain for callers in C, and in whatever calls C: codewords, plans, receptions, and a channel with noise. No
-//! function here asks more of its caller than memory behind each pointer. Numbers are tested, and each refusal has a
-//! number of its own.
+//! The chain for callers in C, and in whatever calls C: codewords, plans, receptions, and a channel with
+//! noise. No function here asks more of its caller than memory behind each pointer. Numbers are tested,
+//! and each refusal has a number of its own.
 #![tactic(auto)]
 
 mod buffers;

@@ -7,8 +7,8 @@ ghost use Rattle.gomzelat_c.specs.Tests.{first_failed, length_test};
 
 use crate::refusal::Refusal;
 
-/// How a transport block is cut: C, K+, K-, C+, C- and F. The first `c_minus` of the `c` code blocks have `k_minus`
-/// bits, the others `k_plus`, and `f` fillers stand first in the first one.
+/// How a transport block is cut: C, K+, K-, C+, C- and F. The first `c_minus` of the `c` code blocks have
+/// `k_minus` bits, the others `k_plus`, and `f` fillers stand first in the first one.
 #[repr(C)]
 #[derive(Clone, Copy, Debug)]
 pub struct Plan {
@@ -20,8 +20,8 @@ pub struct Plan {
     pub f: usize,
 }
 
-/// Leaves in `plan` how a payload of `bytes` bytes is cut. Answers 0, or 1 where there are no bytes or more than
-/// 18,722, and then nothing is changed.
+/// Leaves in `plan` how a payload of `bytes` bytes is cut. Answers 0, or 1 where there are no bytes or
+/// more than 18,722, and then nothing is changed.
 #[unsafe(no_mangle)]
 pub extern "C" fn gomzelat_plan(bytes: usize, plan: &mut Plan) -> u32
     ensures answer { result ≡ told (first_failed (length_test bytes ∷ [])) }

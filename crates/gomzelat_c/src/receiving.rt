@@ -33,8 +33,8 @@ struct Job {
     effort: Effort,
 }
 
-/// The effort of a receiver for one to eight transmissions of a transport block, from so many soft values and with room
-/// for so many bytes; or what is refused.
+/// The effort of a receiver for one to eight transmissions of a transport block, from so many soft values
+/// and with room for so many bytes; or what is refused.
 fn effort(
     plan: &Plan,
     transmissions: &[Transmission],
@@ -66,8 +66,8 @@ fn effort(
     })
 }
 
-/// The job of receiving a payload of `bytes` bytes from so many soft values, with room for so many bytes; or what is
-/// refused.
+/// The job of receiving a payload of `bytes` bytes from so many soft values, with room for so many bytes;
+/// or what is refused.
 fn accepted(
     bytes: usize,
     transmissions: &[Transmission],
@@ -149,10 +149,11 @@ fn receive(
     Ok(())
 }
 
-/// Receives a payload of `bytes` bytes, 1 to 18,722, from one to eight transmissions: `values` has the G soft values of
-/// each, one transmission after the other, where a value above 0 says that its bit is rather 0. Leaves in `outcome` what
-/// they came to, and the payload at the front of `payload`, where it was delivered; else nothing is changed there.
-/// Answers 0, or a `Refusal`'s number, and then nothing is changed.
+/// Receives a payload of `bytes` bytes, 1 to 18,722, from one to eight transmissions: `values` has the G
+/// soft values of each, one transmission after the other, where a value above 0 says that its bit is
+/// rather 0. Leaves in `outcome` what they came to, and the payload at the front of `payload`, where it
+/// was delivered; else nothing is changed there. Answers 0, or a `Refusal`'s number, and then nothing is
+/// changed.
 #[unsafe(no_mangle)]
 pub extern "C" fn gomzelat_receive(
     alloc: Global,

@@ -9,8 +9,8 @@ use crate::refusal::{Refusal, accept};
 use rate_match::sends::Sending;
 use rate_match::{Buffer, Match, Sends};
 
-/// One transmission: Q_m, 2, 4 or 6; N_L, 1 or 2; G, 1 to 1,000,000 and a multiple of N_L * Q_m; and the redundancy
-/// version, 0 to 3.
+/// One transmission: Q_m, 2, 4 or 6; N_L, 1 or 2; G, 1 to 1,000,000 and a multiple of N_L * Q_m; and the
+/// redundancy version, 0 to 3.
 #[repr(C)]
 #[derive(Clone, Copy, Debug)]
 pub struct Transmission {
