@@ -1,0 +1,138 @@
+/* The coding chain of LTE transport blocks, 3GPP TS 36.212 5.1.1 to 5.1.5, with a receiver and a channel: the calls of
+ * libgomzelat. They are proved to do what is said here; docs/LIBRARY_C.md says how to build and link.
+ *
+ * Every call answers a number: GOMZELAT_DONE, or what is refused. All arguments are tested, in the order of the numbers
+ * and transmission after transmission, and the first that is refused is told. Then, and where memory runs out, no buffer
+ * and no structure of the caller is changed.
+ *
+ * A pointer that comes with a length has to lead to so much memory, and may be null where that length is 0. The others
+ * must not be null. What a call writes to must not overlap anything else that it is passed. The caller owns all buffers;
+ * a call takes working memory by malloc and gives it back before it returns. Nothing is kept from one call to the next,
+ * so that several threads may call at once.
+ *
+ * Bits stand in bytes with the highest bit first. A soft value is a number from -127 to 127, above 0 where its bit is
+ * rather 0 and below 0 where it is rather 1; -128 is taken as -127. */
+#ifndef GOMZELAT_H
+#define GOMZELAT_H
+
+#include <stddef.h>
+#include <stdint.h>
+
+#ifdef __cplusplus
+extern "C" {
+#endif
+
+/* What a call answers. */
+enum gomzelat_answer {
+    GOMZELAT_DONE = 0,
+    GOMZELAT_BAD_LENGTH = 1,   /* a payload has no bytes, or more than GOMZELAT_MOST_BYTES */
+    GOMZELAT_BAD_COUNT = 2,    /* there are no transmissions, or more than GOMZELAT_MOST_TRANSMISSIONS */
+    GOMZELAT_BAD_QM = 3,       /* Q_m isn't 2, 4 or 6 */
+    GOMZELAT_BAD_NL = 4,       /* N_L isn't 1 or 2 */
+    GOMZELAT_BAD_G = 5,        /* G is 0, above GOMZELAT_MOST_BITS, or no multiple of N_L * Q_m */
+    GOMZELAT_BAD_VERSION = 6,  /* a redundancy version is above 3 */
+    GOMZELAT_BAD_BUFFER = 7,   /* N_IR is too small for the payload */
+    GOMZELAT_BAD_WINDOWS = 8,  /* the greatest number of windows is 0, or above 64 */
+    GOMZELAT_BAD_LIMIT = 9,    /* the greatest number of iterations is 0, or above 16 */
+    GOMZELAT_BAD_VALUES = 10,  /* there aren't as many soft values as the transmissions have bits */
+    GOMZELAT_BAD_BITS = 11,    /* there are fewer bytes than the bits need */
+    GOMZELAT_BAD_AMP = 12,     /* the amplitude is 0, or above 127 */
+    GOMZELAT_BAD_NOISE = 13,   /* the noise is above 127 */
+    GOMZELAT_BAD_NUMBER = 14,  /* a transmission's number is above 7 */
+    GOMZELAT_SHORT_OUTPUT = 15, /* the buffer for what is written is too short */
+    GOMZELAT_NO_MEMORY = 16    /* memory ran out */
+};
+
+#define GOMZELAT_MOST_BYTES 18722
+#define GOMZELAT_MOST_BITS 1000000
+#define GOMZELAT_MOST_TRANSMISSIONS 8
+
+/* The bytes that so many bits take. */
+#define GOMZELAT_BYTES(bits) (((size_t)(bits) + 7) / 8)
+
+/* One transmission of a transport block (5.1.4.1.2). */
+struct gomzelat_transmission {
+    uint32_t qm; /* Q_m, the bits of a modulation symbol: 2, 4 or 6 */
+    uint32_t nl; /* N_L, the layers: 1 or 2 */
+    uint32_t g;  /* G, its bits: 1 to GOMZELAT_MOST_BITS, a multiple of nl * qm */
+    uint32_t rv; /* its redundancy version: 0 to 3 */
+};
+
+/* Writes the codeword of a transmission: to `out`, of `room` bytes, its G bits in GOMZELAT_BYTES(G) bytes, with unused
+ * low bits 0; the bytes behind them are left.
+ *
+ * `payload`, `length`: the transport block, 1 to GOMZELAT_MOST_BYTES bytes.
+ * `n_ir`: N_IR, the soft values of the receiver's buffer for the transport block, or 0 for a full buffer. Of it, each
+ * code block has to have as many as the first stream of the largest takes in the sub-block interleaver: N_IR / C,
+ * rounded down, at least 32 times its rows.
+ *
+ * Refused: BAD_LENGTH, BAD_QM, BAD_NL, BAD_G, BAD_VERSION, BAD_BUFFER, SHORT_OUTPUT. */
+uint32_t gomzelat_codeword(const uint8_t *payload, size_t length, struct gomzelat_transmission transmission,
+                           uint32_t n_ir, uint8_t *out, size_t room);
+
+/* How a transport block is cut into code blocks (5.1.2): the first `c_minus` have `k_minus` bits, the others, `c_plus`
+ * of them, `k_plus`, and `f` fillers stand first in the first one. */
+struct gomzelat_plan {
+    size_t c;
+    size_t k_plus;
+    size_t k_minus;
+    size_t c_plus;
+    size_t c_minus;
+    size_t f;
+};
+
+/* Leaves in `plan` how a payload of `length` bytes is cut. Refused: BAD_LENGTH. */
+uint32_t gomzelat_plan(size_t length, struct gomzelat_plan *plan);
+
+/* How a receiver decodes. */
+struct gomzelat_receiver {
+    uint32_t n_ir;    /* N_IR, as for gomzelat_codeword; 0 is a full buffer */
+    uint32_t windows; /* the most windows of a code block: 1 to 64; 8, 16 and 32 run in lock step, which is fastest */
+    uint32_t limit;   /* the most iterations of a code block: 1 to 16 */
+};
+
+/* What the transmissions of a transport block came to. */
+struct gomzelat_outcome {
+    uint32_t delivered;   /* 1 where all checks held, else 0 */
+    size_t transmissions; /* up to the first after which all checks held, else all */
+    size_t iterations;    /* of all code blocks, in the decoding of each that was the last */
+};
+
+/* Receives a transport block of `length` bytes from `count` transmissions, 1 to GOMZELAT_MOST_TRANSMISSIONS, which
+ * share one soft buffer. After each, in order, the code blocks that haven't passed are decoded; the first after which
+ * all checks hold ends it. Leaves in `outcome` what they came to. Where the block was delivered, its bytes are written
+ * to `payload`, of `room` bytes, at least `length`; else nothing is written there.
+ *
+ * `values`, `amount`: the soft values of all transmissions, one transmission after the other, as many as they have bits.
+ *
+ * Refused: BAD_LENGTH, BAD_COUNT, BAD_QM, BAD_NL, BAD_G, BAD_VERSION, BAD_BUFFER, BAD_WINDOWS, BAD_LIMIT, BAD_VALUES,
+ * SHORT_OUTPUT. */
+uint32_t gomzelat_receive(size_t length, const struct gomzelat_transmission *transmissions, size_t count,
+                          struct gomzelat_receiver receiver, const int8_t *values, size_t amount,
+                          uint8_t *payload, size_t room, struct gomzelat_outcome *outcome);
+
+/* A channel. */
+struct gomzelat_channel {
+    uint64_t seed;  /* what the noise comes from */
+    uint32_t amp;   /* the soft value of a bit 0, 1 to 127; that of a bit 1 is its negative */
+    uint32_t noise; /* the noise's standard deviation, nearly: 0 to 127 */
+};
+
+/* Writes to `out`, of `room` values, a soft value for each of the first `count` bits of `bits`, which has `length`
+ * bytes: its amplitude and a term of noise, clamped. The term of a bit comes from the seed, from `block` and `number`,
+ * those of the block and of its transmission, from 0, and from its place. The program's `channel` and `trial` make the
+ * same.
+ *
+ * Refused: BAD_BITS, BAD_AMP, BAD_NOISE, BAD_NUMBER, SHORT_OUTPUT. */
+uint32_t gomzelat_noisy(const uint8_t *bits, size_t length, size_t count, struct gomzelat_channel channel,
+                        uint32_t block, uint32_t number, int8_t *out, size_t room);
+
+/* Fills `out`, of `length` bytes, with the payload of a block, counted from 0, from a seed, as the program's `trial`
+ * does. Refused: BAD_LENGTH. */
+uint32_t gomzelat_payload(uint64_t seed, uint32_t block, uint8_t *out, size_t length);
+
+#ifdef __cplusplus
+}
+#endif
+
+#endif

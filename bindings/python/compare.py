@@ -1,0 +1,117 @@
+"""Random cases through the library and through the program: codewords, soft values, payloads, and what the report says
+have to be equal. Ends with 1 where something differs.
+
+    python3 compare.py PROGRAM --cases 100 --seed 1
+"""
+
+import argparse
+import random
+import subprocess
+import sys
+from dataclasses import dataclass
+
+from gomzelat import Channel, Refused, Transmission, codeword, noisy, payload, receive
+
+
+@dataclass(frozen=True)
+class Case:
+    sent: bytes
+    transmissions: tuple[Transmission, ...]
+    n_ir: int
+    channel: Channel
+    windows: int
+    limit: int
+
+    def soft(self) -> tuple[list[bytes], list[bytes]]:
+        """The codewords of all transmissions, and their soft values as bytes."""
+        codewords = [codeword(self.sent, it, self.n_ir) for it in self.transmissions]
+        softs = [
+            noisy(bits, it.g, self.channel, 0, number).tobytes()
+            for number, (bits, it) in enumerate(zip(codewords, self.transmissions))
+        ]
+        return codewords, softs
+
+
+def drawn(random: random.Random) -> Case:
+    """A case, of which most have a buffer that fits."""
+    length = random.choice([1, 2, random.randint(1, 100), random.randint(1, 3000), random.randint(1, 18722)])
+    qm, nl = random.choice([2, 4, 6]), random.choice([1, 2])
+    rate = random.uniform(0.25, 0.95)
+    g = max(1, round((8 * length + 24) / rate / (qm * nl))) * qm * nl
+    count = random.randint(1, 8 if length < 1000 else 2)
+    versions = [0, *(random.randint(0, 3) for _ in range(count - 1))]
+    n_ir = random.choice([0, 0, 60 * length, 20 * length, random.randint(1, 1_000_000)])
+    channel = Channel(random.randint(20, 60), random.randint(0, 40), random.getrandbits(64))
+    transmissions = tuple(Transmission(qm, min(g, 1_000_000 // 12 * 12), rv, nl) for rv in versions)
+    return Case(
+        payload(length, random.getrandbits(64)),
+        transmissions,
+        min(n_ir, 1_000_000),
+        channel,
+        random.choice([1, 5, 8, 16, 32, 64]),
+        random.randint(1, 8),
+    )
+
+
+def run(program: str, words: list[str], data: bytes) -> tuple[int, bytes, str]:
+    ran = subprocess.run([program, *words], input=data, capture_output=True, check=False)
+    return ran.returncode, ran.stdout, ran.stderr.decode()
+
+
+def blocks_of(stream: bytes, count: int, size: int) -> list[bytes]:
+    """The transmissions of the one block of a stream, each of so many bytes."""
+    at = 18 + count + 4
+    return [stream[at + i * size : at + (i + 1) * size] for i in range(count)]
+
+
+def differences(program: str, case: Case) -> list[str]:
+    one, count, length = case.transmissions[0], len(case.transmissions), len(case.sent)
+    words = [f"tb={length}", f"g={one.g}", f"qm={one.qm}", f"nl={one.nl}", f"nir={case.n_ir}"]
+    words.append("rv=" + ",".join(str(it.rv) for it in case.transmissions))
+    status, hard, report = run(program, ["encode", *words], case.sent)
+    try:
+        codewords, softs = case.soft()
+    except Refused as refused:
+        # The program wants a buffer that fits each shorter payload too, which need no more.
+        return [] if (refused.number, status) == (7, 2) else [f"refused with {refused.number}, and there {status}"]
+    if status != 0:
+        return [f"encode ended with {status}: {report}"]
+    found = []
+    if blocks_of(hard, count, (one.g + 7) // 8) != codewords:
+        found.append("other codewords")
+    words = [f"amp={case.channel.amp}", f"noise={case.channel.noise}", f"seed={case.channel.seed}"]
+    _, soft, _ = run(program, ["channel", *words], hard)
+    if blocks_of(soft, count, one.g) != softs:
+        found.append("other soft values")
+    status, out, report = run(program, ["decode", f"windows={case.windows}", f"limit={case.limit}"], soft)
+    values = memoryview(b"".join(softs)).cast("b")
+    told = receive(length, case.transmissions, values, case.n_ir, case.windows, case.limit)
+    effort = f"transmissions {told.transmissions} iterations {told.iterations}"
+    line = f"block 0 failed {effort}" if told.payload is None else f"block 0 delivered bytes {length} {effort}"
+    if report.splitlines()[0] != line:
+        found.append(f"told {line!r}, and there {report.splitlines()[0]!r}")
+    if out != (told.payload or b"") or (status == 0) != (told.payload is not None):
+        found.append("another payload")
+    return found
+
+
+def main() -> int:
+    words = argparse.ArgumentParser(description=__doc__, formatter_class=argparse.RawDescriptionHelpFormatter)
+    words.add_argument("program")
+    words.add_argument("--cases", type=int, default=100)
+    words.add_argument("--seed", type=int, default=1)
+    given = words.parse_args()
+    source = random.Random(given.seed)
+    differing = 0
+    for number in range(given.cases):
+        case = drawn(source)
+        for difference in differences(given.program, case):
+            print(f"case {number}, {len(case.sent)} bytes, {case}"[:400])
+            print(f"    {difference}")
+            differing += 1
+    print(f"{given.cases} cases, {differing} differences")
+    return 1 if differing else 0
+
+
+if __name__ == "__main__":
+    sys.exit(main())

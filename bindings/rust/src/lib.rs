@@ -1,0 +1,170 @@
+//! The coding chain of LTE transport blocks (3GPP TS 36.212 5.1.1 to 5.1.5), with a receiver and a channel: safe calls
+//! over a library that is proved. What each call gives is what the library's contracts say; this crate hands buffers
+//! over and names the answers.
+//!
+//! Bits stand in bytes with the highest bit first. A soft value is a number from -127 to 127, above 0 where its bit is
+//! rather 0; -128 is taken as -127.
+//!
+//! ```
+//! use gomzelat::{Buffer, Channel, Outcome, Receiver, Transmission, codeword, noisy, receive};
+//!
+//! let sent = b"One transport block, in one transmission.";
+//! let transmission = Transmission { qm: 2, nl: 1, g: 528, rv: 0 };
+//! let bits = codeword(sent, transmission, Buffer::Full)?;
+//! let channel = Channel { seed: 1, amp: 40, noise: 10 };
+//! let values = noisy(&bits, 528, channel, 0, 0)?;
+//! let receiver = Receiver { buffer: Buffer::Full, windows: 8, limit: 8 };
+//! match receive(sent.len(), &[transmission], receiver, &values)? {
+//!     Outcome::Delivered { payload, .. } => assert_eq!(payload, sent),
+//!     Outcome::Failed { .. } => panic!("there is little noise"),
+//! }
+//! # Ok::<(), gomzelat::Error>(())
+//! ```
+
+mod error;
+mod ffi;
+mod types;
+
+pub use error::Error;
+pub use types::{Buffer, Channel, Outcome, Plan, Receiver, Transmission};
+
+use error::done;
+
+/// The bytes of the greatest transport block.
+pub const MOST_BYTES: usize = 18_722;
+
+/// The bits of the longest transmission.
+pub const MOST_BITS: u32 = 1_000_000;
+
+/// The codeword of a payload of 1 to 18,722 bytes: its G bits, with unused low bits of the last byte 0.
+///
+/// # Errors
+///
+/// `BadLength`, `BadQm`, `BadNl`, `BadG`, `BadVersion` or `BadBuffer` for what is refused, the first in this order;
+/// `NoMemory`.
+pub fn codeword(
+    payload: &[u8],
+    transmission: Transmission,
+    buffer: Buffer,
+) -> Result<Vec<u8>, Error> {
+    // A greater G is refused, with no need of room.
+    let mut out = vec![0; (transmission.g.min(MOST_BITS) as usize).div_ceil(8)];
+    // SAFETY: pointers and lengths are those of slices that are borrowed for the call, and only `out` is written to.
+    done(unsafe {
+        ffi::gomzelat_codeword(
+            payload.as_ptr(),
+            payload.len(),
+            transmission,
+            buffer.n_ir(),
+            out.as_mut_ptr(),
+            out.len(),
+        )
+    })?;
+    Ok(out)
+}
+
+/// How a payload of `length` bytes, 1 to 18,722, is cut into code blocks.
+///
+/// # Errors
+///
+/// `BadLength`.
+pub fn plan(length: usize) -> Result<Plan, Error> {
+    let mut plan = Plan::default();
+    // SAFETY: the reference is that of a plan of its own.
+    done(unsafe { ffi::gomzelat_plan(length, &mut plan) })?;
+    Ok(plan)
+}
+
+/// What the transmissions of a transport block of `length` bytes come to, one to eight with one soft buffer. `values`
+/// has the G soft values of each, one transmission after the other.
+///
+/// # Errors
+///
+/// `BadLength`, `BadCount`, `BadQm`, `BadNl`, `BadG`, `BadVersion`, `BadBuffer`, `BadWindows`, `BadLimit` or
+/// `BadValues` for what is refused, the first in this order, and transmission after transmission; `NoMemory`.
+pub fn receive(
+    length: usize,
+    transmissions: &[Transmission],
+    receiver: Receiver,
+    values: &[i8],
+) -> Result<Outcome, Error> {
+    // A greater length is refused, with no need of room.
+    let mut payload = vec![0; length.min(MOST_BYTES)];
+    let mut outcome = ffi::Outcome::default();
+    // SAFETY: pointers and lengths are those of slices that are borrowed for the call, and only `payload` and `outcome`
+    // are written to.
+    done(unsafe {
+        ffi::gomzelat_receive(
+            length,
+            transmissions.as_ptr(),
+            transmissions.len(),
+            ffi::Receiver::from(receiver),
+            values.as_ptr(),
+            values.len(),
+            payload.as_mut_ptr(),
+            payload.len(),
+            &mut outcome,
+        )
+    })?;
+    let ffi::Outcome {
+        transmissions,
+        iterations,
+        ..
+    } = outcome;
+    Ok(if outcome.delivered == 1 {
+        Outcome::Delivered {
+            payload,
+            transmissions,
+            iterations,
+        }
+    } else {
+        Outcome::Failed {
+            transmissions,
+            iterations,
+        }
+    })
+}
+
+/// A soft value for each of the first `count` bits, as the channel makes them of transmission `number`, 0 to 7, of a
+/// block, both counted from 0.
+///
+/// # Errors
+///
+/// `BadBits`, `BadAmp`, `BadNoise` or `BadNumber` for what is refused, the first in this order; `NoMemory`.
+pub fn noisy(
+    bits: &[u8],
+    count: usize,
+    channel: Channel,
+    block: u32,
+    number: u32,
+) -> Result<Vec<i8>, Error> {
+    // More bits than there are are refused, with no need of room.
+    let mut out = vec![0; count.min(bits.len().saturating_mul(8))];
+    // SAFETY: pointers and lengths are those of slices that are borrowed for the call, and only `out` is written to.
+    done(unsafe {
+        ffi::gomzelat_noisy(
+            bits.as_ptr(),
+            bits.len(),
+            count,
+            channel,
+            block,
+            number,
+            out.as_mut_ptr(),
+            out.len(),
+        )
+    })?;
+    Ok(out)
+}
+
+/// The payload of `length` bytes, 1 to 18,722, of a block, counted from 0, from a seed.
+///
+/// # Errors
+///
+/// `BadLength`; `NoMemory`.
+pub fn payload(length: usize, seed: u64, block: u32) -> Result<Vec<u8>, Error> {
+    // One byte too many is refused as any greater length is.
+    let mut out = vec![0; length.min(MOST_BYTES + 1)];
+    // SAFETY: pointer and length are those of a slice that is borrowed for the call.
+    done(unsafe { ffi::gomzelat_payload(seed, block, out.as_mut_ptr(), out.len()) })?;
+    Ok(out)
+}

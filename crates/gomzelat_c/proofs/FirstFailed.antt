@@ -1,0 +1,35 @@
+-- The first test that fails, of one list of tests and then another.
+use Rattle.std.proofs.Common.{◌≡◌, ℕ, ◌≤◌, Bool, true, false, ◌&&◌, nat_le, List, [], ◌∷◌, ◌++◌, None, Some, if◌then◌else◌, ap, ◌∙◌}
+use Rattle.std.specs.declared.option.Option.{Option}
+use Rattle.std.proofs.lemmas.Bool.{le-leb}
+use Rattle.gomzelat_c.specs.Tests.{Test, first_failed, is_from, test}
+use Rattle.gomzelat_c.specs.declared.refusal.Refusal.{Refusal}
+
+abbrev or_else : Option Refusal → Option Refusal → Option Refusal
+or_else None o = o
+or_else (Some r) o = Some r
+
+one_more : (holds : Bool) (r : Refusal) (a b c : Option Refusal) → a ≡ or_else b c → (if holds then a else Some r) ≡ or_else (if holds then b else Some r) c
+one_more true r a b c is = is
+one_more false r a b c is = λ _. Some r
+
+behind : (xs ys : List Test) → first_failed (xs ++ ys) ≡ or_else (first_failed xs) (first_failed ys)
+behind [] ys = λ _. first_failed ys
+behind (x ∷ xs) ys = one_more x.holds x.otherwise (first_failed (xs ++ ys)) (first_failed xs) (first_failed ys) (behind xs ys)
+
+-- where none of these fails, one of the others may
+pub none_failed : (xs ys : List Test) → first_failed xs ≡ None → first_failed (xs ++ ys) ≡ first_failed ys
+none_failed xs ys none = behind xs ys ∙ ap (λ o. or_else o (first_failed ys)) none
+
+-- where one of these fails, it is the first of all
+pub one_failed : (xs ys : List Test) (r : Refusal) → first_failed xs ≡ Some r → first_failed (xs ++ ys) ≡ Some r
+one_failed xs ys r one = behind xs ys ∙ ap (λ o. or_else o (first_failed ys)) one
+
+-- two tests hold, and the others are left
+pub behind_two : (a b : Bool) (r s : Refusal) (ts : List Test) → a ≡ true → b ≡ true → first_failed (test a r ∷ test b s ∷ ts) ≡ first_failed ts
+behind_two true true r s ts h k = λ _. first_failed ts
+behind_two true false r s ts h k = cc
+behind_two false b r s ts h k = cc
+
+pub is_from_true : (low high n : ℕ) → low ≤ n → n ≤ high → is_from low high n ≡ true
+is_from_true low high n h k = ap (λ (b : Bool). b && nat_le n high) (le-leb low n h) ∙ le-leb n high k

@@ -1,0 +1,7 @@
+mod Errors
+mod FirstBits
+mod FirstFailed
+mod Matched
+mod PackedLength
+mod Rooms
+mod Transmissions

@@ -1,0 +1,21 @@
+use Rattle.std.proofs.Common.{◌≡◌, length, map, sym, subst, ap, ◌∙◌, arith}
+use Rattle.lte_bits.specs.Softs.{clamped}
+use Rattle.sender_model.specs.Segmentation.{Plan}
+use Rattle.receiver_model.specs.TransportBlocks.{outcome}
+use Rattle.receiver_model.specs.declared.result.TbOutcome.{TbOutcome}
+use Rattle.block_receive.specs.Effort.{effort_of}
+use Rattle.block_receive.specs.Receptions.{receptions}
+use Rattle.gomzelat_c.specs.Receiving.{HasRoom}
+use Rattle.gomzelat_c.proofs.Rooms.{has_room, more_room, plan_bytes}
+use Rattle.gomzelat_c.proofs.receiving.receive.Goals as goal
+
+pub write_payload-requires : goal.write_payload-requires
+write_payload-requires c =
+    let job = c.in_ok-job.job in
+    let room = length c.args.payload.now in
+    let came = receptions job.sends (map (clamped 127) c.args.values.now) in
+    let P : TbOutcome → Type 0 = λ o. HasRoom o room in
+    let bytes : job.plan.bytes ≡ c.args.bytes = ap (λ (p : Plan). p.bytes) c.in_ok-job.ensures.plan ∙ plan_bytes c.args.bytes in
+    subst P (sym c.in_ok-received.ensures)
+    (more_room (outcome job.plan (effort_of job.effort) came) job.plan.bytes room (has_room job.plan (effort_of job.effort) came)
+    (omega (arith, bytes, c.in_ok-job.ensures.room)))

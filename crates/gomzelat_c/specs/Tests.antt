@@ -1,0 +1,88 @@
+-- What is tested of a call's arguments: the first test that doesn't hold says what is refused.
+use Rattle.std.specs.Prelude.{ℕ, ◌+◌, ◌*◌, ◌/◌, Bool, ◌&&◌, ◌==◌, nat_le, if◌then◌else◌, None, Some, List, [], ◌∷◌, ◌++◌, length, flat_map}
+use Rattle.std.specs.declared.option.Option.{Option}
+use Rattle.std.specs.List.{sum_by}
+use Rattle.sender_model.specs.Segmentation.{plan_of}
+use Rattle.rate_match.specs.Matching.{is_g, is_nl, is_qm}
+use Rattle.rate_match.specs.Fitting.{fits_in}
+use Rattle.gomzelat_c.specs.Sendings.{limit_in}
+use Rattle.gomzelat_c.specs.Noise.{Channel}
+use Rattle.gomzelat_c.specs.declared.receiver.Receiver.{Receiver}
+use Rattle.gomzelat_c.specs.declared.refusal.Refusal.{Refusal}
+use Rattle.gomzelat_c.specs.declared.refusal.Refusal.TheVariants.{BadLength, BadCount, BadQm, BadNl, BadG, BadVersion, BadBuffer, BadWindows, BadLimit, BadValues, BadBits, BadAmp, BadNoise, BadNumber, ShortOutput}
+use Rattle.gomzelat_c.specs.declared.transmission.Transmission.{Transmission}
+
+-- what has to hold, and what is refused where it doesn't
+pub record Test : Type 0 where
+  pub holds : Bool
+  pub otherwise : Refusal
+
+abbrev pub test : Bool → Refusal → Test
+test holds otherwise = record { holds = holds; otherwise = otherwise }
+
+abbrev pub first_failed : List Test → Option Refusal
+first_failed [] = None
+first_failed (t ∷ ts) = if t.holds then first_failed ts else Some t.otherwise
+
+-- n is from low to high
+abbrev pub is_from : (low high n : ℕ) → Bool
+is_from low high n = nat_le low n && nat_le n high
+
+-- the bytes of so many bits
+abbrev pub byte_count : ℕ → ℕ
+byte_count bits = (bits + 7) / 8
+
+-- ---- The tests of parts.
+
+-- a payload of so many bytes
+abbrev pub length_test : ℕ → Test
+length_test bytes = test (is_from 1 18722 bytes) BadLength
+
+-- a transmission
+abbrev pub transmission_tests : Transmission → List Test
+transmission_tests t =
+    test (is_qm t.qm) BadQm
+    ∷ test (is_nl t.nl) BadNl
+    ∷ test (is_g (t.nl * t.qm) t.g) BadG
+    ∷ test (nat_le t.rv 3) BadVersion
+    ∷ []
+
+-- N_IR soft values for a payload of so many bytes
+abbrev pub buffer_test : (bytes n_ir : ℕ) → Test
+buffer_test bytes n_ir = test (fits_in (limit_in n_ir) (plan_of bytes).c (plan_of bytes).k_plus) BadBuffer
+
+-- ---- The tests of calls.
+
+-- a codeword of a payload of so many bytes, with room for so many bytes
+abbrev pub codeword_tests : (bytes : ℕ) → Transmission → (n_ir room : ℕ) → List Test
+codeword_tests bytes t n_ir room =
+    length_test bytes
+    ∷ transmission_tests t
+    ++ (buffer_test bytes n_ir ∷ test (nat_le (byte_count t.g) room) ShortOutput ∷ [])
+
+-- how a payload of so many bytes is received from so many soft values, with room for so many bytes
+abbrev pub receiver_tests : (bytes : ℕ) → List Transmission → Receiver → (values room : ℕ) → List Test
+receiver_tests bytes ts r values room =
+    buffer_test bytes r.n_ir
+    ∷ test (is_from 1 64 r.windows) BadWindows
+    ∷ test (is_from 1 16 r.limit) BadLimit
+    ∷ test (values == sum_by (λ t. t.g) ts) BadValues
+    ∷ test (nat_le bytes room) ShortOutput
+    ∷ []
+
+abbrev pub reception_tests : (bytes : ℕ) → List Transmission → Receiver → (values room : ℕ) → List Test
+reception_tests bytes ts r values room =
+    length_test bytes
+    ∷ test (is_from 1 8 (length ts)) BadCount
+    ∷ flat_map transmission_tests ts
+    ++ receiver_tests bytes ts r values room
+
+-- soft values of so many bits, which stand in so many bytes, with room for so many values
+abbrev pub noise_tests : (bits bytes : ℕ) → Channel → (number room : ℕ) → List Test
+noise_tests bits bytes c number room =
+    test (nat_le (byte_count bits) bytes) BadBits
+    ∷ test (is_from 1 127 c.amp) BadAmp
+    ∷ test (nat_le c.noise 127) BadNoise
+    ∷ test (nat_le number 7) BadNumber
+    ∷ test (nat_le bits room) ShortOutput
+    ∷ []

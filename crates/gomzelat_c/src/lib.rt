@@ -1,0 +1,13 @@
+//! The chain for callers in C, and in whatever calls C: codewords, plans, receptions, and a channel with
+//! noise. No function here asks more of its caller than memory behind each pointer. Numbers are tested,
+//! and each refusal has a number of its own.
+#![tactic(auto)]
+
+mod buffers;
+pub mod channel;
+pub mod codewords;
+pub mod plans;
+pub mod receiver;
+pub mod receiving;
+pub mod refusal;
+pub mod transmission;

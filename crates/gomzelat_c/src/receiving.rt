@@ -1,0 +1,185 @@
+//! Receptions.
+ghost use Rattle.std.specs.Prelude.{◌≡◌, ◌≢◌, ◌≤◌, IfOk, OnOk, OnErr, length, map, sum_by};
+ghost use Rattle.std.specs.Result.{result_err};
+ghost use Rattle.lte_bits.specs.Softs.{clamped};
+ghost use Rattle.sender_model.specs.CircularBuffer.{FitsIn};
+ghost use Rattle.sender_model.specs.Segmentation.{plan_of};
+ghost use Rattle.receiver_model.specs.TransportBlocks.{outcome};
+ghost use Rattle.rate_match.specs.Sendings.{common};
+ghost use Rattle.block_receive.specs.Effort.{effort_of};
+ghost use Rattle.block_receive.specs.Receptions.{receptions, value_count};
+ghost use Rattle.gomzelat_c.specs.Receiving.{HasRoom, received, summary, with_payload};
+ghost use Rattle.gomzelat_c.specs.Refusals.{IsDone, IsTold};
+ghost use Rattle.gomzelat_c.specs.Sendings.{limit_in, sendings};
+ghost use Rattle.gomzelat_c.specs.Tests.{first_failed, receiver_tests, reception_tests};
+
+use crate::buffers::{softs_of, write_bytes};
+use crate::receiver::{Outcome, Receiver};
+use crate::refusal::{Refusal, accept, told};
+use crate::transmission::{Transmission, bit_count, buffer_of, sends_of};
+use block_receive::{Effort, receive_alone};
+use lte_bits::NoMemory;
+use rate_match::{Sends, fits_buffer};
+use receiver_model::TbOutcome;
+use segmentation::plan;
+use segmentation::plans::Plan;
+use std::alloc::Global;
+
+/// What is to be received, with everything tested.
+#[derive(Clone, Copy)]
+struct Job {
+    plan: Plan,
+    sends: Sends,
+    effort: Effort,
+}
+
+/// The effort of a receiver for one to eight transmissions of a transport block, from so many soft values
+/// and with room for so many bytes; or what is refused.
+fn effort(
+    plan: &Plan,
+    transmissions: &[Transmission],
+    receiver: &Receiver,
+    values: usize,
+    room: usize,
+) -> Result<Effort, Refusal>
+    requires plan { plan.now ≡ plan_of plan.now.bytes }
+    requires few { length transmissions.now ≤ 8 }
+    ensures refused { result_err result
+        ≡ first_failed (receiver_tests plan.now.bytes transmissions.now receiver.now values room) }
+    ensures effort { IfOk result (λ effort. effort_of effort
+        ≡ record { windows = receiver.now.windows; limit = receiver.now.limit }) }
+    ensures fits { OnOk result (FitsIn (limit_in receiver.now.n_ir) plan.now.c plan.now.k_plus) }
+    ensures values { OnOk result (values ≡ sum_by (λ t. t.g) transmissions.now) }
+    ensures room { OnOk result (plan.now.bytes ≤ room) }
+{
+    accept(
+        fits_buffer(buffer_of(receiver.n_ir), plan),
+        Refusal::BadBuffer,
+    )?;
+    accept((1..=64).contains(&receiver.windows), Refusal::BadWindows)?;
+    accept((1..=16).contains(&receiver.limit), Refusal::BadLimit)?;
+    accept(values == bit_count(transmissions), Refusal::BadValues)?;
+    accept(plan.bytes <= room, Refusal::ShortOutput)?;
+    Ok(Effort {
+        windows: receiver.windows as usize,
+        limit: receiver.limit as usize,
+    })
+}
+
+/// The job of receiving a payload of `bytes` bytes from so many soft values, with room for so many bytes;
+/// or what is refused.
+fn accepted(
+    bytes: usize,
+    transmissions: &[Transmission],
+    receiver: &Receiver,
+    values: usize,
+    room: usize,
+) -> Result<Job, Refusal>
+    ensures refused { result_err result
+        ≡ first_failed (reception_tests bytes transmissions.now receiver.now values room) }
+    ensures plan { IfOk result (λ job. job.plan ≡ plan_of bytes) }
+    ensures sends { IfOk result (λ job. job.sends ≡ sendings (limit_in receiver.now.n_ir) transmissions.now) }
+    ensures effort { IfOk result (λ job. effort_of job.effort
+        ≡ record { windows = receiver.now.windows; limit = receiver.now.limit }) }
+    ensures fits { IfOk result (λ job. FitsIn (common job.sends).limit job.plan.c job.plan.k_plus) }
+    ensures values { IfOk result (λ job. values ≡ value_count job.sends) }
+    ensures room { OnOk result (bytes ≤ room) }
+{
+    let plan = plan(bytes)?;
+    accept((1..=8).contains(&transmissions.len()), Refusal::BadCount)?;
+    let sends = sends_of(transmissions, buffer_of(receiver.n_ir))?;
+    let effort = effort(&plan, transmissions, receiver, values, room)?;
+    Ok(Job {
+        plan,
+        sends,
+        effort,
+    })
+}
+
+/// What the transmissions of a job come to, from their soft values.
+fn outcome_of(alloc: Global, job: &Job, values: &[i8]) -> Result<TbOutcome, NoMemory>
+    requires fits { FitsIn (common job.now.sends).limit job.now.plan.c job.now.plan.k_plus }
+    requires values { length values.now ≡ value_count job.now.sends }
+    ensures { IfOk result (λ o. o ≡ outcome job.now.plan (effort_of job.now.effort)
+        (receptions job.now.sends (map (clamped 127) values.now))) }
+{
+    let softs = softs_of(alloc, values)?;
+    receive_alone(
+        alloc,
+        &job.plan,
+        &job.sends,
+        job.effort.windows,
+        job.effort.limit,
+        softs.as_slice(),
+    )
+}
+
+/// Writes the payload to the front of a buffer, where it was delivered.
+fn write_payload(payload: &mut [u8], outcome: &TbOutcome)
+    requires { HasRoom outcome.now (length payload.old) }
+    ensures { payload.new ≡ with_payload outcome.now payload.old }
+{
+    if let TbOutcome::Delivered { bytes, .. } = outcome {
+        write_bytes(payload, bytes.as_slice());
+    }
+}
+
+fn receive(
+    alloc: Global,
+    bytes: usize,
+    transmissions: &[Transmission],
+    receiver: &Receiver,
+    values: &[i8],
+    payload: &mut [u8],
+    outcome: &mut Outcome,
+) -> Result<(), Refusal>
+    ensures answer { IsDone result (first_failed (reception_tests bytes transmissions.now receiver.now
+        (length values.now) (length payload.old))) }
+    ensures outcome { OnOk result (outcome.new
+        ≡ summary (received bytes transmissions.now receiver.now values.now)) }
+    ensures payload { OnOk result (payload.new
+        ≡ with_payload (received bytes transmissions.now receiver.now values.now) payload.old) }
+    ensures outcome_kept { OnErr result (outcome.new ≡ outcome.old) }
+    ensures payload_kept { OnErr result (payload.new ≡ payload.old) }
+{
+    let job = accepted(bytes, transmissions, receiver, values.len(), payload.len())?;
+    let received = outcome_of(alloc, &job, values)?;
+    write_payload(payload, &received);
+    *outcome = Outcome::of(&received);
+    Ok(())
+}
+
+/// Receives a payload of `bytes` bytes, 1 to 18,722, from one to eight transmissions: `values` has the G
+/// soft values of each, one transmission after the other, where a value above 0 says that its bit is
+/// rather 0. Leaves in `outcome` what they came to, and the payload at the front of `payload`, where it
+/// was delivered; else nothing is changed there. Answers 0, or a `Refusal`'s number, and then nothing is
+/// changed.
+#[unsafe(no_mangle)]
+pub extern "C" fn gomzelat_receive(
+    alloc: Global,
+    bytes: usize,
+    transmissions: &[Transmission],
+    receiver: Receiver,
+    values: &[i8],
+    payload: &mut [u8],
+    outcome: &mut Outcome,
+) -> u32
+    ensures answer { IsTold result (first_failed (reception_tests bytes transmissions.now receiver
+        (length values.now) (length payload.old))) }
+    ensures outcome { result ≡ 0 → outcome.new
+        ≡ summary (received bytes transmissions.now receiver values.now) }
+    ensures payload { result ≡ 0 → payload.new
+        ≡ with_payload (received bytes transmissions.now receiver values.now) payload.old }
+    ensures outcome_kept { result ≢ 0 → outcome.new ≡ outcome.old }
+    ensures payload_kept { result ≢ 0 → payload.new ≡ payload.old }
+{
+    told(receive(
+        alloc,
+        bytes,
+        transmissions,
+        &receiver,
+        values,
+        payload,
+        outcome,
+    ))
+}
