@@ -13,10 +13,11 @@ use Rattle.gomzelat_c.proofs.FirstFailed.{behind_two, is_from_true, none_failed,
 use Rattle.gomzelat_c.proofs.Transmissions.{common_limit}
 use Rattle.gomzelat_c.proofs.receiving.accepted.Goals as goal
 
--- the tests of length and count hold
+-- the tests behind those of length and count
 abbrev left : List Transmission → List Test → List Test
 left ts rest = flat_map transmission_tests ts ++ rest
 
+-- where these two hold
 begun : (bytes : ℕ) (ts : List Transmission) (r : Receiver) (values room : ℕ) → 1 ≤ bytes → bytes ≤ 18722 → 1 ≤ length ts → length ts ≤ 8 →
     first_failed (reception_tests bytes ts r values room) ≡ first_failed (left ts (receiver_tests bytes ts r values room))
 begun bytes ts r values room some few many most =
