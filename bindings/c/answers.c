@@ -127,7 +127,8 @@ static void receptions(void) {
     expect("17 iterations", ONE(((struct gomzelat_receiver){0, 8, 17})), GOMZELAT_BAD_LIMIT);
     expect("no values", RECEIVE(LENGTH, nine, 1, receiver, NULL, 0, NULL, 0), GOMZELAT_BAD_VALUES);
     expect("a value too few", RECEIVE(LENGTH, nine, 1, receiver, values, BITS - 1, payload, 4), GOMZELAT_BAD_VALUES);
-    expect("a value too many", RECEIVE(LENGTH, nine, 2, receiver, values, 2 * BITS + 1, payload, 4), GOMZELAT_BAD_VALUES);
+    expect("a value too many", RECEIVE(LENGTH, nine, 2, receiver, values, 2 * BITS + 1, payload, 4),
+           GOMZELAT_BAD_VALUES);
     expect("no room", RECEIVE(LENGTH, nine, 1, receiver, values, BITS, NULL, 0), GOMZELAT_SHORT_OUTPUT);
     expect("little room", RECEIVE(LENGTH, nine, 1, receiver, values, BITS, payload, 1), GOMZELAT_SHORT_OUTPUT);
     expect_bytes("a payload that is kept", payload, kept, sizeof payload);

@@ -1,14 +1,14 @@
 /* The coding chain of LTE transport blocks, 3GPP TS 36.212 5.1.1 to 5.1.5, with a receiver and a channel: the calls of
  * libgomzelat. They are proved to do what is said here; docs/LIBRARY_C.md says how to build and link.
  *
- * Every call answers a number: GOMZELAT_DONE, or what is refused. All arguments are tested, in the order of the numbers
- * and transmission after transmission, and the first that is refused is told. Then, and where memory runs out, no buffer
- * and no structure of the caller is changed.
+ * Every call answers a number: GOMZELAT_DONE, or what is refused. All arguments are tested, in the order of the
+ * numbers and transmission after transmission, and the first that is refused is told. Then, and where memory runs
+ * out, no buffer and no structure of the caller is changed.
  *
- * A pointer that comes with a length has to lead to so much memory, and may be null where that length is 0. The others
- * must not be null. What a call writes to must not overlap anything else that it is passed. The caller owns all buffers;
- * a call takes working memory by malloc and gives it back before it returns. Nothing is kept from one call to the next,
- * so that several threads may call at once.
+ * A pointer that comes with a length has to lead to so much memory, and may be null where that length is 0. The
+ * others must not be null. What a call writes to must not overlap anything else that it is passed. The caller owns
+ * all buffers; a call takes working memory by malloc and gives it back before it returns. Nothing is kept from one
+ * call to the next, so that several threads may call at once.
  *
  * Bits stand in bytes with the highest bit first. A soft value is a number from -127 to 127, above 0 where its bit is
  * rather 0 and below 0 where it is rather 1; -128 is taken as -127. */
@@ -103,7 +103,8 @@ struct gomzelat_outcome {
  * all checks hold ends it. Leaves in `outcome` what they came to. Where the block was delivered, its bytes are written
  * to `payload`, of `room` bytes, at least `length`; else nothing is written there.
  *
- * `values`, `amount`: the soft values of all transmissions, one transmission after the other, as many as they have bits.
+ * `values`, `amount`: the soft values of all transmissions, one transmission after the other, as many as they have
+ * bits.
  *
  * Refused: BAD_LENGTH, BAD_COUNT, BAD_QM, BAD_NL, BAD_G, BAD_VERSION, BAD_BUFFER, BAD_WINDOWS, BAD_LIMIT, BAD_VALUES,
  * SHORT_OUTPUT. */

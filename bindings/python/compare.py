@@ -8,7 +8,8 @@ import argparse
 import random
 import subprocess
 import sys
-from dataclasses import dataclass
+from collections import Counter
+from dataclasses import dataclass, replace
 
 from gomzelat import Channel, Refused, Transmission, codeword, noisy, payload, receive
 
@@ -64,7 +65,8 @@ def blocks_of(stream: bytes, count: int, size: int) -> list[bytes]:
     return [stream[at + i * size : at + (i + 1) * size] for i in range(count)]
 
 
-def differences(program: str, case: Case) -> list[str]:
+def differences(program: str, case: Case) -> tuple[str, list[str]]:
+    """What the case came to, and what differs."""
     one, count, length = case.transmissions[0], len(case.transmissions), len(case.sent)
     words = [f"tb={length}", f"g={one.g}", f"qm={one.qm}", f"nl={one.nl}", f"nir={case.n_ir}"]
     words.append("rv=" + ",".join(str(it.rv) for it in case.transmissions))
@@ -73,9 +75,10 @@ def differences(program: str, case: Case) -> list[str]:
         codewords, softs = case.soft()
     except Refused as refused:
         # The program wants a buffer that fits each shorter payload too, which need no more.
-        return [] if (refused.number, status) == (7, 2) else [f"refused with {refused.number}, and there {status}"]
+        same = (refused.number, status) == (7, 2)
+        return "refused", [] if same else [f"refused with {refused.number}, and there {status}"]
     if status != 0:
-        return [f"encode ended with {status}: {report}"]
+        return "refused", [f"encode ended with {status}: {report}"]
     found = []
     if blocks_of(hard, count, (one.g + 7) // 8) != codewords:
         found.append("other codewords")
@@ -92,7 +95,7 @@ def differences(program: str, case: Case) -> list[str]:
         found.append(f"told {line!r}, and there {report.splitlines()[0]!r}")
     if out != (told.payload or b"") or (status == 0) != (told.payload is not None):
         found.append("another payload")
-    return found
+    return "failed" if told.payload is None else "delivered", found
 
 
 def main() -> int:
@@ -102,15 +105,16 @@ def main() -> int:
     words.add_argument("--seed", type=int, default=1)
     given = words.parse_args()
     source = random.Random(given.seed)
-    differing = 0
+    ends: Counter[str] = Counter()
     for number in range(given.cases):
         case = drawn(source)
-        for difference in differences(given.program, case):
-            print(f"case {number}, {len(case.sent)} bytes, {case}"[:400])
-            print(f"    {difference}")
-            differing += 1
-    print(f"{given.cases} cases, {differing} differences")
-    return 1 if differing else 0
+        end, found = differences(given.program, case)
+        ends.update([end] + ["differing"] * bool(found))
+        for difference in found:
+            print(f"case {number}: {difference}\n    {len(case.sent)} bytes, {replace(case, sent=b'')}")
+    told = (f"{ends[it]} {it}" for it in ("delivered", "failed", "refused", "differing"))
+    print(f"{given.cases} cases:", ", ".join(told))
+    return 1 if ends["differing"] else 0
 
 
 if __name__ == "__main__":

@@ -1,9 +1,9 @@
 """The share of transport blocks that are delivered, against the noise, for three code rates and for one and two
-transmissions: a table, and with --picture FILE a picture (.svg or .png), for which matplotlib has to be there.
+transmissions: a table, and with --picture FILE an SVG picture.
 
     python3 curve.py --blocks 200 --picture delivered.svg
 
-Blocks of 500 bytes are sent with Q_m = 2 and amplitude 40. The code rate is the payload's bits to those of one
+Blocks of 100 bytes are sent with Q_m = 2 and amplitude 40. The code rate is the payload's bits to those of one
 transmission. The second transmission is redundancy version 2 of the same length.
 """
 
@@ -13,12 +13,13 @@ import sys
 from concurrent.futures import ThreadPoolExecutor
 
 from gomzelat import Channel, Transmission, codeword, noisy, payload, receive
+from picture import svg
 
-LENGTH = 500
+LENGTH = 100
 AMP = 40
 SEED = 1
 # The bits of a transmission, by the code rate of one.
-RATES = {"1/3": 12000, "1/2": 8000, "3/4": 5334}
+RATES = {"1/3": 2400, "1/2": 1600, "3/4": 1066}
 VERSIONS = (0, 2)
 
 
@@ -53,38 +54,20 @@ def table(noises: range, blocks: int) -> dict[str, list[float]]:
     return shares
 
 
-def draw(noises: range, shares: dict[str, list[float]], blocks: int, path: str) -> None:
-    import matplotlib
-
-    matplotlib.use("Agg")
-    from matplotlib import pyplot
-
-    figure, axes = pyplot.subplots(figsize=(7, 4.2), layout="constrained")
-    for at, (name, values) in enumerate(shares.items()):
-        axes.plot(noises, values, color=f"C{at // 2}", linestyle="-" if at % 2 == 0 else "--", marker=".", label=name)
-    axes.set_xlabel(f"noise (standard deviation; the amplitude is {AMP})")
-    axes.set_ylabel("share of transport blocks delivered")
-    axes.set_title(f"{LENGTH} bytes, Q_m = 2, {blocks} blocks a point", fontsize="medium")
-    axes.grid(alpha=0.3)
-    axes.legend(title="code rate")
-    figure.savefig(path, metadata={"Date": None} if path.endswith(".svg") else None)
-
-
 def main() -> int:
     words = argparse.ArgumentParser(description=__doc__, formatter_class=argparse.RawDescriptionHelpFormatter)
     words.add_argument("--blocks", type=int, default=100, help="blocks a point (100)")
-    words.add_argument("--noise", type=int, nargs=3, default=(24, 68, 2), metavar=("FROM", "TO", "STEP"))
-    words.add_argument("--picture", metavar="FILE", help="also drawn as .svg or .png")
+    words.add_argument("--noise", type=int, nargs=3, default=(20, 70, 1), metavar=("FROM", "TO", "STEP"))
+    words.add_argument("--picture", metavar="FILE", help="where an SVG picture is written")
     given = words.parse_args()
     first, last, step = given.noise
     noises = range(first, last + 1, step)
     shares = table(noises, given.blocks)
     if given.picture:
-        try:
-            draw(noises, shares, given.blocks, given.picture)
-        except ModuleNotFoundError as missing:
-            print(f"no picture: {missing}", file=sys.stderr)
-            return 1
+        title = f"{LENGTH} bytes, Q_m = 2, amplitude {AMP}, {given.blocks} blocks a point"
+        below, beside = "noise (its standard deviation)", "share of transport blocks delivered"
+        with open(given.picture, "w", encoding="utf-8") as file:
+            file.write(svg(title, below, beside, noises, shares))
     return 0
 
 

@@ -32,8 +32,8 @@ pub struct Transmission {
     pub rv: u32,
 }
 
-/// How a transport block is cut: the first `c_minus` of the `c` code blocks have `k_minus` bits, the others, `c_plus` of
-/// them, `k_plus`, and `f` fillers stand first in the first one.
+/// How a transport block is cut: the first `c_minus` of the `c` code blocks have `k_minus` bits, the
+/// others, `c_plus` of them, `k_plus`, and `f` fillers stand first in the first one.
 #[repr(C)]
 #[derive(Clone, Copy, Debug, Default, PartialEq, Eq, Hash)]
 pub struct Plan {
@@ -71,8 +71,8 @@ pub enum Outcome {
     },
 }
 
-/// A channel: what its noise comes from; the soft value of a bit 0, 1 to 127, where that of a bit 1 is its negative; and
-/// the noise's standard deviation, nearly, 0 to 127.
+/// A channel: what its noise comes from; the soft value of a bit 0, 1 to 127, where that of a bit 1 is its
+/// negative; and the noise's standard deviation, nearly, 0 to 127.
 #[repr(C)]
 #[derive(Clone, Copy, Debug, PartialEq, Eq, Hash)]
 pub struct Channel {

@@ -2,7 +2,7 @@
 use Rattle.std.specs.Prelude.{ℕ, ℤ, List, take}
 use Rattle.lte_bits.specs.Packing.{unpacked}
 use Rattle.soft_channel.specs.Noise.{noisy}
-pub use Rattle.gomzelat_c.specs.declared.channel.Channel.{Channel}
+use Rattle.gomzelat_c.specs.declared.channel.Channel.{Channel}
 
 -- the soft values of the first so many bits of some bytes, sent as transmission `number` of a block
 abbrev pub noisy_bits : (bits : ℕ) → (bytes : List ℕ) → Channel → (block number : ℕ) → List ℤ

@@ -6,7 +6,7 @@ use Rattle.sender_model.specs.Segmentation.{plan_of}
 use Rattle.rate_match.specs.Matching.{is_g, is_nl, is_qm}
 use Rattle.rate_match.specs.Fitting.{fits_in}
 use Rattle.gomzelat_c.specs.Sendings.{limit_in}
-use Rattle.gomzelat_c.specs.Noise.{Channel}
+use Rattle.gomzelat_c.specs.declared.channel.Channel.{Channel}
 use Rattle.gomzelat_c.specs.declared.receiver.Receiver.{Receiver}
 use Rattle.gomzelat_c.specs.declared.refusal.Refusal.{Refusal}
 use Rattle.gomzelat_c.specs.declared.refusal.Refusal.TheVariants.{BadLength, BadCount, BadQm, BadNl, BadG, BadVersion, BadBuffer, BadWindows, BadLimit, BadValues, BadBits, BadAmp, BadNoise, BadNumber, ShortOutput}

@@ -1,4 +1,4 @@
-use Rattle.std.proofs.Common.{◌≡◌, ℕ, ◌≤◌, List, ◌++◌, length, flat_map, rules, sym, subst, ap, ◌∙◌}
+use Rattle.std.proofs.Common.{◌≡◌, ℕ, ◌≤◌, List, ◌++◌, None, length, flat_map, rules, sym, subst, ap, ◌∙◌}
 use Rattle.std.specs.declared.option.Option.{Option}
 use Rattle.sender_model.specs.CircularBuffer.{FitsIn}
 use Rattle.rate_match.specs.Matching.{limit_of}
@@ -13,10 +13,11 @@ use Rattle.gomzelat_c.proofs.FirstFailed.{behind_two, is_from_true, none_failed,
 use Rattle.gomzelat_c.proofs.Transmissions.{common_limit}
 use Rattle.gomzelat_c.proofs.receiving.accepted.Goals as goal
 
--- the tests of length and count hold
+-- the tests behind those of length and count
 abbrev left : List Transmission → List Test → List Test
 left ts rest = flat_map transmission_tests ts ++ rest
 
+-- where these two hold
 begun : (bytes : ℕ) (ts : List Transmission) (r : Receiver) (values room : ℕ) → 1 ≤ bytes → bytes ≤ 18722 → 1 ≤ length ts → length ts ≤ 8 →
     first_failed (reception_tests bytes ts r values room) ≡ first_failed (left ts (receiver_tests bytes ts r values room))
 begun bytes ts r values room some few many most =
@@ -32,25 +33,27 @@ returns-in_err-sends-clause-refused c =
     ∙ sym (begun c.args.bytes ts c.args.receiver.now c.args.values c.args.room (search rules) (search rules) (search rules) (search rules)
     ∙ one_failed (flat_map transmission_tests ts) tests r (sym c.in_err-sends.ensures.refused))
 
+-- where the transmissions are accepted too, for a plan of so many bytes
+behind_sends : (bytes planned : ℕ) (ts : List Transmission) (r : Receiver) (values room : ℕ) → 1 ≤ bytes → bytes ≤ 18722 → 1 ≤ length ts → length ts ≤ 8 →
+    planned ≡ bytes → None ≡ first_failed (flat_map transmission_tests ts) →
+    first_failed (receiver_tests planned ts r values room) ≡ first_failed (reception_tests bytes ts r values room)
+behind_sends bytes planned ts r values room some few many most same none =
+    ap (λ (n : ℕ). first_failed (receiver_tests n ts r values room)) same
+    ∙ sym (begun bytes ts r values room some few many most
+    ∙ none_failed (flat_map transmission_tests ts) (receiver_tests bytes ts r values room) (sym none))
+
 pub returns-in_err-effort-clause-refused : goal.returns-in_err-effort-clause-refused
 returns-in_err-effort-clause-refused c =
-    let ts = c.args.transmissions.now in
-    let r = c.in_err-effort.field-0.0 in
-    let tests : ℕ → List Test = λ n. receiver_tests n ts c.args.receiver.now c.args.values c.args.room in
-    handed_on c.from_residual-in_err-effort.result r c.from_residual-in_err-effort.ensures.1
+    handed_on c.from_residual-in_err-effort.result c.in_err-effort.field-0.0 c.from_residual-in_err-effort.ensures.1
     ∙ c.in_err-effort.ensures.refused
-    ∙ ap (λ n. first_failed (tests n)) c.in_ok-plan.ensures.bytes
-    ∙ sym (begun c.args.bytes ts c.args.receiver.now c.args.values c.args.room (search rules) (search rules) (search rules) (search rules)
-    ∙ none_failed (flat_map transmission_tests ts) (tests c.args.bytes) (sym c.in_ok-sends.ensures.refused))
+    ∙ behind_sends c.args.bytes c.in_ok-plan.plan.bytes c.args.transmissions.now c.args.receiver.now c.args.values c.args.room
+    (search rules) (search rules) (search rules) (search rules) c.in_ok-plan.ensures.bytes c.in_ok-sends.ensures.refused
 
 pub returns-clause-refused : goal.returns-clause-refused
 returns-clause-refused c =
-    let ts = c.args.transmissions.now in
-    let tests : ℕ → List Test = λ n. receiver_tests n ts c.args.receiver.now c.args.values c.args.room in
     c.in_ok-effort.ensures.refused
-    ∙ ap (λ n. first_failed (tests n)) c.in_ok-plan.ensures.bytes
-    ∙ sym (begun c.args.bytes ts c.args.receiver.now c.args.values c.args.room (search rules) (search rules) (search rules) (search rules)
-    ∙ none_failed (flat_map transmission_tests ts) (tests c.args.bytes) (sym c.in_ok-sends.ensures.refused))
+    ∙ behind_sends c.args.bytes c.in_ok-plan.plan.bytes c.args.transmissions.now c.args.receiver.now c.args.values c.args.room
+    (search rules) (search rules) (search rules) (search rules) c.in_ok-plan.ensures.bytes c.in_ok-sends.ensures.refused
 
 pub returns-clause-fits : goal.returns-clause-fits
 returns-clause-fits c =
