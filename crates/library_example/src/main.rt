@@ -16,7 +16,11 @@ fn main(rt: HostRuntime) -> Result<ExitCode, Fault> {
     match transfer(rt.alloc(), TEXT)? {
         TbOutcome::Delivered { bytes, .. } => {
             let same = bytes.as_slice() == TEXT;
-            println!(rt; "delivered {} bytes, as they were sent: {}", bytes.as_slice().len(), same)?;
+            println!(rt;
+                "delivered {} bytes, as they were sent: {}",
+                bytes.as_slice().len(),
+                same
+            )?;
             Ok(ExitCode::SUCCESS)
         }
         TbOutcome::Failed { transmissions, .. } => {

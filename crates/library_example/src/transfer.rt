@@ -12,7 +12,9 @@ use std::alloc::Global;
 
 /// How a bit is received: 40 for a 0 and -40 for a 1, with noise of deviation 20, drawn from a seed.
 const AMP: u8 = 40;
+
 const NOISE: u8 = 20;
+
 const SEED: u64 = 1;
 
 /// The soft values that come of transmission `number`, which sends redundancy version `rv`.

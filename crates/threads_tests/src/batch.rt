@@ -68,7 +68,8 @@ fn five_blocks_are_delivered_in_their_order(rt: HostRuntime) -> Result<(), Fail>
     let mut report = Vec::new(rt.alloc());
     for n in 0..5u8 {
         let line = format!(in rt.alloc();
-            "block {n} delivered bytes 2 transmissions 1 iterations 1\n")?;
+            "block {n} delivered bytes 2 transmissions 1 iterations 1\n"
+        )?;
         report.extend_from_slice(line.as_bytes())?;
     }
     report.extend_from_slice(b"end blocks 5 delivered 5 failed 0\n")?;
