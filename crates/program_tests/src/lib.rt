@@ -10,4 +10,6 @@ mod headers;
 #[cfg(test)]
 mod streams;
 #[cfg(test)]
+mod word_refusals;
+#[cfg(test)]
 mod words;
