@@ -53,6 +53,7 @@ fn workers_keep_blocks_that_passed(rt: HostRuntime) -> Result<(), Fail> {
     ];
     for (zeros, behind, later, iterations) in rows {
         for workers in [1usize, 4] {
+            assert!(rt; 1 <= workers && workers <= 16);
             let bits = zeros_and_one(rt.alloc(), zeros, behind)?;
             let mut softs = Vec::new(rt.alloc());
             push_stretches(&mut softs, &[100])?;
