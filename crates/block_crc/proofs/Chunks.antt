@@ -5,7 +5,7 @@ use Rattle.std.proofs.lemmas.List.{take-append-drop, drop-drop}
 use Rattle.lte_bits.proofs.Chunks.{chunk-at}
 use Rattle.lte_bits.specs.Bits.{digit}
 use Rattle.lte_bits.specs.declared.bit.Bit.{Bit}
-use Rattle.sender_model.specs.CheckBits.{reduced, remainder}
+use Rattle.model_sender.specs.CheckBits.{reduced, remainder}
 
 remainder-append : (g : ℕ) (xs ys : List Bit) (r : ℕ) → remainder g r (xs ++ ys) ≡ remainder g (remainder g r xs) ys
 remainder-append g [] ys r = refl

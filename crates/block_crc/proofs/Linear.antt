@@ -8,10 +8,10 @@ use Rattle.std.proofs.Math.Nat.{pow-suc, mul-le-mul_left}
 use Rattle.lte_bits.specs.Bits.{digit, number}
 use Rattle.lte_bits.specs.declared.bit.Bit.{Bit}
 use Rattle.lte_bits.specs.declared.bit.Bit.TheVariants.{Zero}
-use Rattle.sender_model.specs.CheckBits.{IsMonic, reduced, remainder}
-use Rattle.sender_model.proofs.BitNumbers.{digit-lt}
-use Rattle.sender_model.proofs.Division.{xor-cancel, falls}
-use Rattle.sender_model.proofs.CheckBitLaws.{reduced-small}
+use Rattle.model_sender.specs.CheckBits.{IsMonic, reduced, remainder}
+use Rattle.model_sender.proofs.BitNumbers.{digit-lt}
+use Rattle.model_sender.proofs.Division.{xor-cancel, falls}
+use Rattle.model_sender.proofs.CheckBitLaws.{reduced-small}
 use Rattle.block_crc.specs.Table.{top_remainder, is_table_from, is_table}
 
 -- a polynomial of degree 24 keeps that degree when a lower one is added

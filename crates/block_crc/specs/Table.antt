@@ -1,7 +1,7 @@
 -- A table of remainders, by which eight bits are divided at once.
 use Rattle.std.specs.Prelude.{ℕ, suc, ◌*◌, ◌^◌, Bool, ◌&&◌, ◌==◌, List, [], ◌∷◌, replicate}
 use Rattle.lte_bits.specs.declared.bit.Bit.TheVariants.{Zero}
-use Rattle.sender_model.specs.CheckBits.{remainder}
+use Rattle.model_sender.specs.CheckBits.{remainder}
 
 -- t D^24, modulo g
 abbrev pub top_remainder : ℕ → ℕ → ℕ

@@ -1,7 +1,7 @@
 //! Division by a generator, byte by byte.
 ghost use Rattle.std.specs.Prelude.{◌≡◌, ◌%◌, ◌^◌, ◌<◌, ◌↔◌, IsTrue, length};
 ghost use Rattle.lte_bits.specs.Bits.{digit, number};
-ghost use Rattle.sender_model.specs.CheckBits.{IsCrc, IsMonic, IsMultiple, crc, reduced, remainder};
+ghost use Rattle.model_sender.specs.CheckBits.{IsCrc, IsMonic, IsMultiple, crc, reduced, remainder};
 ghost use Rattle.block_crc.specs.Table.{is_table};
 
 use crate::tables::{REMAINDERS_A, REMAINDERS_B};
@@ -31,7 +31,7 @@ impl Generator {
     };
 
     /// A polynomial of degree 24 at most, modulo the generator.
-    #[tactic(auto, using(sender_model::proofs::Division::falls))]
+    #[tactic(auto, using(model_sender::proofs::Division::falls))]
     fn reduced(&self, t: u32) -> u32
         requires { t < 2 ^ 25 }
         ensures value { result ≡ reduced self.now.coefficients t }

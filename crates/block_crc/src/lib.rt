@@ -2,7 +2,7 @@
 #![tactic(auto)]
 
 ghost use Rattle.std.specs.Prelude.{◌≡◌, ◌↔◌, IsTrue, length};
-ghost use Rattle.sender_model.specs.CheckBits.{IsCrc, IsMultiple, crc, crc24a, crc24b};
+ghost use Rattle.model_sender.specs.CheckBits.{IsCrc, IsMultiple, crc, crc24a, crc24b};
 
 mod generator;
 mod tables;

@@ -3,11 +3,11 @@ use Rattle.std.proofs.Common.{◌≡◌, ℕ, zero, suc, ◌<◌, ◌≤◌, Boo
 use Rattle.std.specs.Prelude.{Option, None, Some, IfSome, unwrap_or}
 use Rattle.std.proofs.Math.ListN as lists
 use Rattle.std.proofs.lemmas.List.FromFn.{get_or-map-range_with_len, length-map-range_with_len}
-use Rattle.sender_model.specs.Segmentation.{Plan, size, fill}
-use Rattle.receiver_model.specs.declared.result.CodeResult.{CodeResult}
-use Rattle.receiver_model.specs.SoftCells.{Reception, soft_streams}
-use Rattle.receiver_model.specs.TransportBlocks.{Effort, Held, all_passed, block_result, block_shape, held_after, if_passed, results_in, tried, tried_block}
-use Rattle.receiver_model.proofs.DecodedOnce.{decoded-is}
+use Rattle.model_sender.specs.Segmentation.{Plan, size, fill}
+use Rattle.model_receiver.specs.declared.result.CodeResult.{CodeResult}
+use Rattle.model_receiver.specs.SoftCells.{Reception, soft_streams}
+use Rattle.model_receiver.specs.TransportBlocks.{Effort, Held, all_passed, block_result, block_shape, held_after, if_passed, results_in, tried, tried_block}
+use Rattle.model_receiver.proofs.DecodedOnce.{decoded-is}
 use Rattle.block_receive.proofs.StreamLengths.{bits-long}
 
 -- a result of block r

@@ -2,15 +2,15 @@
 use Rattle.std.proofs.Common.{◌≡◌, ℕ, ◌*◌, ◌<◌, ◌≤◌, Contains, sym, ap, ◌∙◌, subst, arith}
 use Prim.Native.Nat.{◌∣◌}
 use Rattle.std.proofs.lemmas.Nat.Gcd.{dvd_of_mod-eq-zero}
-use Rattle.sender_model.specs.Interleaver.{sizes}
-use Rattle.sender_model.specs.Segmentation.{Plan, size, fill}
-use Rattle.sender_model.proofs.RowLaws.{range-of_size}
+use Rattle.model_sender.specs.Interleaver.{sizes}
+use Rattle.model_sender.specs.Segmentation.{Plan, size, fill}
+use Rattle.model_sender.proofs.RowLaws.{range-of_size}
 use Rattle.segmentation.specs.Plans.{IsPlan}
 use Rattle.rate_match.proofs.BlockNumbers.{block-numbers}
-use Rattle.receiver_model.specs.declared.result.CheckKind.{CheckKind}
-use Rattle.receiver_model.specs.HalfIteration.{IsShape, shape_of}
-use Rattle.receiver_model.specs.TransportBlocks.{block_shape, check_kind, window_count}
-use Rattle.receiver_model.proofs.WindowCounts.{count-is}
+use Rattle.model_receiver.specs.declared.result.CheckKind.{CheckKind}
+use Rattle.model_receiver.specs.HalfIteration.{IsShape, shape_of}
+use Rattle.model_receiver.specs.TransportBlocks.{block_shape, check_kind, window_count}
+use Rattle.model_receiver.proofs.WindowCounts.{count-is}
 use Rattle.block_receive.specs.declared.task.Task.{Task}
 use Rattle.block_receive.specs.Effort.{effort_in}
 

@@ -2,12 +2,12 @@
 use Rattle.std.proofs.Common.{◌≡◌, ℕ, suc, ◌+◌, ◌<◌, ◌≤◌, Bool, true, false, List, length, sym, ap, ◌∙◌, inl, inr, arith}
 use Rattle.std.proofs.lemmas.Bool.{cases_lt}
 use Rattle.std.specs.Prelude.{None, Some}
-use Rattle.sender_model.specs.Segmentation.{Plan}
-use Rattle.receiver_model.specs.declared.result.TbOutcome.TheVariants.{Delivered, Failed}
-use Rattle.receiver_model.specs.SoftCells.{Reception}
-use Rattle.receiver_model.specs.TransportBlocks.{Effort, delivering_try, delivers, iterations_of, outcome, outcome_in, payload_of, results_in}
-use Rattle.receiver_model.proofs.FirstOfRange.{first}
-use Rattle.receiver_model.proofs.Tries.{first-delivers}
+use Rattle.model_sender.specs.Segmentation.{Plan}
+use Rattle.model_receiver.specs.declared.result.TbOutcome.TheVariants.{Delivered, Failed}
+use Rattle.model_receiver.specs.SoftCells.{Reception}
+use Rattle.model_receiver.specs.TransportBlocks.{Effort, delivering_try, delivers, iterations_of, outcome, outcome_in, payload_of, results_in}
+use Rattle.model_receiver.proofs.FirstOfRange.{first}
+use Rattle.model_receiver.proofs.Tries.{first-delivers}
 
 -- none of the first n tries delivers
 abbrev pub NoneDelivers : Plan → Effort → List Reception → ℕ → Type 0

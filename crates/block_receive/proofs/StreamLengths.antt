@@ -4,8 +4,8 @@ use Rattle.std.proofs.lemmas.List.{length-append, length-drop, length-map, lengt
 use Rattle.std.proofs.lemmas.List.FromFn.{length-map-range_with_len}
 use Rattle.lte_bits.specs.declared.bit.Bit.TheVariants.{Zero}
 use Rattle.lte_bits.specs.declared.block.SoftStreams.{SoftStreams}
-use Rattle.receiver_model.specs.HalfIteration.{Shape}
-use Rattle.receiver_model.specs.Decoding.{before, decided_bit, decided_in}
+use Rattle.model_receiver.specs.HalfIteration.{Shape}
+use Rattle.model_receiver.specs.Decoding.{before, decided_bit, decided_in}
 use Rattle.soft_buffers.specs.Buffers.{cell_of, cells_of_stream, streams_of_cells}
 
 -- the first n values replaced

@@ -6,7 +6,7 @@ use Rattle.std.proofs.lemmas.List.{drop-drop, drop_more, length-drop}
 use Rattle.std.proofs.lemmas.List.Sums.{sum_by-cons}
 use Rattle.std.proofs.lemmas.Option.{get_or_from_slice_get, slice_get_within}
 use Rattle.rate_match.specs.declared.sends.Sending.{Sending}
-use Rattle.receiver_model.specs.SoftCells.{Reception, reception}
+use Rattle.model_receiver.specs.SoftCells.{Reception, reception}
 use Rattle.soft_buffers.specs.Buffers.{Buffers, Hold}
 use Rattle.block_receive.specs.Receptions.{receptions, value_count}
 

@@ -3,8 +3,8 @@ use Rattle.std.proofs.Common.{◌≡◌, ℕ, ◌+◌, [], ◌∷◌, length, dr
 use Rattle.std.specs.Prelude.{Option, None, Some, MatchOption}
 use Rattle.std.specs.Option.{option_flatten}
 use Rattle.std.proofs.lemmas.List.{drop-drop, get_or-drop}
-use Rattle.receiver_model.specs.declared.result.CodeResult.{CodeResult}
-use Rattle.receiver_model.specs.TransportBlocks.{Held}
+use Rattle.model_receiver.specs.declared.result.CodeResult.{CodeResult}
+use Rattle.model_receiver.specs.TransportBlocks.{Held}
 
 -- what was drawn from the front of the results that are left, and what is left after it
 pub record IsDrawn (left after : Held) (o : Option (Option CodeResult)) : Type 0 where

@@ -4,16 +4,16 @@ use Rattle.std.specs.Prelude.{Some, ◌&&◌, slice_get}
 use Rattle.std.proofs.lemmas.List.{get_or_default, get_or-map, length-map}
 use Rattle.std.proofs.lemmas.List.FromFn.{fill_by_all}
 use Rattle.lte_bits.specs.declared.block.Block.{Block}
-use Rattle.sender_model.specs.Segmentation.{Plan, size, fill}
+use Rattle.model_sender.specs.Segmentation.{Plan, size, fill}
 use Rattle.segmentation.specs.Plans.{IsPlan}
 use Rattle.segmentation.specs.Shape.{AreBlocksOf}
 use Rattle.segmentation.proofs.OfPlans.{sound-plan}
 use Rattle.rate_match.proofs.BlockNumbers.{block-numbers}
-use Rattle.receiver_model.specs.declared.result.CheckKind.TheVariants.{A}
-use Rattle.receiver_model.specs.declared.result.CodeResult.{CodeResult}
-use Rattle.receiver_model.specs.SoftCells.{Reception, reception}
-use Rattle.receiver_model.specs.Decoding.{check_holds}
-use Rattle.receiver_model.specs.TransportBlocks.{Effort, Held, all_passed, delivers, held_after, if_passed, results_in, tried, whole_of}
+use Rattle.model_receiver.specs.declared.result.CheckKind.TheVariants.{A}
+use Rattle.model_receiver.specs.declared.result.CodeResult.{CodeResult}
+use Rattle.model_receiver.specs.SoftCells.{Reception, reception}
+use Rattle.model_receiver.specs.Decoding.{check_holds}
+use Rattle.model_receiver.specs.TransportBlocks.{Effort, Held, all_passed, delivers, held_after, if_passed, results_in, tried, whole_of}
 use Rattle.rate_match.specs.declared.sends.Sending.{Sending}
 use Rattle.soft_buffers.specs.Buffers.{Buffers, Hold}
 use Rattle.block_receive.specs.Receptions.{receptions}

@@ -2,9 +2,9 @@
 use Rattle.std.specs.Prelude.{◌≡◌, Result, IfOk}
 use Rattle.std.specs.Borrow.{Bor}
 use Rattle.lte_bits.specs.declared.block.SoftStreams.{SoftStreams}
-use Rattle.receiver_model.specs.HalfIteration.{Shape}
-use Rattle.receiver_model.specs.declared.result.CodeResult.{CodeResult}
-use Rattle.receiver_model.specs.Decoding.{code_result}
+use Rattle.model_receiver.specs.HalfIteration.{Shape}
+use Rattle.model_receiver.specs.declared.result.CodeResult.{CodeResult}
+use Rattle.model_receiver.specs.Decoding.{code_result}
 use Rattle.serial_decode.specs.Views.{AreStreams}
 
 -- it may be called with the soft values of a code block of a shape

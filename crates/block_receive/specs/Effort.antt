@@ -1,5 +1,5 @@
 -- What contracts see of the effort of a `Task`.
-use Rattle.receiver_model.specs.TransportBlocks.{Effort}
+use Rattle.model_receiver.specs.TransportBlocks.{Effort}
 use Rattle.block_receive.specs.declared.task.Effort as rust
 use Rattle.block_receive.specs.declared.task.Task.{Task}
 

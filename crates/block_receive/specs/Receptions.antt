@@ -1,7 +1,7 @@
 -- What came of the transmissions of a transport block, from one list of soft values.
 use Rattle.std.specs.Prelude.{ℕ, ℤ, List, [], ◌∷◌, take, drop, sum_by}
 use Rattle.rate_match.specs.declared.sends.Sending.{Sending}
-use Rattle.receiver_model.specs.SoftCells.{Reception, reception}
+use Rattle.model_receiver.specs.SoftCells.{Reception, reception}
 
 -- the soft values of all transmissions: G of each
 abbrev pub value_count : List Sending → ℕ

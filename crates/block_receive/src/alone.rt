@@ -1,6 +1,6 @@
 //! A code block decoded on one thread.
 ghost use Rattle.std.specs.Prelude.{◌≡◌, IfOk};
-ghost use Rattle.receiver_model.specs.Decoding.{code_result};
+ghost use Rattle.model_receiver.specs.Decoding.{code_result};
 ghost use Rattle.serial_decode.specs.Views.{AreStreams};
 
 use crate::tries::Decoded;

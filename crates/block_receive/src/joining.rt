@@ -1,7 +1,7 @@
 //! The payload of code blocks that were decoded.
 ghost use Rattle.std.specs.Prelude.{◌≡◌, ◌↔◌, IfOk, IsTrue, map};
-ghost use Rattle.sender_model.specs.CheckBits.{IsMultiple, crc24a};
-ghost use Rattle.receiver_model.specs.TransportBlocks.{payload_of, whole_of};
+ghost use Rattle.model_sender.specs.CheckBits.{IsMultiple, crc24a};
+ghost use Rattle.model_receiver.specs.TransportBlocks.{payload_of, whole_of};
 ghost use Rattle.segmentation.specs.Shape.{AreBlocksOf};
 
 use lte_bits::{Block, NoMemory};

@@ -9,7 +9,7 @@ mod shared;
 mod task;
 mod tries;
 
-pub use receiver_model::TbOutcome;
+pub use model_receiver::TbOutcome;
 pub use receiving::{receive, receive_alone};
 pub use shared::receive_shared;
 pub use task::{Effort, Task};

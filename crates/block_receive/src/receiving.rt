@@ -1,9 +1,9 @@
 //! The transmissions of a transport block, one after the other.
 ghost use Rattle.std.specs.Prelude.{◌≡◌, ◌≤◌, IfOk, length};
-ghost use Rattle.sender_model.specs.CircularBuffer.{FitsIn};
+ghost use Rattle.model_sender.specs.CircularBuffer.{FitsIn};
 ghost use Rattle.rate_match.specs.Sendings.{common};
-ghost use Rattle.receiver_model.specs.Decoding.{code_result};
-ghost use Rattle.receiver_model.specs.TransportBlocks.{outcome};
+ghost use Rattle.model_receiver.specs.Decoding.{code_result};
+ghost use Rattle.model_receiver.specs.TransportBlocks.{outcome};
 ghost use Rattle.serial_decode.specs.Views.{AreStreams};
 ghost use Rattle.block_receive.specs.Decoders.{GivesResults, TakesBlocks};
 ghost use Rattle.block_receive.specs.Effort.{effort_in};
@@ -14,8 +14,8 @@ use crate::joining::join;
 use crate::task::{Effort, Task};
 use crate::tries::{Decoded, all_passed, hold_passed, total_iterations, try_blocks};
 use lte_bits::{NoMemory, Soft, SoftStreams};
+use model_receiver::TbOutcome;
 use rate_match::Sends;
-use receiver_model::TbOutcome;
 use segmentation::plans::Plan;
 use soft_buffers::HarqBuffers;
 use std::alloc::Global;

@@ -1,6 +1,6 @@
 //! The shapes in which code blocks are decoded.
 ghost use Rattle.std.specs.Prelude.{◌≡◌, ◌<◌};
-ghost use Rattle.receiver_model.specs.TransportBlocks.{block_shape, check_kind};
+ghost use Rattle.model_receiver.specs.TransportBlocks.{block_shape, check_kind};
 ghost use Rattle.segmentation.specs.Plans.{IsPlan};
 ghost use Rattle.block_receive.specs.Effort.{effort_in};
 

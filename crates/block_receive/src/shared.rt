@@ -1,9 +1,9 @@
 //! Reception with several workers.
 ghost use Rattle.std.specs.Prelude.{◌≡◌, ◌≤◌, IfOk, length};
-ghost use Rattle.sender_model.specs.CircularBuffer.{FitsIn};
+ghost use Rattle.model_sender.specs.CircularBuffer.{FitsIn};
 ghost use Rattle.rate_match.specs.Sendings.{common};
-ghost use Rattle.receiver_model.specs.Decoding.{code_result};
-ghost use Rattle.receiver_model.specs.TransportBlocks.{outcome};
+ghost use Rattle.model_receiver.specs.Decoding.{code_result};
+ghost use Rattle.model_receiver.specs.TransportBlocks.{outcome};
 ghost use Rattle.serial_decode.specs.Views.{AreStreams};
 ghost use Rattle.block_receive.specs.Receptions.{receptions, value_count};
 
@@ -11,8 +11,8 @@ use crate::receiving::receive;
 use crate::task::{Effort, Task};
 use crate::tries::Decoded;
 use lte_bits::{NoMemory, Soft, SoftStreams};
+use model_receiver::TbOutcome;
 use rate_match::Sends;
-use receiver_model::TbOutcome;
 use segmentation::plans::Plan;
 use std::alloc::Global;
 use std::sync::Wait;

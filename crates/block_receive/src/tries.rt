@@ -1,7 +1,7 @@
 //! One try: what is held is taken, and the other code blocks are decoded.
 ghost use Rattle.std.specs.Prelude.{◌≡◌, ℕ, ◌≤◌, ◌<◌, List, All, IfOk, length, map};
-ghost use Rattle.receiver_model.specs.SoftCells.{Reception};
-ghost use Rattle.receiver_model.specs.TransportBlocks.{all_passed, block_result, if_passed, iterations_of, tried};
+ghost use Rattle.model_receiver.specs.SoftCells.{Reception};
+ghost use Rattle.model_receiver.specs.TransportBlocks.{all_passed, block_result, if_passed, iterations_of, tried};
 ghost use Rattle.segmentation.specs.Plans.{IsPlan};
 ghost use Rattle.soft_buffers.specs.Buffers.{Hold};
 ghost use Rattle.block_receive.specs.Decoders.{GivesResults, TakesBlocks};

@@ -4,7 +4,7 @@ use Prim.Native.Nat.{◌∣◌}
 use lib.ListN.{take, drop}
 use Rattle.std.specs.List.{range_with_len}
 use Rattle.std.proofs.lemmas.List.FromFn.{get_or-map-range_with_len, length-map-range_with_len}
-use Rattle.sender_model.specs.InterleaverLaws.{window_place_below}
+use Rattle.model_sender.specs.InterleaverLaws.{window_place_below}
 use Rattle.cell_shares.specs.Deal.{share_places, values_at, deal}
 use Rattle.cell_shares.specs.Orders.{place_in, IsOrderOf}
 use Rattle.cell_shares.specs.declared.order.Order.{Order}

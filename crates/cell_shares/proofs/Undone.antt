@@ -4,7 +4,7 @@ use Prim.Native.Nat.{◌∣◌}
 use lib.ListN.{take, drop}
 use Rattle.std.specs.List.{range_with_len, flat_map}
 use Rattle.std.proofs.lemmas.List.{append_assoc}
-use Rattle.sender_model.specs.InterleaverLaws.{windows-whole}
+use Rattle.model_sender.specs.InterleaverLaws.{windows-whole}
 use Rattle.cell_shares.specs.Deal.{share_places, values_at, deal}
 use Rattle.cell_shares.specs.Orders.{place_in, order_places, IsOrderOf}
 use Rattle.cell_shares.specs.Parts.{numbered, places, values}

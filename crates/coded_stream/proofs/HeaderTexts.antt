@@ -3,7 +3,7 @@ use Rattle.std.proofs.Common.{◌≡◌, ℕ, zero, suc, ◌+◌, ◌*◌, ◌^�
 use Rattle.std.specs.declared.option.Option.{Option}
 use Rattle.std.proofs.lemmas.Bool.{and_parts, and_from, le-leb, leb-true, eq-eqb}
 use Rattle.std.proofs.lemmas.Nat.{from_be_bytes-to_be_bytes_2, from_be_bytes-to_be_bytes_4}
-use Rattle.sender_model.specs.CircularBuffer.{Match}
+use Rattle.model_sender.specs.CircularBuffer.{Match}
 use Rattle.rate_match.specs.Matching.{IsMatch, is_qm, is_nl, is_g}
 use Rattle.rate_match.specs.Sendings.{common}
 use Rattle.rate_match.specs.Fitting.{fits_all}

@@ -1,7 +1,7 @@
 -- Bounds of the sizes of transmissions.
 use Rattle.std.proofs.Common.{ℕ, ◌*◌, ◌%◌, ◌≤◌, ◌&&◌, nat_le, ◌==◌, arith}
 use Rattle.std.proofs.lemmas.Bool.{and_parts, leb-true}
-use Rattle.sender_model.specs.CircularBuffer.{Match}
+use Rattle.model_sender.specs.CircularBuffer.{Match}
 use Rattle.rate_match.specs.Matching.{IsMatch}
 use Rattle.coded_stream.specs.Blocks.{transmission_size}
 use Rattle.coded_stream.specs.declared.kind.Kind.{Kind}

@@ -2,7 +2,7 @@
 -- of place.
 use Rattle.std.specs.Prelude.{ℕ, zero, suc, ◌+◌, ◌*◌, Bool, ◌&&◌, ◌||◌, nat_le, nat_lt, ◌==◌, if◌then◌else◌, List, [], ◌∷◌, ◌++◌, length, take, drop, slice_index, Some, None}
 use Rattle.std.specs.declared.option.Option.{Option}
-use Rattle.sender_model.specs.CircularBuffer.{Match}
+use Rattle.model_sender.specs.CircularBuffer.{Match}
 use Rattle.rate_match.specs.Matching.{is_qm, is_nl, is_g}
 use Rattle.rate_match.specs.Fitting.{fits_all}
 use Rattle.rate_match.specs.declared.sends.Sending.{Sending}

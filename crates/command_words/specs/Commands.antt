@@ -4,7 +4,7 @@ use Rattle.std.specs.Prelude.{ℕ, ◌*◌, List, [], if◌then◌else◌, Some,
 use Rattle.std.specs.Option.{ok_or}
 use Rattle.std.specs.declared.option.Option.{Option}
 use Rattle.std.specs.declared.result.Result.{Result}
-use Rattle.sender_model.specs.CircularBuffer.{Match}
+use Rattle.model_sender.specs.CircularBuffer.{Match}
 use Rattle.rate_match.specs.Matching.{is_g}
 use Rattle.command_words.specs.Blocks.{asked_of, blocks_given}
 use Rattle.command_words.specs.Operands.{first_fault, given, number_given, only}

@@ -1,7 +1,7 @@
 //! Blocks encoded for a time.
 ghost use Rattle.std.specs.Prelude.{◌≡◌, IfOk};
-ghost use Rattle.sender_model.specs.Codeword.{codeword};
-ghost use Rattle.sender_model.specs.CodedStreams.{streams};
+ghost use Rattle.model_sender.specs.Codeword.{codeword};
+ghost use Rattle.model_sender.specs.CodedStreams.{streams};
 ghost use Rattle.encode_speed.specs.Sample.{matching, sample, sample_payload};
 
 use crate::fault::Fault;

@@ -1,6 +1,6 @@
 //! The code block and the transport block that are encoded.
 ghost use Rattle.std.specs.Prelude.{◌≡◌, ◌≤◌, ◌<◌, IfOk, length};
-ghost use Rattle.sender_model.specs.CircularBuffer.{Match};
+ghost use Rattle.model_sender.specs.CircularBuffer.{Match};
 ghost use Rattle.encode_speed.specs.Sample.{matching, sample, sample_bit, sample_byte, sample_payload};
 
 use lte_bits::{Bit, Block, List, NoMemory};

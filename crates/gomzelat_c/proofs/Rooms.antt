@@ -1,12 +1,12 @@
 -- A payload that is delivered has no more bytes than were told.
 use Rattle.std.proofs.Common.{◌≡◌, ℕ, ◌*◌, ◌≤◌, Bool, true, false, if◌then◌else◌, List, [], ◌∷◌, ◌++◌, length, take, refl, arith}
 use Rattle.std.proofs.lemmas.List.{length-take}
-use Rattle.sender_model.specs.Segmentation.{Plan, plan_of}
-use Rattle.receiver_model.specs.SoftCells.{Reception}
-use Rattle.receiver_model.specs.TransportBlocks.{Effort, delivers, held_after, iterations_of, outcome, outcome_from, payload_of, tried, whole_of}
-use Rattle.receiver_model.specs.declared.result.CodeResult.{CodeResult}
-use Rattle.receiver_model.specs.declared.result.TbOutcome.{TbOutcome}
-use Rattle.receiver_model.specs.declared.result.TbOutcome.TheVariants.{Delivered, Failed}
+use Rattle.model_sender.specs.Segmentation.{Plan, plan_of}
+use Rattle.model_receiver.specs.SoftCells.{Reception}
+use Rattle.model_receiver.specs.TransportBlocks.{Effort, delivers, held_after, iterations_of, outcome, outcome_from, payload_of, tried, whole_of}
+use Rattle.model_receiver.specs.declared.result.CodeResult.{CodeResult}
+use Rattle.model_receiver.specs.declared.result.TbOutcome.{TbOutcome}
+use Rattle.model_receiver.specs.declared.result.TbOutcome.TheVariants.{Delivered, Failed}
 use Rattle.gomzelat_c.specs.Receiving.{HasRoom}
 use Rattle.gomzelat_c.proofs.PackedLength.{length_packed}
 

@@ -1,5 +1,5 @@
 -- What is told of a plan.
-use Rattle.sender_model.specs.Segmentation as model
+use Rattle.model_sender.specs.Segmentation as model
 use Rattle.gomzelat_c.specs.declared.plans.Plan.{Plan}
 
 abbrev pub numbers : model.Plan → Plan

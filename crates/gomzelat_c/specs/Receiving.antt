@@ -1,10 +1,10 @@
 -- What comes of the transmissions of a transport block.
 use Rattle.std.specs.Prelude.{ℕ, ℤ, ◌≤◌, List, length, map}
 use Rattle.lte_bits.specs.Softs.{clamped}
-use Rattle.sender_model.specs.Segmentation.{plan_of}
-use Rattle.receiver_model.specs.TransportBlocks.{outcome}
-use Rattle.receiver_model.specs.declared.result.TbOutcome.{TbOutcome}
-use Rattle.receiver_model.specs.declared.result.TbOutcome.TheVariants.{Delivered, Failed}
+use Rattle.model_sender.specs.Segmentation.{plan_of}
+use Rattle.model_receiver.specs.TransportBlocks.{outcome}
+use Rattle.model_receiver.specs.declared.result.TbOutcome.{TbOutcome}
+use Rattle.model_receiver.specs.declared.result.TbOutcome.TheVariants.{Delivered, Failed}
 use Rattle.block_receive.specs.Receptions.{receptions}
 use Rattle.gomzelat_c.specs.Buffers.{with_front}
 use Rattle.gomzelat_c.specs.Sendings.{limit_in, sendings}

@@ -2,7 +2,7 @@
 use Rattle.std.specs.Prelude.{ℕ, ◌==◌, if◌then◌else◌, None, Some, List, map}
 use Rattle.std.specs.declared.option.Option.{Option}
 use Rattle.lte_bits.specs.Packing.{packed}
-use Rattle.sender_model.specs.Codeword.{codeword}
+use Rattle.model_sender.specs.Codeword.{codeword}
 use Rattle.rate_match.specs.declared.sends.Sending.{Sending}
 use Rattle.gomzelat_c.specs.declared.transmission.Transmission.{Transmission}
 

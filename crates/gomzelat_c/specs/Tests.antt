@@ -2,7 +2,7 @@
 use Rattle.std.specs.Prelude.{ℕ, ◌+◌, ◌*◌, ◌/◌, Bool, ◌&&◌, ◌==◌, nat_le, if◌then◌else◌, None, Some, List, [], ◌∷◌, ◌++◌, length, flat_map}
 use Rattle.std.specs.declared.option.Option.{Option}
 use Rattle.std.specs.List.{sum_by}
-use Rattle.sender_model.specs.Segmentation.{plan_of}
+use Rattle.model_sender.specs.Segmentation.{plan_of}
 use Rattle.rate_match.specs.Matching.{is_g, is_nl, is_qm}
 use Rattle.rate_match.specs.Fitting.{fits_in}
 use Rattle.gomzelat_c.specs.Sendings.{limit_in}
@@ -61,8 +61,8 @@ codeword_tests bytes t n_ir room =
     ++ (buffer_test bytes n_ir ∷ test (nat_le (byte_count t.g) room) ShortOutput ∷ [])
 
 -- how a payload of so many bytes is received from so many soft values, with room for so many bytes
-abbrev pub receiver_tests : (bytes : ℕ) → List Transmission → Receiver → (values room : ℕ) → List Test
-receiver_tests bytes ts r values room =
+abbrev pub test_receiver : (bytes : ℕ) → List Transmission → Receiver → (values room : ℕ) → List Test
+test_receiver bytes ts r values room =
     buffer_test bytes r.n_ir
     ∷ test (is_from 1 64 r.windows) BadWindows
     ∷ test (is_from 1 16 r.limit) BadLimit
@@ -75,7 +75,7 @@ reception_tests bytes ts r values room =
     length_test bytes
     ∷ test (is_from 1 8 (length ts)) BadCount
     ∷ flat_map transmission_tests ts
-    ++ receiver_tests bytes ts r values room
+    ++ test_receiver bytes ts r values room
 
 -- soft values of so many bits, which stand in so many bytes, with room for so many values
 abbrev pub noise_tests : (bits bytes : ℕ) → Channel → (number room : ℕ) → List Test

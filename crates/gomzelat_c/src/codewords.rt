@@ -2,9 +2,9 @@
 ghost use Rattle.std.specs.Prelude.{◌≡◌, ◌≢◌, ◌≤◌, IfOk, OnOk, OnErr, length};
 ghost use Rattle.std.specs.Result.{result_err};
 ghost use Rattle.lte_bits.specs.Packing.{packed};
-ghost use Rattle.sender_model.specs.CircularBuffer.{Fits, FitsIn};
-ghost use Rattle.sender_model.specs.Codeword.{codeword};
-ghost use Rattle.sender_model.specs.Segmentation.{plan_of};
+ghost use Rattle.model_sender.specs.CircularBuffer.{Fits, FitsIn};
+ghost use Rattle.model_sender.specs.Codeword.{codeword};
+ghost use Rattle.model_sender.specs.Segmentation.{plan_of};
 ghost use Rattle.gomzelat_c.specs.Buffers.{with_front};
 ghost use Rattle.gomzelat_c.specs.Refusals.{IsDone, IsTold};
 ghost use Rattle.gomzelat_c.specs.Sendings.{codeword_bytes, limit_in, sending_of};

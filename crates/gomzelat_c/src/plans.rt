@@ -1,6 +1,6 @@
 //! Plans (36.212 5.1.2).
 ghost use Rattle.std.specs.Prelude.{◌≡◌, ◌≢◌, [], ◌∷◌};
-ghost use Rattle.sender_model.specs.Segmentation.{plan_of};
+ghost use Rattle.model_sender.specs.Segmentation.{plan_of};
 ghost use Rattle.gomzelat_c.specs.Plans.{numbers};
 ghost use Rattle.gomzelat_c.specs.Refusals.{told};
 ghost use Rattle.gomzelat_c.specs.Tests.{first_failed, length_test};

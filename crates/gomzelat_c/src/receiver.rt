@@ -2,7 +2,7 @@
 ghost use Rattle.std.specs.Prelude.{◌≡◌};
 ghost use Rattle.gomzelat_c.specs.Receiving.{summary};
 
-use receiver_model::TbOutcome;
+use model_receiver::TbOutcome;
 
 /// A receiver: N_IR, the soft values of its buffer for a transport block, or 0 for a full buffer; and for
 /// each code block the greatest numbers of windows, 1 to 64, and of iterations, 1 to 16.

@@ -2,16 +2,16 @@
 ghost use Rattle.std.specs.Prelude.{◌≡◌, ◌≢◌, ◌≤◌, IfOk, OnOk, OnErr, length, map, sum_by};
 ghost use Rattle.std.specs.Result.{result_err};
 ghost use Rattle.lte_bits.specs.Softs.{clamped};
-ghost use Rattle.sender_model.specs.CircularBuffer.{FitsIn};
-ghost use Rattle.sender_model.specs.Segmentation.{plan_of};
-ghost use Rattle.receiver_model.specs.TransportBlocks.{outcome};
+ghost use Rattle.model_sender.specs.CircularBuffer.{FitsIn};
+ghost use Rattle.model_sender.specs.Segmentation.{plan_of};
+ghost use Rattle.model_receiver.specs.TransportBlocks.{outcome};
 ghost use Rattle.rate_match.specs.Sendings.{common};
 ghost use Rattle.block_receive.specs.Effort.{effort_of};
 ghost use Rattle.block_receive.specs.Receptions.{receptions, value_count};
 ghost use Rattle.gomzelat_c.specs.Receiving.{HasRoom, received, summary, with_payload};
 ghost use Rattle.gomzelat_c.specs.Refusals.{IsDone, IsTold};
 ghost use Rattle.gomzelat_c.specs.Sendings.{limit_in, sendings};
-ghost use Rattle.gomzelat_c.specs.Tests.{first_failed, receiver_tests, reception_tests};
+ghost use Rattle.gomzelat_c.specs.Tests.{first_failed, test_receiver, reception_tests};
 
 use crate::buffers::{softs_of, write_bytes};
 use crate::receiver::{Outcome, Receiver};
@@ -19,8 +19,8 @@ use crate::refusal::{Refusal, accept, told};
 use crate::transmission::{Transmission, bit_count, buffer_of, sends_of};
 use block_receive::{Effort, receive_alone};
 use lte_bits::NoMemory;
+use model_receiver::TbOutcome;
 use rate_match::{Sends, fits_buffer};
-use receiver_model::TbOutcome;
 use segmentation::plan;
 use segmentation::plans::Plan;
 use std::alloc::Global;
@@ -45,7 +45,7 @@ fn effort(
     requires plan { plan.now ≡ plan_of plan.now.bytes }
     requires few { length transmissions.now ≤ 8 }
     ensures refused { result_err result
-        ≡ first_failed (receiver_tests plan.now.bytes transmissions.now receiver.now values room) }
+        ≡ first_failed (test_receiver plan.now.bytes transmissions.now receiver.now values room) }
     ensures effort { IfOk result (λ effort. effort_of effort
         ≡ record { windows = receiver.now.windows; limit = receiver.now.limit }) }
     ensures fits { OnOk result (FitsIn (limit_in receiver.now.n_ir) plan.now.c plan.now.k_plus) }

@@ -5,12 +5,12 @@ use Rattle.std.specs.Prelude.{int_lt, if◌then◌else◌}
 use Rattle.std.proofs.lemmas.Int.{ints}
 use Rattle.lte_bits.specs.Softs.{IsWithin}
 use Rattle.lte_bits.specs.declared.bit.Bit.TheVariants.{Zero, One}
-use Rattle.receiver_model.specs.Decoding.{decided_bit, decided_bits}
+use Rattle.model_receiver.specs.Decoding.{decided_bit, decided_bits}
 use Rattle.std.proofs.lemmas.List.{ext_get_or, get_or_past, get_or-replicate, length-replicate, get_or-map, get_or_append_left, get_or-append-add, get_or-drop, length-append, length-drop, length-map}
 use Rattle.std.proofs.lemmas.List.FromFn.{length-map-range_with_len, get_or-map-range_with_len}
 use Rattle.std.proofs.lemmas.Nat.{div-mul-add, mod-mul-add, mul-add-lt, div_below, mod_below, div-add-mod'}
-use Rattle.receiver_model.specs.Borders.{at}
-use Rattle.receiver_model.specs.Windows.{Extrinsic, zero_cell, cell_at}
+use Rattle.model_receiver.specs.Borders.{at}
+use Rattle.model_receiver.specs.Windows.{Extrinsic, zero_cell, cell_at}
 use Rattle.lock_step.specs.Lanes.{IsLaneCount, AreWithin}
 use Rattle.lane_windows.specs.Banks.{number_in, cell_of, cell_in, cells_by_place, bit_at_place}
 

@@ -6,7 +6,7 @@ use Rattle.std.proofs.lemmas.Bool.{cases_eq, cases_lt}
 use Rattle.std.proofs.lemmas.List.{ext_get_or, get_or-map, get_or_past, length-map, length-set}
 use Rattle.std.proofs.lemmas.List.FromFn.{length-map-range_with_len, get_or-map-range_with_len}
 use Rattle.lte_bits.specs.Softs.{IsWithin}
-use Rattle.receiver_model.specs.Borders.{at}
+use Rattle.model_receiver.specs.Borders.{at}
 use Rattle.lock_step.specs.Lanes.{column, AreWithin}
 use Rattle.lane_windows.specs.Banks.{number_in}
 

@@ -6,9 +6,9 @@ use Rattle.std.proofs.lemmas.List.FromFn.{length-map-range_with_len, get_or-map-
 use Rattle.std.proofs.lemmas.Nat.{div_below, mod-mul-add, div-add-mod', same_from_place}
 use Rattle.qpp_table.specs.Qpp.{size_in, value_at}
 use Rattle.qpp_table.specs.QppLaws.{value-below, values_differ, value-kept}
-use Rattle.sender_model.specs.Interleaver.{place, row_of}
-use Rattle.sender_model.specs.InterleaverLaws.{pi_remainder}
-use Rattle.receiver_model.proofs.PlacesFilled.{reached-all}
+use Rattle.model_sender.specs.Interleaver.{place, row_of}
+use Rattle.model_sender.specs.InterleaverLaws.{pi_remainder}
+use Rattle.model_receiver.proofs.PlacesFilled.{reached-all}
 use Rattle.cell_shares.specs.declared.order.Order.{Order}
 use Rattle.cell_shares.specs.declared.order.Order.TheVariants.{Natural, Interleaved}
 use Rattle.cell_shares.specs.Orders.{place_in, IsOrderOf}

@@ -5,11 +5,11 @@ use Rattle.std.proofs.Math.Nat.{mul-le-mul_left}
 use Rattle.std.proofs.lemmas.List.FromFn.{fill_by_all, get_or-map-range_with_len}
 use Rattle.std.proofs.lemmas.Nat.{div_below, mod_below, div-add-mod'}
 use Rattle.lte_bits.specs.declared.block.SoftStreams.{SoftStreams}
-use Rattle.sender_model.specs.Interleaver.{place}
-use Rattle.receiver_model.specs.Borders.{Border, at}
-use Rattle.receiver_model.specs.Windows.{Extrinsic, zero_cell, cell_at, new_cells, forward_left, backward_left}
-use Rattle.receiver_model.specs.HalfIteration.{Shape, Left, window_width, positions, order, position_of, tail_border, left_by, start_border, window, renewed, left_after, after}
-use Rattle.receiver_model.proofs.PlacesOfPositions.{position-is}
+use Rattle.model_sender.specs.Interleaver.{place}
+use Rattle.model_receiver.specs.Borders.{Border, at}
+use Rattle.model_receiver.specs.Windows.{Extrinsic, zero_cell, cell_at, new_cells, forward_left, backward_left}
+use Rattle.model_receiver.specs.HalfIteration.{Shape, Left, window_width, positions, order, position_of, tail_border, left_by, start_border, window, renewed, left_after, after}
+use Rattle.model_receiver.proofs.PlacesOfPositions.{position-is}
 use Rattle.serial_decode.specs.Runs.{start_of, window_from}
 use Rattle.serial_decode.specs.Views.{AreWhole, by_position}
 use Rattle.serial_decode.proofs.HalfSteps.{same-by_range}

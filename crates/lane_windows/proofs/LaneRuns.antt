@@ -4,9 +4,9 @@ use Rattle.std.proofs.lemmas.List.{ext_get_or, get_or-map, length-map}
 use Rattle.std.proofs.lemmas.List.FromFn.{length-map-range_with_len, get_or-map-range_with_len}
 use Rattle.std.proofs.lemmas.Simd.{get_or-zip2}
 use lib.LanesLaws.{length-zip2}
-use Rattle.receiver_model.specs.Borders.{Border, at}
-use Rattle.receiver_model.specs.Paths.{Window}
-use Rattle.receiver_model.specs.Windows.{Extrinsic, zero_cell, cell_at, values, new_cells, forward_left, backward_left}
+use Rattle.model_receiver.specs.Borders.{Border, at}
+use Rattle.model_receiver.specs.Paths.{Window}
+use Rattle.model_receiver.specs.Windows.{Extrinsic, zero_cell, cell_at, values, new_cells, forward_left, backward_left}
 use Rattle.lock_step.specs.Lanes.{column, border_at, window_at, decided_cells}
 use Rattle.std.specs.Prelude.{slice_index}
 use Rattle.lane_windows.specs.Banks.{number_in, cell_of, cell_in, cells_by_place, AreBanks}

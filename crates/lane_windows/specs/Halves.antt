@@ -1,9 +1,9 @@
 -- Half an iteration whose windows run in lock step.
 use Rattle.std.specs.Prelude.{◌≡◌, ℕ, ℤ, ◌<◌, List, length, map}
 use Rattle.lte_bits.specs.declared.block.SoftStreams.{SoftStreams}
-use Rattle.receiver_model.specs.Borders.{Border}
-use Rattle.receiver_model.specs.Windows.{Extrinsic, new_cells, forward_left, backward_left}
-use Rattle.receiver_model.specs.HalfIteration.{Shape, window_width, positions, order, systematic_at, parity_at}
+use Rattle.model_receiver.specs.Borders.{Border}
+use Rattle.model_receiver.specs.Windows.{Extrinsic, new_cells, forward_left, backward_left}
+use Rattle.model_receiver.specs.HalfIteration.{Shape, window_width, positions, order, systematic_at, parity_at}
 use Rattle.serial_decode.specs.Runs.{window_from}
 use Rattle.lock_step.specs.Lanes.{column, border_at, AreWithin}
 use Rattle.lane_windows.specs.Lanes.{cells_of_window}

@@ -1,9 +1,9 @@
 -- Windows whose cells stand in banks.
 use Rattle.std.specs.Prelude.{◌≡◌, ℕ, ◌*◌, ◌<◌, ℤ, List, length, map}
 use Rattle.std.specs.List.{range_with_len}
-use Rattle.receiver_model.specs.Borders.{Border, at}
-use Rattle.receiver_model.specs.Paths.{Window}
-use Rattle.receiver_model.specs.Windows.{Extrinsic, window_between, cell_at, new_cells, forward_left, backward_left}
+use Rattle.model_receiver.specs.Borders.{Border, at}
+use Rattle.model_receiver.specs.Paths.{Window}
+use Rattle.model_receiver.specs.Windows.{Extrinsic, window_between, cell_at, new_cells, forward_left, backward_left}
 use Rattle.lock_step.specs.Lanes.{border_at, column}
 
 -- the values of window t, of values by position

@@ -1,6 +1,6 @@
 -- What the next half of a decoding in lock step starts from.
 use Rattle.std.specs.Prelude.{ℕ}
-use Rattle.receiver_model.specs.HalfIteration.{Before}
+use Rattle.model_receiver.specs.HalfIteration.{Before}
 use Rattle.lane_windows.specs.declared.decoder.LaneDecoder.{LaneDecoder}
 
 abbrev pub before_of : {N : ℕ} → LaneDecoder N → Before

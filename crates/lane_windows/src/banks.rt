@@ -2,8 +2,8 @@
 ghost use Rattle.std.specs.Prelude.{◌≡◌, ◌≢◌, ℕ, ◌+◌, ◌*◌, ◌/◌, ◌%◌, ◌<◌, ◌≤◌, IfOk, length, map, replicate};
 ghost use Prim.Native.Nat.{◌∣◌};
 ghost use Rattle.std.specs.List.{range_with_len};
-ghost use Rattle.receiver_model.specs.Windows.{cell_at, zero_cell};
-ghost use Rattle.receiver_model.specs.Decoding.{decided_bits};
+ghost use Rattle.model_receiver.specs.Windows.{cell_at, zero_cell};
+ghost use Rattle.model_receiver.specs.Decoding.{decided_bits};
 ghost use Rattle.lock_step.specs.Lanes.{IsLaneCount};
 
 use crate::cells::{decide_row, lane_cell, split};
@@ -23,7 +23,7 @@ pub struct Banks<const N: usize> {
 
 impl<const N: usize> Model for Banks<N> {
     ghost use Rattle.std.specs.Prelude.{List as Items, length};
-    ghost use Rattle.receiver_model.specs.Windows.{Extrinsic};
+    ghost use Rattle.model_receiver.specs.Windows.{Extrinsic};
 
     ghost Value = { Items Extrinsic };
 

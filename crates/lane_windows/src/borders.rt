@@ -1,7 +1,7 @@
 //! The borders of the windows of a half.
 ghost use Rattle.std.specs.Prelude.{◌≡◌, ◌==◌, ℕ, ◌+◌, ◌<◌, [], if◌then◌else◌, IfOk, length, map};
 ghost use Rattle.std.specs.List.{range_with_len};
-ghost use Rattle.receiver_model.specs.HalfIteration.{left_by, start_border};
+ghost use Rattle.model_receiver.specs.HalfIteration.{left_by, start_border};
 ghost use Rattle.serial_decode.specs.Runs.{start_of};
 ghost use Rattle.lock_step.specs.Lanes.{border_at};
 ghost use Rattle.lane_windows.specs.Borders.{HaveWindows};

@@ -1,6 +1,6 @@
 //! Windows in lock step over banks of cells, by an order of the places.
 ghost use Rattle.std.specs.Prelude.{◌≡◌, ℕ, ◌*◌, ◌/◌, ◌<◌, ◌≤◌, length};
-ghost use Rattle.receiver_model.specs.Windows.{new_cells, forward_left, backward_left};
+ghost use Rattle.model_receiver.specs.Windows.{new_cells, forward_left, backward_left};
 ghost use Rattle.cell_shares.specs.Orders.{place_in, IsOrderOf};
 ghost use Rattle.lock_step.specs.Lanes.{border_at, AreWithin, IsLaneCount};
 ghost use Rattle.lane_windows.specs.Lanes.{cells_of_window, window_of, HaveRun};

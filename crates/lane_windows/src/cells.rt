@@ -2,8 +2,8 @@
 ghost use Rattle.std.specs.Prelude.{◌≡◌, ◌≢◌, ℕ, ◌+◌, ◌*◌, ◌%◌, ◌<◌, pos, int_lt, length, slice_index_or};
 ghost use Rattle.lte_bits.specs.Softs.{IsWithin};
 ghost use Rattle.lte_bits.specs.declared.bit.Bit.TheVariants.{Zero};
-ghost use Rattle.receiver_model.specs.Borders.{at};
-ghost use Rattle.receiver_model.specs.Windows.{cell_at};
+ghost use Rattle.model_receiver.specs.Borders.{at};
+ghost use Rattle.model_receiver.specs.Windows.{cell_at};
 ghost use Rattle.lock_step.specs.Lanes.{IsLaneCount};
 ghost use Rattle.lane_windows.specs.Banks.{cell_of, bit_at_place};
 

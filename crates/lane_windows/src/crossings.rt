@@ -1,7 +1,7 @@
 //! Rows brought from the order of the banks into that of the windows, and back.
 ghost use Rattle.std.specs.Prelude.{◌≡◌, ℕ, ◌+◌, ◌*◌, ◌<◌, ◌≤◌, [], IfOk, length, slice_index, slice_index_or, slice_set};
 ghost use Rattle.lte_bits.specs.Softs.{IsWithin};
-ghost use Rattle.receiver_model.specs.Borders.{at};
+ghost use Rattle.model_receiver.specs.Borders.{at};
 ghost use Rattle.lock_step.specs.Lanes.{IsLaneCount, AreWithin};
 ghost use Rattle.lane_windows.specs.Banks.{number_in};
 ghost use Rattle.lane_windows.specs.Crossings.{IsTable, AreApart};

@@ -1,6 +1,6 @@
 //! The decoder of a code block whose windows run in lock step.
 ghost use Rattle.std.specs.Prelude.{◌≡◌, ◌≤◌, IfOk, length};
-ghost use Rattle.receiver_model.specs.HalfIteration.{window_width};
+ghost use Rattle.model_receiver.specs.HalfIteration.{window_width};
 ghost use Rattle.lane_windows.specs.Borders.{HaveWindows};
 
 use crate::banks::Banks;
@@ -32,7 +32,7 @@ pub struct LaneDecoder<'a, const N: usize> {
 }
 
 impl<'a, const N: usize> LaneDecoder<'a, N> {
-    ghost use Rattle.receiver_model.specs.HalfIteration.{opening};
+    ghost use Rattle.model_receiver.specs.HalfIteration.{opening};
     ghost use Rattle.serial_decode.specs.Views.{AreStreams};
     ghost use Rattle.lock_step.specs.Lanes.{IsLaneCount};
     ghost use Rattle.lane_windows.specs.Progress.{before_of};

@@ -1,6 +1,6 @@
 //! Half an iteration in lock step.
 ghost use Rattle.std.specs.Prelude.{◌≡◌, ◌≤◌, length};
-ghost use Rattle.receiver_model.specs.HalfIteration.{window_width, after};
+ghost use Rattle.model_receiver.specs.HalfIteration.{window_width, after};
 ghost use Rattle.serial_decode.specs.Runs.{start_of};
 
 use crate::banks::Banks;

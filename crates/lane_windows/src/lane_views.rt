@@ -1,7 +1,7 @@
 //! A code block as its half iterations in lock step read it.
 ghost use Rattle.std.specs.Prelude.{◌≡◌, ◌≤◌, length};
-ghost use Rattle.sender_model.specs.Interleaver.{place};
-ghost use Rattle.receiver_model.specs.HalfIteration.{window_width};
+ghost use Rattle.model_sender.specs.Interleaver.{place};
+ghost use Rattle.model_receiver.specs.HalfIteration.{window_width};
 ghost use Rattle.lane_windows.specs.Crossings.{AreApart, IsTable};
 ghost use Rattle.lane_windows.specs.Halves.{AreRowsOf};
 

@@ -3,7 +3,7 @@
 #![tactic(auto)]
 
 ghost use Rattle.std.specs.Prelude.{◌≡◌, ◌+◌, IfOk, length};
-ghost use Rattle.receiver_model.specs.Decoding.{code_result};
+ghost use Rattle.model_receiver.specs.Decoding.{code_result};
 ghost use Rattle.lock_step.specs.Lanes.{IsLaneCount};
 
 pub mod banks;

@@ -1,7 +1,7 @@
 //! Soft values in rows: row j has in lane t the value of position j of window t.
 ghost use Rattle.std.specs.Prelude.{◌≡◌, ℕ, ◌+◌, ◌*◌, ◌<◌, ◌≤◌, length, take};
 ghost use Rattle.lte_bits.specs.Softs.{IsWithin};
-ghost use Rattle.receiver_model.specs.Borders.{at};
+ghost use Rattle.model_receiver.specs.Borders.{at};
 ghost use Rattle.lock_step.specs.Lanes.{column, AreWithin};
 ghost use Rattle.lane_windows.specs.Lanes.{values_of_window};
 

@@ -1,7 +1,7 @@
 //! A transport block from its payload to what is received of it.
 ghost use Rattle.std.specs.Prelude.{◌≡◌, ◌≤◌, IfOk, length};
-ghost use Rattle.sender_model.specs.Segmentation.{plan_of};
-ghost use Rattle.sender_model.specs.CircularBuffer.{Fits};
+ghost use Rattle.model_sender.specs.Segmentation.{plan_of};
+ghost use Rattle.model_sender.specs.CircularBuffer.{Fits};
 
 use block_receive::{TbOutcome, receive_alone};
 use lte_bits::{List, NoMemory, Soft};

@@ -3,8 +3,8 @@ use Rattle.std.proofs.Common.{◌≡◌, ℕ, List, length, ℤ, pos, ◌+ℤ◌
 use Rattle.std.specs.Int.{int_max}
 use Rattle.std.proofs.lemmas.Int.{ints, clamps}
 use Rattle.lte_bits.specs.declared.bit.Bit.TheVariants.{Zero, One}
-use Rattle.sender_model.specs.ConstituentCoder.{State}
-use Rattle.receiver_model.specs.Borders.{number_for, at}
+use Rattle.model_sender.specs.ConstituentCoder.{State}
+use Rattle.model_receiver.specs.Borders.{number_for, at}
 use Rattle.window_decode.specs.Recursions.{joined, through}
 use Rattle.lock_step.specs.Lanes.{row_at, column}
 use Rattle.lock_step.proofs.StateRows.{s0, s1, s2, s3, s4, s5, s6, s7, number-column}

@@ -10,8 +10,8 @@ use borrow.Table.Row.{s_int}
 use mir.Syntax.{mul, div, signed, mask, lt}
 use mir.Val.{to_z, of_z, SFits}
 use Rattle.lte_bits.specs.Softs.{IsWithin, clamped}
-use Rattle.receiver_model.specs.Borders.{at}
-use Rattle.receiver_model.specs.Windows.{scaled}
+use Rattle.model_receiver.specs.Borders.{at}
+use Rattle.model_receiver.specs.Windows.{scaled}
 use Rattle.window_decode.proofs.LaneSteps.{stored}
 use Rattle.window_decode.proofs.Scaling.{quarters}
 use Rattle.lock_step.proofs.Vectors.{next_lane}

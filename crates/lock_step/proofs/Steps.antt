@@ -2,8 +2,8 @@
 use Rattle.std.proofs.Common.{◌≡◌, ℕ, List, [], ◌∷◌, length, ℤ, pos, ◌+ℤ◌, ◌-ℤ◌, sym, ◌∙◌, arith}
 use Rattle.std.specs.Int.{int_max}
 use Rattle.std.proofs.lemmas.Int.{ints, clamps}
-use Rattle.sender_model.specs.ConstituentCoder.{State, zero_state}
-use Rattle.receiver_model.specs.Borders.{number_for, relative, at}
+use Rattle.model_sender.specs.ConstituentCoder.{State, zero_state}
+use Rattle.model_receiver.specs.Borders.{number_for, relative, at}
 use Rattle.window_decode.specs.Recursions.{step_gain, forward, backward}
 use Rattle.window_decode.proofs.EightStates.{same_eight}
 use Rattle.lock_step.specs.Lanes.{row_at, column}

@@ -8,10 +8,10 @@ use Rattle.std.proofs.lemmas.List.{get_or-set_same, get_or-set_other, get_or_rea
 use Rattle.std.proofs.lemmas.List.FromFn.{fill_by_all, get_or-map-range_with_len}
 use Rattle.std.proofs.lemmas.Simd.{get_or-zip2, length-zip2}
 use Rattle.lte_bits.specs.Softs.{IsWithin, clamped}
-use Rattle.sender_model.specs.ConstituentCoder.{parity}
-use Rattle.receiver_model.specs.Borders.{Border, IsBorder, number_for, at, if_zero}
-use Rattle.receiver_model.specs.Paths.{Window, gain, width}
-use Rattle.receiver_model.specs.Windows.{Extrinsic, extrinsic, cell_at, zero_cell, new_cell, new_cells, forward_left, backward_left}
+use Rattle.model_sender.specs.ConstituentCoder.{parity}
+use Rattle.model_receiver.specs.Borders.{Border, IsBorder, number_for, at, if_zero}
+use Rattle.model_receiver.specs.Paths.{Window, gain, width}
+use Rattle.model_receiver.specs.Windows.{Extrinsic, extrinsic, cell_at, zero_cell, new_cell, new_cells, forward_left, backward_left}
 use Rattle.window_decode.specs.Ranges.{IsSoft}
 use Rattle.window_decode.specs.Metrics.{IsForwardRow, IsBackwardRow, IsForward, IsBackward}
 use Rattle.window_decode.proofs.JoinedPaths.{forward-left, backward-left}

@@ -7,7 +7,7 @@ use Rattle.std.proofs.lemmas.List.{get_or_past, get_or-map, length-map}
 use Rattle.std.proofs.lemmas.Simd.{get_or-zip2, length-zip2}
 use lib.Lanes.{Each2, zip2, put_chunk}
 use Rattle.lte_bits.specs.Softs.{IsWithin}
-use Rattle.receiver_model.specs.Borders.{at}
+use Rattle.model_receiver.specs.Borders.{at}
 use Rattle.window_decode.proofs.Within.{within-same, within-more, within-sum}
 use Rattle.window_decode.proofs.LaneSteps.{stored, IsSum, IsDifference, AreStored}
 use Rattle.window_decode.proofs.LaneNumbers.{passed}

@@ -2,9 +2,9 @@
 use Rattle.std.specs.Prelude.{◌≡◌, ◌<◌, ◌⊎◌, ℕ, ℤ, pos, int_lt, List, [], length, map, slice_index_or}
 use Rattle.std.specs.Simd.Lanes.{zip2}
 use Rattle.lte_bits.specs.Softs.{IsWithin}
-use Rattle.receiver_model.specs.Borders.{Border, at}
-use Rattle.receiver_model.specs.Paths.{Window}
-use Rattle.receiver_model.specs.Windows.{Extrinsic}
+use Rattle.model_receiver.specs.Borders.{Border, at}
+use Rattle.model_receiver.specs.Paths.{Window}
+use Rattle.model_receiver.specs.Windows.{Extrinsic}
 
 -- the row at a place
 abbrev pub row_at : List (List ℤ) → ℕ → List ℤ

@@ -1,13 +1,13 @@
 -- Vectors of one number for each window, and the eight vectors of a position's metrics.
 use Rattle.std.specs.Prelude.{◌≡◌, ◌<◌, ℕ, ℤ, pos, ◌-ℤ◌, int_lt, List, [], length, slice_index_or}
 use Rattle.lte_bits.specs.Softs.{IsWithin}
-use Rattle.receiver_model.specs.Borders.{at}
+use Rattle.model_receiver.specs.Borders.{at}
 use Rattle.lte_bits.specs.declared.bit.Bit.TheVariants.{Zero, One}
 use Rattle.window_decode.specs.Lanes.{IsRelative}
 use Rattle.window_decode.specs.Recursions.{through}
-use Rattle.receiver_model.specs.Borders.{IsBorder}
-use Rattle.receiver_model.specs.Paths.{Gain, gain}
-use Rattle.receiver_model.specs.Windows.{Extrinsic}
+use Rattle.model_receiver.specs.Borders.{IsBorder}
+use Rattle.model_receiver.specs.Paths.{Gain, gain}
+use Rattle.model_receiver.specs.Windows.{Extrinsic}
 use Rattle.window_decode.specs.Metrics.{IsForwardRow}
 use Rattle.lock_step.specs.Lanes.{row_at, column, lane_window}
 

@@ -1,8 +1,8 @@
 //! How the metrics before and after a position join.
 ghost use Rattle.std.specs.Prelude.{◌≡◌, ◌<◌, ℕ, ◌+ℤ◌};
 ghost use Rattle.lte_bits.specs.declared.bit.Bit.TheVariants.{Zero, One};
-ghost use Rattle.receiver_model.specs.Borders.{at};
-ghost use Rattle.receiver_model.specs.Windows.{scaled};
+ghost use Rattle.model_receiver.specs.Borders.{at};
+ghost use Rattle.model_receiver.specs.Windows.{scaled};
 ghost use Rattle.window_decode.specs.Recursions.{through};
 ghost use Rattle.lock_step.specs.Lanes.{column};
 ghost use Rattle.lock_step.specs.Vectors.{IsSmall, IsVector, AreRelative, better_by};

@@ -2,8 +2,8 @@
 ghost use Rattle.std.specs.Prelude.{◌≡◌, ◌<◌, ℕ, pos, ◌+ℤ◌, ◌-ℤ◌, ◌*ℤ◌, int_div};
 ghost use Rattle.std.specs.Int.{int_max};
 ghost use Rattle.lte_bits.specs.Softs.{IsWithin, clamped};
-ghost use Rattle.receiver_model.specs.Borders.{at};
-ghost use Rattle.receiver_model.specs.Windows.{scaled};
+ghost use Rattle.model_receiver.specs.Borders.{at};
+ghost use Rattle.model_receiver.specs.Windows.{scaled};
 ghost use Rattle.lock_step.specs.Vectors.{IsSmall, IsVector};
 
 use std::simd::prelude::*;

@@ -1,7 +1,7 @@
 //! The metrics of N windows at a position, and the recursions from one position to the next.
 ghost use Rattle.std.specs.Prelude.{◌≡◌, ◌<◌, ℕ, ◌+ℤ◌, ◌-ℤ◌, length};
 ghost use Rattle.std.specs.Int.{int_max};
-ghost use Rattle.receiver_model.specs.Borders.{at, number_for, relative};
+ghost use Rattle.model_receiver.specs.Borders.{at, number_for, relative};
 ghost use Rattle.window_decode.specs.Recursions.{step_gain, forward, backward};
 ghost use Rattle.lock_step.specs.Lanes.{column};
 ghost use Rattle.lock_step.specs.Vectors.{IsSmall, IsVector, AreMetrics, AreRelative};

@@ -1,7 +1,7 @@
 //! N windows by rows.
 ghost use Rattle.std.specs.Prelude.{◌≡◌, ◌<◌, ◌≤◌, ℕ, ℤ, List, pos, ◌+ℤ◌, int_lt, length};
-ghost use Rattle.receiver_model.specs.Borders.{at, number_for, relative};
-ghost use Rattle.receiver_model.specs.Windows.{new_cells, forward_left, backward_left};
+ghost use Rattle.model_receiver.specs.Borders.{at, number_for, relative};
+ghost use Rattle.model_receiver.specs.Windows.{new_cells, forward_left, backward_left};
 ghost use Rattle.window_decode.specs.Recursions.{step_gain, backward, cell_through};
 ghost use Rattle.window_decode.specs.Metrics.{IsForwardRow, IsBackwardRow};
 ghost use Rattle.lock_step.specs.Lanes.{column, border_at, lane_window, window_at, decided_cells, AreWithin, AreSoft, IsLaneCount};

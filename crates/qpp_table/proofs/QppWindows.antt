@@ -1,7 +1,7 @@
 -- The windows of a lawful interleaver: one row, and a bank for each.
 use Rattle.std.proofs.Common.{◌≡◌, ℕ, ◌+◌, ◌*◌, ◌/◌, ◌%◌, ◌<◌, sym, ap, ◌∙◌}
 use Prim.Native.Nat.{◌∣◌}
-use Rattle.sender_model.specs.InterleaverLaws.{IsInterleaver, row-window, bank-window, bank_below, window_place_below}
+use Rattle.model_sender.specs.InterleaverLaws.{IsInterleaver, row-window, bank-window, bank_below, window_place_below}
 use Rattle.qpp_table.specs.declared.interleaver.Qpp.{Qpp}
 use Rattle.qpp_table.specs.Qpp.{size_in, value_at, width, bank_at, row_at}
 use Rattle.qpp_table.specs.QppLaws.{value-below, values_differ, value-kept}

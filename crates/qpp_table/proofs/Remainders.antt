@@ -2,7 +2,7 @@
 use Rattle.std.proofs.Common.{◌≡◌, ℕ, ◌+◌, ◌*◌, ◌%◌, ◌^◌, suc, sym, ap, ◌∙◌, arith}
 use Rattle.std.proofs.lemmas.Nat.{mul-mod_first, mul-mod_second}
 use Rattle.std.proofs.Math.Nat.{add-mod, pow-suc, pow-zero}
-use Rattle.sender_model.specs.Interleaver.{pi}
+use Rattle.model_sender.specs.Interleaver.{pi}
 
 -- one factor more
 one_more : (f n x : ℕ) → f ^ n ≡ x → f ^ suc n ≡ x * f

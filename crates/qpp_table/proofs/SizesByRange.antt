@@ -4,8 +4,8 @@ use Rattle.std.specs.List.{list_all}
 use Rattle.std.proofs.lemmas.Bool.{or_cases, ltb-true}
 use Rattle.std.proofs.lemmas.List.Elements.{All-contains}
 use Rattle.std.proofs.lemmas.List.Sums.{AllPass-from_list_all}
-use Rattle.sender_model.specs.Interleaver.{sizes}
-use Rattle.sender_model.specs.declared.rows.Row.{Row}
+use Rattle.model_sender.specs.Interleaver.{sizes}
+use Rattle.model_sender.specs.declared.rows.Row.{Row}
 use Rattle.qpp_table.specs.Groups.{rows_from, is_among}
 
 -- k is outside of a range, or the size of one of the rows

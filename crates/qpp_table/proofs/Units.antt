@@ -4,7 +4,7 @@ use Prim.Native.Nat.{◌∣◌}
 use Rattle.std.proofs.lemmas.Nat.{mul-mod}
 use Rattle.std.proofs.lemmas.Nat.Gcd.{dvd_antisymm, dvd_refl, dvd-zero, dvd_of_mod-eq-zero, mod-eq-zero_of_dvd}
 use Rattle.std.proofs.Math.Nat.{add-mod, add-mul-mod_self_left, div-add-mod, dvd-add, dvd-sub, dvd-mul_right_of_dvd}
-use Rattle.sender_model.specs.Interleaver.{IsUnit}
+use Rattle.model_sender.specs.Interleaver.{IsUnit}
 
 -- a multiple of f has the remainder of a modulo k
 abbrev pub IsReached : ℕ → ℕ → ℕ → Type 0

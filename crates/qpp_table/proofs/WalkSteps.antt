@@ -1,7 +1,7 @@
 -- From a place of an order to the next by additions.
 use Rattle.std.proofs.Common.{◌≡◌, ℕ, ◌+◌, ◌*◌, ◌%◌, sym, ap, ◌∙◌, arith}
 use Rattle.std.proofs.Math.Nat.{add-mod}
-use Rattle.sender_model.specs.Interleaver.{pi}
+use Rattle.model_sender.specs.Interleaver.{pi}
 
 pub place_more : (k f1 f2 i p s q : ℕ) → p ≡ pi k f1 f2 i → s ≡ (f1 + f2 * (2 * i + 1)) % k → q ≡ (p + s) % k → q ≡ pi k f1 f2 (i + 1)
 place_more k f1 f2 i p s q ep es eq =

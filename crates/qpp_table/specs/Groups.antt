@@ -1,9 +1,9 @@
 -- The addresses of a size, and the sizes of some rows of the table, 24 at a time (36.212, table 5.1.3-3).
 use Rattle.std.specs.Prelude.{ℕ, Bool, false, true, cond, ◌==◌, List, [], ◌∷◌, map, take, drop}
 use Rattle.std.specs.List.{range_with_len}
-use Rattle.sender_model.specs.Interleaver.{place}
-use Rattle.sender_model.specs.declared.rows.Row.{Row}
-use Rattle.sender_model.specs.declared.rows.TheConstants.{ROWS}
+use Rattle.model_sender.specs.Interleaver.{place}
+use Rattle.model_sender.specs.declared.rows.Row.{Row}
+use Rattle.model_sender.specs.declared.rows.TheConstants.{ROWS}
 
 -- the places from which the places of a block of k bits take their bits
 unfoldable pub addresses_of : ℕ → List ℕ

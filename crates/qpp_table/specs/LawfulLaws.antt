@@ -2,8 +2,8 @@
 use Rattle.std.proofs.Common.{◌≡◌, ℕ, ◌<◌, arith}
 use Rattle.std.proofs.Props.{props}
 use mathlib.Core.Logic.{∥∥₁_elim}
-use Rattle.sender_model.specs.Interleaver.{Lawful, pi}
-use Rattle.sender_model.specs.InterleaverLaws.{pi_below, pi_differs}
+use Rattle.model_sender.specs.Interleaver.{Lawful, pi}
+use Rattle.model_sender.specs.InterleaverLaws.{pi_below, pi_differs}
 
 pub lawful-below : (k f1 f2 i : ℕ) → i < k → pi k f1 f2 i < k
 lawful-below k f1 f2 i h = pi_below k f1 f2 i (omega (arith, h))

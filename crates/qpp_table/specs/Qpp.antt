@@ -1,7 +1,7 @@
 -- What callers see of an interleaver of the table's form (36.212 5.1.3.2.3).
 use Rattle.std.specs.Prelude.{ℕ, ◌+◌, ◌*◌, ◌/◌}
-use Rattle.sender_model.specs.Interleaver.{pi, bank, row}
-use Rattle.sender_model.specs.declared.rows.Row.{Row}
+use Rattle.model_sender.specs.Interleaver.{pi, bank, row}
+use Rattle.model_sender.specs.declared.rows.Row.{Row}
 use Rattle.qpp_table.specs.declared.interleaver.Qpp.{Qpp}
 
 -- its size, f1 and f2

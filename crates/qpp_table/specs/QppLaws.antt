@@ -1,7 +1,7 @@
 -- The laws of an interleaver of the table's form.
 use Rattle.std.proofs.Common.{◌≡◌, ℕ, ◌+◌, ◌%◌, ◌<◌}
 use Prim.Native.Nat.{◌∣◌}
-use Rattle.sender_model.specs.InterleaverLaws.{pi_remainder}
+use Rattle.model_sender.specs.InterleaverLaws.{pi_remainder}
 use Rattle.qpp_table.specs.declared.interleaver.Qpp.{Qpp}
 use Rattle.qpp_table.specs.Qpp.{size_in, value_at}
 use Rattle.qpp_table.specs.LawfulLaws.{lawful-below, lawful_differs}

@@ -1,6 +1,6 @@
 -- The walk along the values (f1 i + f2 i^2) mod K (36.212 5.1.3.2.3).
 use Rattle.std.specs.Prelude.{◌≡◌, ℕ, ◌+◌, ◌*◌, ◌%◌}
-use Rattle.sender_model.specs.Interleaver.{pi}
+use Rattle.model_sender.specs.Interleaver.{pi}
 use Rattle.qpp_table.specs.declared.walk.Walk.{Walk}
 
 -- K

@@ -1,7 +1,7 @@
 //! The banks and rows in which the places of windows stand.
 ghost use Rattle.std.specs.Prelude.{◌≡◌, ◌≢◌, ℕ, ◌+◌, ◌*◌, ◌/◌, ◌<◌};
 ghost use Prim.Native.Nat.{◌∣◌};
-ghost use Rattle.sender_model.specs.Interleaver.{bank, row};
+ghost use Rattle.model_sender.specs.Interleaver.{bank, row};
 ghost use Rattle.qpp_table.specs.Qpp.{size_in, width, bank_at, row_at};
 
 use crate::interleaver::{Interleaver, Qpp};

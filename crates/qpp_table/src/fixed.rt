@@ -1,12 +1,12 @@
 //! Interleavers whose numbers are constants.
 ghost use Rattle.std.specs.Prelude.{◌≡◌, ◌==◌, ◌↔◌, IsSome, find, length};
-ghost use Rattle.sender_model.specs.Interleaver.{Lawful, pi};
+ghost use Rattle.model_sender.specs.Interleaver.{Lawful, pi};
 ghost use Rattle.qpp_table.specs.Groups.{addresses_of};
 
 use crate::interleaver::Interleaver;
 use crate::modular::{is_nilpotent, is_unit, product_modulo};
 use crate::walk::Walk;
-use sender_model::ROWS;
+use model_sender::ROWS;
 
 /// The interleaver Pi(i) = (F1 i + F2 i^2) mod K, of any lawful numbers.
 #[derive(Clone, Copy, Debug, PartialEq, Eq)]
@@ -43,7 +43,7 @@ impl<const K: usize, const F1: usize, const F2: usize> FixedQpp<K, F1, F2> {
 }
 
 impl<const K: usize, const F1: usize, const F2: usize> Interleaver for FixedQpp<K, F1, F2> {
-    ghost use Rattle.sender_model.specs.InterleaverLaws.{pi_remainder};
+    ghost use Rattle.model_sender.specs.InterleaverLaws.{pi_remainder};
     ghost use Rattle.qpp_table.specs.LawfulLaws.{lawful-below, lawful_differs};
 
     ghost size_of = { λ _. K };

@@ -1,10 +1,10 @@
 //! Interleavers, and those of a quadratic permutation polynomial.
 ghost use Rattle.std.specs.Prelude.{◌≡◌, ℕ, ◌+◌, ◌%◌, ◌<◌, ◌≤◌};
 ghost use Prim.Native.Nat.{◌∣◌};
-ghost use Rattle.sender_model.specs.Interleaver.{Lawful};
-ghost use Rattle.sender_model.specs.Rows.{IsRow};
+ghost use Rattle.model_sender.specs.Interleaver.{Lawful};
+ghost use Rattle.model_sender.specs.Rows.{IsRow};
 
-use sender_model::Row;
+use model_sender::Row;
 
 /// A permutation of the places below a size that keeps the remainders by each divisor of the size.
 pub trait Interleaver {

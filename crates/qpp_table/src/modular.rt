@@ -1,6 +1,6 @@
 //! Products, units and powers modulo a number, of any size.
 ghost use Rattle.std.specs.Prelude.{◌≡◌, ◌*◌, ◌%◌, ◌^◌, ◌<◌, ◌↔◌, IsTrue};
-ghost use Rattle.sender_model.specs.Interleaver.{IsUnit};
+ghost use Rattle.model_sender.specs.Interleaver.{IsUnit};
 
 /// The product modulo `k`.
 pub fn product_modulo(k: usize, a: usize, b: usize) -> usize

@@ -1,7 +1,7 @@
 //! The interleavers of the table (36.212, table 5.1.3-3).
 ghost use Rattle.std.specs.Prelude.{◌≡◌, ℕ, ◌==◌, ◌↔◌, find, map, length, IsSome, IfSome, Contains};
 ghost use Rattle.std.specs.List.{range_with_len};
-ghost use Rattle.sender_model.specs.Interleaver.{sizes, row_of, place};
+ghost use Rattle.model_sender.specs.Interleaver.{sizes, row_of, place};
 ghost use Rattle.qpp_table.specs.Qpp.{row_in, size_in, value_at};
 
 use crate::groups::{
@@ -9,7 +9,7 @@ use crate::groups::{
     fill_1952_to_3328, fill_3392_to_4864, fill_4928_to_6144,
 };
 use crate::interleaver::Qpp;
-use sender_model::{ROWS, Row};
+use model_sender::{ROWS, Row};
 
 /// The rows of the table.
 fn rows() -> &'static [Row]

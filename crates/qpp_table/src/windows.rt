@@ -1,7 +1,7 @@
 //! The number of windows into which a code block is divided.
 ghost use Rattle.std.specs.Prelude.{ℕ, ◌*◌, ◌≤◌, Contains};
 ghost use Prim.Native.Nat.{◌∣◌};
-ghost use Rattle.sender_model.specs.Interleaver.{sizes};
+ghost use Rattle.model_sender.specs.Interleaver.{sizes};
 
 /// The greatest number of windows, at most `m`, that divide a block of `k` places and are at least 8
 /// wide. `k` is one of the 188 sizes, and `m` is 1 to 64.

@@ -3,10 +3,10 @@ use Rattle.std.proofs.Common.{◌≡◌, ℕ, zero, suc, ◌+◌, ◌*◌, ◌/�
 use Rattle.std.proofs.lemmas.Bool.{cases_lt, ltb-true}
 use Rattle.std.proofs.Math.Dec.{eqb-suc-zero}
 use Rattle.std.specs.declared.option.Option.{Option}
-use Rattle.sender_model.specs.CircularBuffer.{FitsIn, rows_of}
-use Rattle.sender_model.specs.Interleaver.{sizes}
-use Rattle.sender_model.specs.Segmentation.{Plan, bits_of, carried, check_length, size, fill}
-use Rattle.sender_model.proofs.PlanShares.{size-smaller, size-larger, fillers-room}
+use Rattle.model_sender.specs.CircularBuffer.{FitsIn, rows_of}
+use Rattle.model_sender.specs.Interleaver.{sizes}
+use Rattle.model_sender.specs.Segmentation.{Plan, bits_of, carried, check_length, size, fill}
+use Rattle.model_sender.proofs.PlanShares.{size-smaller, size-larger, fillers-room}
 use Rattle.segmentation.specs.Plans.{IsPlan}
 use Rattle.segmentation.proofs.OfPlans.{sound-plan}
 use Rattle.rate_match.proofs.SizeSteps.{size-step, places-rise}

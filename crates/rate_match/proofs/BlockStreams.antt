@@ -7,12 +7,12 @@ use Rattle.std.proofs.lemmas.Grind.{flat_map-append}
 use Rattle.std.proofs.lemmas.List.{append-nil, length-map}
 use Rattle.rate_match.proofs.Walked.{range-split}
 use Rattle.lte_bits.specs.declared.block.Block.{Block}
-use Rattle.sender_model.specs.Interleaver.{sizes}
-use Rattle.sender_model.specs.Segmentation.{Plan, size, fill}
-use Rattle.sender_model.specs.CodeBlocks.{block, blocks}
-use Rattle.sender_model.specs.CodedStreams.{streams}
-use Rattle.sender_model.specs.CircularBuffer.{AreStreams}
-use Rattle.sender_model.proofs.StreamNulls.{streams-nulls}
+use Rattle.model_sender.specs.Interleaver.{sizes}
+use Rattle.model_sender.specs.Segmentation.{Plan, size, fill}
+use Rattle.model_sender.specs.CodeBlocks.{block, blocks}
+use Rattle.model_sender.specs.CodedStreams.{streams}
+use Rattle.model_sender.specs.CircularBuffer.{AreStreams}
+use Rattle.model_sender.proofs.StreamNulls.{streams-nulls}
 use Rattle.segmentation.specs.Shape.{AreBlocksOf}
 use Rattle.rate_match.proofs.BlockNumbers.{IsBlockOf}
 

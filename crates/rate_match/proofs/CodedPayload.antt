@@ -5,10 +5,10 @@ use Rattle.std.proofs.lemmas.List.FromFn.{get_or-map-range_with_len}
 use Rattle.std.proofs.Math.ListN.{get_or-map}
 use Rattle.lte_bits.specs.declared.block.Block.{Block}
 use Rattle.lte_bits.specs.declared.block.Streams.{Streams}
-use Rattle.sender_model.specs.Segmentation.{Plan, plan_of, size, fill}
-use Rattle.sender_model.specs.CodeBlocks.{block, blocks}
-use Rattle.sender_model.specs.CodedStreams.{streams}
-use Rattle.sender_model.specs.CircularBuffer.{AreStreams}
+use Rattle.model_sender.specs.Segmentation.{Plan, plan_of, size, fill}
+use Rattle.model_sender.specs.CodeBlocks.{block, blocks}
+use Rattle.model_sender.specs.CodedStreams.{streams}
+use Rattle.model_sender.specs.CircularBuffer.{AreStreams}
 use Rattle.segmentation.proofs.CutBlocks.{blocks-shape}
 use Rattle.segmentation.proofs.OfPlans.{is_plan}
 use Rattle.rate_match.specs.Coded.{AreStreamsOf}

@@ -3,9 +3,9 @@ use Rattle.std.proofs.Common.{◌≡◌, ℕ, ◌+◌, ◌-◌, ◌*◌, ◌/◌
 use Rattle.std.proofs.lemmas.Bool.{cases_lt, lt-ltb, le-ltb}
 use Rattle.std.proofs.lemmas.Nat.{div-mul-add, mod-mul-add, mod_below}
 use Rattle.std.proofs.Math.Nat.{div-add-mod, div-eq_of_lt, mod-eq_of_lt, mod_self, div-lt_iff_lt-mul}
-use Rattle.sender_model.specs.CircularBuffer.{column_order, read_place, rows_of, buffer_size, Stream, padded, spot}
-use Rattle.sender_model.proofs.BufferLaws.{spot-third}
-use Rattle.sender_model.proofs.PaddedStreams.{column-below, read_place-below}
+use Rattle.model_sender.specs.CircularBuffer.{column_order, read_place, rows_of, buffer_size, Stream, padded, spot}
+use Rattle.model_sender.proofs.BufferLaws.{spot-third}
+use Rattle.model_sender.proofs.PaddedStreams.{column-below, read_place-below}
 use Rattle.rate_match.specs.Cursor.{order_of, cursor_at}
 use Rattle.rate_match.specs.declared.cursor.Cursor.{Cursor}
 use Rattle.rate_match.proofs.SizeSteps.{places-most}

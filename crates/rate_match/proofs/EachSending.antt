@@ -2,8 +2,8 @@
 use Rattle.std.proofs.Common.{◌≡◌, ℕ, zero, suc, ◌+◌, ◌≤◌, true, List, [], ◌∷◌, drop, Some, All, ap, sym, subst, ◌∙◌, add-one, arith}
 use Rattle.std.specs.List.{slice_get}
 use Rattle.std.specs.declared.option.Option.{Option}
-use Rattle.sender_model.specs.CircularBuffer.{Fits, FitsIn}
-use Rattle.sender_model.specs.Segmentation.{plan_of}
+use Rattle.model_sender.specs.CircularBuffer.{Fits, FitsIn}
+use Rattle.model_sender.specs.Segmentation.{plan_of}
 use Rattle.rate_match.specs.Fitting.{fits_all}
 use Rattle.rate_match.specs.Sendings.{AreSendings, common}
 use Rattle.rate_match.specs.declared.sends.Sending.{Sending}

@@ -3,8 +3,8 @@ use Rattle.std.proofs.Common.{◌≡◌, ℕ, zero, suc, ◌+◌, ◌<◌, ◌�
 use Rattle.std.specs.List.{list_all, range_with_len}
 use Rattle.std.specs.declared.option.Option.{Option}
 use Rattle.std.proofs.lemmas.Bool.{and_parts, cases_lt, leb-true, le-leb}
-use Rattle.sender_model.specs.Segmentation.{plan_of}
-use Rattle.sender_model.specs.CircularBuffer.{FitsIn}
+use Rattle.model_sender.specs.Segmentation.{plan_of}
+use Rattle.model_sender.specs.CircularBuffer.{FitsIn}
 use Rattle.rate_match.specs.Fitting.{FitsAll, fits_in, fits_all}
 
 -- ---- the numbers of a range

@@ -5,13 +5,13 @@ use Rattle.std.proofs.lemmas.List.{length-map}
 use Rattle.std.proofs.lemmas.List.Concat.{length-flat_map}
 use Rattle.std.proofs.lemmas.List.FromFn.{length-map-range_with_len}
 use Rattle.lte_bits.specs.declared.block.Streams.{Streams}
-use Rattle.sender_model.specs.Segmentation.{Plan, size, fill}
-use Rattle.sender_model.specs.CodeBlocks.{block}
-use Rattle.sender_model.specs.CodedStreams.{streams}
-use Rattle.sender_model.specs.CircularBuffer.{Match, piece_length, w}
-use Rattle.sender_model.specs.Selection.{bit_of_cell, repeated, places, sent}
-use Rattle.sender_model.specs.Codeword.{codeword_of}
-use Rattle.sender_model.proofs.Pieces.{pieces-sum}
+use Rattle.model_sender.specs.Segmentation.{Plan, size, fill}
+use Rattle.model_sender.specs.CodeBlocks.{block}
+use Rattle.model_sender.specs.CodedStreams.{streams}
+use Rattle.model_sender.specs.CircularBuffer.{Match, piece_length, w}
+use Rattle.model_sender.specs.Selection.{bit_of_cell, repeated, places, sent}
+use Rattle.model_sender.specs.Codeword.{codeword_of}
+use Rattle.model_sender.proofs.Pieces.{pieces-sum}
 use Rattle.rate_match.specs.Matching.{IsMatch}
 use Rattle.rate_match.proofs.Matchings.{match-bounds}
 

@@ -5,7 +5,7 @@ use Rattle.std.proofs.lemmas.Bool.{and_parts, or_cases, leb-true, eqb-true}
 use Rattle.std.proofs.lemmas.Nat.Gcd.{dvd_of_mod-eq-zero}
 use Rattle.std.proofs.Math.Nat.{div-add-mod, mul-le-mul_left}
 use Rattle.std.specs.Int.{div_ceil}
-use Rattle.sender_model.specs.CircularBuffer.{Match, piece_length}
+use Rattle.model_sender.specs.CircularBuffer.{Match, piece_length}
 use Rattle.rate_match.specs.Matching.{IsMatch, is_qm, is_nl}
 
 pub record IsBounded (m : Match) : Type 0 where

@@ -4,12 +4,12 @@ use Rattle.std.specs.Int.{div_ceil}
 use Rattle.std.proofs.lemmas.Bool.{cases_lt, leb-true, leb-false, le-leb, lt-ltb}
 use Rattle.std.proofs.lemmas.Nat.{mod_below}
 use Rattle.std.proofs.Math.Nat.{div-add-mod, mul-le-mul_left}
-use Rattle.sender_model.specs.Segmentation.{bits_of, count_of, check_length, carried, plan_of}
+use Rattle.model_sender.specs.Segmentation.{bits_of, count_of, check_length, carried, plan_of}
 use Rattle.std.specs.declared.option.Option.{Option}
-use Rattle.sender_model.specs.Interleaver.{sizes}
-use Rattle.sender_model.specs.CircularBuffer.{rows_of, FitsIn}
-use Rattle.sender_model.proofs.Extremes.{IsLeastPassing}
-use Rattle.sender_model.proofs.PlanLaws.{plan-sound, plan-count}
+use Rattle.model_sender.specs.Interleaver.{sizes}
+use Rattle.model_sender.specs.CircularBuffer.{rows_of, FitsIn}
+use Rattle.model_sender.proofs.Extremes.{IsLeastPassing}
+use Rattle.model_sender.proofs.PlanLaws.{plan-sound, plan-count}
 use Rattle.rate_match.proofs.SizeSteps.{size-step, places-most, places-whole, places-rise}
 
 -- ---- the number of blocks of b bits

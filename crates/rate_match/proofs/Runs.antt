@@ -4,10 +4,10 @@ use Rattle.std.specs.Int.{div_ceil}
 use Rattle.std.proofs.lemmas.Bool.{cases_lt, lt-ltb, le-ltb}
 use Rattle.std.proofs.lemmas.Nat.{div-mul-add, mod-mul-add, mod_below}
 use Rattle.std.proofs.Math.Nat.{div-add-mod, mod-eq_of_lt, div-lt_iff_lt-mul}
-use Rattle.sender_model.specs.declared.spot.Spot.{Spot}
-use Rattle.sender_model.specs.CircularBuffer.{Stream, buffer_size, column_order, padded, padding, read_place, rows_of, spot}
-use Rattle.sender_model.proofs.BufferLaws.{spot-first, spot-second, spot-third, spot-within}
-use Rattle.sender_model.proofs.PaddedStreams.{column-below}
+use Rattle.model_sender.specs.declared.spot.Spot.{Spot}
+use Rattle.model_sender.specs.CircularBuffer.{Stream, buffer_size, column_order, padded, padding, read_place, rows_of, spot}
+use Rattle.model_sender.proofs.BufferLaws.{spot-first, spot-second, spot-third, spot-within}
+use Rattle.model_sender.proofs.PaddedStreams.{column-below}
 use Rattle.rate_match.specs.Cursor.{IsRun, order_of, cursor_at, rows_down, spot_down}
 use Rattle.rate_match.specs.declared.cursor.Cursor.{Cursor}
 use Rattle.rate_match.proofs.CursorSteps.{made, order-first, order-behind}

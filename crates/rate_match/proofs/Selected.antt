@@ -5,7 +5,7 @@ use Rattle.std.proofs.lemmas.List.{length-append, map-append}
 use Rattle.std.proofs.lemmas.Simd.{map-map}
 use Rattle.std.proofs.lemmas.List.FromFn.{length-map-range_with_len}
 use Rattle.std.proofs.Math.Nat.{mul-le-mul_left}
-use Rattle.sender_model.specs.Selection.{repeated}
+use Rattle.model_sender.specs.Selection.{repeated}
 use Rattle.rate_match.specs.Cursor.{cursor_at}
 use Rattle.rate_match.specs.declared.cursor.Cursor.{Cursor}
 use Rattle.rate_match.proofs.Walked.{walked, walked-again, walked-grows, rounds-long, run_kept, step_kept, step_left}

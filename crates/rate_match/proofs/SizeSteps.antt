@@ -3,8 +3,8 @@ use Rattle.std.proofs.Common.{◌≡◌, ℕ, ◌+◌, ◌*◌, ◌%◌, ◌<◌
 use Rattle.std.specs.List.{list_all}
 use Rattle.std.proofs.lemmas.Bool.{and_parts, leb-true, eqb-true}
 use Rattle.std.proofs.lemmas.List.Sums.{AllPass-from_list_all}
-use Rattle.sender_model.specs.Interleaver.{sizes}
-use Rattle.sender_model.specs.CircularBuffer.{rows_of}
+use Rattle.model_sender.specs.Interleaver.{sizes}
+use Rattle.model_sender.specs.CircularBuffer.{rows_of}
 
 abbrev step_test : ℕ → Bool
 step_test k = (nat_le 1 k && nat_le k 6144) && (nat_le k 1024 || k % 32 == 0)

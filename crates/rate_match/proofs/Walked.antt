@@ -6,7 +6,7 @@ use Rattle.std.proofs.lemmas.List.{map-append, length-append, get_or_append_left
 use Rattle.std.proofs.lemmas.List.Elements.{filter-append}
 use Rattle.std.proofs.lemmas.List.FromFn.{filter_of_map_range_with_len_more, fill_by_all}
 use Rattle.std.proofs.Math.Nat.{add-mod_left, add-mod_right, add-mod-mod, mod-eq_of_lt}
-use Rattle.sender_model.specs.Selection.{repeated}
+use Rattle.model_sender.specs.Selection.{repeated}
 
 -- what s steps from k on find
 abbrev pub walked : (ℕ → Bool) → ℕ → ℕ → ℕ → List ℕ

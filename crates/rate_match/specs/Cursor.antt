@@ -1,7 +1,7 @@
 -- Where a walk round the circular buffer stands (36.212 5.1.4.1.1, 5.1.4.1.2).
 use Rattle.std.specs.Prelude.{◌≡◌, ℕ, ◌+◌, ◌-◌, ◌*◌, ◌/◌, ◌%◌, ◌<◌, ◌≤◌, ◌==◌, nat_lt, if◌then◌else◌, Some}
-use Rattle.sender_model.specs.declared.spot.Spot.{Spot}
-use Rattle.sender_model.specs.CircularBuffer.{padding, read_place, spot}
+use Rattle.model_sender.specs.declared.spot.Spot.{Spot}
+use Rattle.model_sender.specs.CircularBuffer.{padding, read_place, spot}
 use Rattle.rate_match.specs.declared.cursor.Cursor.{Cursor}
 
 -- which place of its stream, read by columns, stands at place n of w, where a stream takes r rows

@@ -2,8 +2,8 @@
 use Rattle.std.specs.Prelude.{ℕ, ◌*◌, ◌/◌, ◌≤◌, Bool, true, nat_le, Some, None}
 use Rattle.std.specs.declared.option.Option.{Option}
 use Rattle.std.specs.List.{list_all, range_with_len}
-use Rattle.sender_model.specs.Segmentation.{plan_of}
-use Rattle.sender_model.specs.CircularBuffer.{FitsIn, rows_of}
+use Rattle.model_sender.specs.Segmentation.{plan_of}
+use Rattle.model_sender.specs.CircularBuffer.{FitsIn, rows_of}
 
 -- the buffer fits the plan of every length from 1 to tb
 abbrev pub FitsAll : Option ℕ → ℕ → Type 0

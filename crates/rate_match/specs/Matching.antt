@@ -2,7 +2,7 @@
 use Rattle.std.specs.Prelude.{◌≡◌, ℕ, ◌*◌, ◌%◌, Bool, true, ◌&&◌, ◌||◌, not, nat_le, ◌==◌, if◌then◌else◌, Some, None, Ok, Err}
 use Rattle.std.specs.declared.option.Option.{Option}
 use Rattle.std.specs.declared.result.Result.{Result}
-use Rattle.sender_model.specs.CircularBuffer.{Match}
+use Rattle.model_sender.specs.CircularBuffer.{Match}
 use Rattle.rate_match.specs.declared.matching.Buffer.{Buffer}
 use Rattle.rate_match.specs.declared.matching.Buffer.TheVariants.{Full, Limited}
 use Rattle.rate_match.specs.declared.matching.BadMatch.{BadMatch}

@@ -1,6 +1,6 @@
 -- The transmissions of a transport block: the rate matching and the redundancy version of each.
 use Rattle.std.specs.Prelude.{◌≡◌, ◌≤◌, List, [], ◌∷◌, length, All, None}
-use Rattle.sender_model.specs.CircularBuffer.{Match}
+use Rattle.model_sender.specs.CircularBuffer.{Match}
 use Rattle.rate_match.specs.Matching.{IsMatch}
 use Rattle.rate_match.specs.declared.sends.Sending.{Sending}
 

@@ -1,5 +1,5 @@
 -- What contracts see of a `Match`.
-use Rattle.sender_model.specs.CircularBuffer.{Match}
+use Rattle.model_sender.specs.CircularBuffer.{Match}
 use Rattle.rate_match.specs.declared.matching.Match.TheInside.{Inside}
 use Rattle.rate_match.specs.Matching.{IsMatch}
 

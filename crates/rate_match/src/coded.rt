@@ -1,8 +1,8 @@
 //! A transport block, coded once for all its transmissions (36.212 5.1.5).
 ghost use Rattle.std.specs.Prelude.{◌≡◌, ◌≤◌, IfOk, length};
-ghost use Rattle.sender_model.specs.Segmentation.{plan_of};
-ghost use Rattle.sender_model.specs.CircularBuffer.{Fits};
-ghost use Rattle.sender_model.specs.Codeword.{codeword};
+ghost use Rattle.model_sender.specs.Segmentation.{plan_of};
+ghost use Rattle.model_sender.specs.CircularBuffer.{Fits};
+ghost use Rattle.model_sender.specs.Codeword.{codeword};
 
 use crate::matching::Match;
 use crate::selecting::push_piece;

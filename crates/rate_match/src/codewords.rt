@@ -1,8 +1,8 @@
 //! The codeword of a transport block (36.212 5.1.5).
 ghost use Rattle.std.specs.Prelude.{◌≡◌, ◌≤◌, IfOk, length};
-ghost use Rattle.sender_model.specs.Segmentation.{plan_of};
-ghost use Rattle.sender_model.specs.CircularBuffer.{Fits};
-ghost use Rattle.sender_model.specs.Codeword.{codeword};
+ghost use Rattle.model_sender.specs.Segmentation.{plan_of};
+ghost use Rattle.model_sender.specs.CircularBuffer.{Fits};
+ghost use Rattle.model_sender.specs.Codeword.{codeword};
 
 use crate::coded::Coded;
 use crate::matching::Match;

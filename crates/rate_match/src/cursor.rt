@@ -1,10 +1,10 @@
 //! A walk round the circular buffer, from place to place by additions alone.
 ghost use Rattle.std.specs.Prelude.{◌≡◌, ◌+◌, ◌*◌, ◌/◌, ◌%◌, ◌<◌, ◌≤◌, slice_index, IfSome, Some};
-ghost use Rattle.sender_model.specs.CircularBuffer.{column_order, padded, padding, spot};
+ghost use Rattle.model_sender.specs.CircularBuffer.{column_order, padded, padding, spot};
 ghost use Rattle.rate_match.specs.Cursor.{IsRun, cursor_at, order_of, rows_down, spot_down};
 
 use crate::rings::Ring;
-use sender_model::Spot;
+use model_sender::Spot;
 
 /// P, the order in which the 32 columns are read.
 const COLUMN_ORDER: [usize; 32] = [

@@ -1,6 +1,6 @@
 //! Which soft buffers are large enough.
 ghost use Rattle.std.specs.Prelude.{◌≡◌, ◌≤◌, ◌↔◌, IsTrue};
-ghost use Rattle.sender_model.specs.CircularBuffer.{Fits, FitsIn};
+ghost use Rattle.model_sender.specs.CircularBuffer.{Fits, FitsIn};
 ghost use Rattle.rate_match.specs.Matching.{limit_of};
 ghost use Rattle.rate_match.specs.Fitting.{FitsAll, fits_all};
 

@@ -26,7 +26,7 @@ pub struct Match {
 }
 
 impl Model for Match {
-    ghost use Rattle.sender_model.specs.CircularBuffer.{Match as Numbers};
+    ghost use Rattle.model_sender.specs.CircularBuffer.{Match as Numbers};
 
     ghost Value = { Numbers };
 

@@ -1,9 +1,9 @@
 //! The numbers of a code block's circular buffer (36.212 5.1.4.1.1, 5.1.4.1.2).
 ghost use Rattle.std.specs.Prelude.{◌≡◌, ◌≤◌, ◌<◌, ◌*◌, Contains, sum_by};
 ghost use Rattle.std.specs.List.{range_with_len};
-ghost use Rattle.sender_model.specs.Interleaver.{sizes};
-ghost use Rattle.sender_model.specs.Segmentation.{size};
-ghost use Rattle.sender_model.specs.CircularBuffer.{Fits, rows_of, buffer_size, buffer_length, piece_length, start};
+ghost use Rattle.model_sender.specs.Interleaver.{sizes};
+ghost use Rattle.model_sender.specs.Segmentation.{size};
+ghost use Rattle.model_sender.specs.CircularBuffer.{Fits, rows_of, buffer_size, buffer_length, piece_length, start};
 ghost use Rattle.rate_match.specs.Matching.{IsMatch};
 
 use crate::matching::{Buffer, Match};

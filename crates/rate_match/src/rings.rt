@@ -1,7 +1,7 @@
 //! The part of a code block's circular buffer that is sent (36.212 5.1.4.1.2).
 ghost use Rattle.std.specs.Prelude.{◌≡◌, ◌<◌, ◌≤◌};
-ghost use Rattle.sender_model.specs.Segmentation.{size, fill};
-ghost use Rattle.sender_model.specs.CircularBuffer.{Fits, buffer_length, buffer_size, rows_of};
+ghost use Rattle.model_sender.specs.Segmentation.{size, fill};
+ghost use Rattle.model_sender.specs.CircularBuffer.{Fits, buffer_length, buffer_size, rows_of};
 ghost use Rattle.segmentation.specs.Plans.{IsPlan};
 
 use crate::matching::Match;

@@ -2,10 +2,10 @@
 ghost use Rattle.std.specs.Prelude.{◌≡◌, ◌≤◌, ◌<◌, ◌+◌, ◌++◌, Contains, IfOk, OnOk, IfSome, Some, map, length};
 ghost use Rattle.std.specs.List.{range_with_len};
 ghost use Rattle.lte_bits.specs.declared.bit.Cell.{Cell};
-ghost use Rattle.sender_model.specs.Interleaver.{sizes};
-ghost use Rattle.sender_model.specs.Segmentation.{size, fill};
-ghost use Rattle.sender_model.specs.CircularBuffer.{AreStreams, Fits, buffer_size, cell_at, piece_length, spot, stream_of, w};
-ghost use Rattle.sender_model.specs.Selection.{bit_of_cell, bits_from, holds_bit, repeated, sent};
+ghost use Rattle.model_sender.specs.Interleaver.{sizes};
+ghost use Rattle.model_sender.specs.Segmentation.{size, fill};
+ghost use Rattle.model_sender.specs.CircularBuffer.{AreStreams, Fits, buffer_size, cell_at, piece_length, spot, stream_of, w};
+ghost use Rattle.model_sender.specs.Selection.{bit_of_cell, bits_from, holds_bit, repeated, sent};
 ghost use Rattle.rate_match.specs.Cursor.{IsRun};
 
 use crate::cursor::Cursor;
@@ -13,9 +13,9 @@ use crate::matching::Match;
 use crate::numbers::{buffer_len, piece_len, rows_of, start};
 use crate::rings::Ring;
 use lte_bits::{Bit, Cell, List, NoMemory, Streams};
+use model_sender::Spot;
 use segmentation::planning::{fill, size};
 use segmentation::plans::Plan;
-use sender_model::Spot;
 use std::alloc::Global;
 
 /// The bit of d0, d1 or d2 that stands at place `n` of the circular buffer of a block of `k` bits,

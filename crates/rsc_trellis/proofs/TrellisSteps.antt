@@ -2,9 +2,9 @@
 use Rattle.std.proofs.Common.{◌≡◌, List, [], ◌∷◌, length, refl, ap, ◌∙◌}
 use Rattle.lte_bits.specs.declared.bit.Bit.{Bit}
 use Rattle.lte_bits.specs.declared.bit.Bit.TheVariants.{Zero, One}
-use Rattle.sender_model.specs.Bits.{plus}
-use Rattle.sender_model.specs.ConstituentCoder.{State, next}
-use Rattle.sender_model.specs.Tail.{reached}
+use Rattle.model_sender.specs.Bits.{plus}
+use Rattle.model_sender.specs.ConstituentCoder.{State, next}
+use Rattle.model_sender.specs.Tail.{reached}
 use Rattle.rsc_trellis.specs.Steps.{state_before, input_before}
 
 -- what was added twice is gone

@@ -1,7 +1,7 @@
 -- The steps into a state (36.212 5.1.3.2.1).
 use Rattle.lte_bits.specs.declared.bit.Bit.{Bit}
-use Rattle.sender_model.specs.Bits.{plus}
-use Rattle.sender_model.specs.ConstituentCoder.{State}
+use Rattle.model_sender.specs.Bits.{plus}
+use Rattle.model_sender.specs.ConstituentCoder.{State}
 
 -- the state before s whose oldest value is r, and the input that leads from it to s
 abbrev pub state_before : State → Bit → State

@@ -1,8 +1,8 @@
 //! Which states inputs lead to.
 ghost use Rattle.std.specs.Prelude.{◌≡◌, List, length};
 ghost use Rattle.lte_bits.specs.declared.bit.Bit.{Bit};
-ghost use Rattle.sender_model.specs.ConstituentCoder.{State};
-ghost use Rattle.sender_model.specs.Tail.{reached};
+ghost use Rattle.model_sender.specs.ConstituentCoder.{State};
+ghost use Rattle.model_sender.specs.Tail.{reached};
 
 /// Three inputs lead from each state to each state. The function computes nothing: its contract is
 /// the law.

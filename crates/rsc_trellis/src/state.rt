@@ -14,7 +14,7 @@ pub struct State {
 }
 
 impl Model for State {
-    ghost use Rattle.sender_model.specs.ConstituentCoder.{State as Register};
+    ghost use Rattle.model_sender.specs.ConstituentCoder.{State as Register};
 
     ghost Value = { Register };
 
@@ -31,7 +31,7 @@ fn bit(is_one: bool) -> Bit
 }
 
 impl State {
-    ghost use Rattle.sender_model.specs.ConstituentCoder.{zero_state};
+    ghost use Rattle.model_sender.specs.ConstituentCoder.{zero_state};
     ghost use Rattle.rsc_trellis.specs.Number.{number_of};
 
     /// The state in which the coder starts and ends.

@@ -1,7 +1,7 @@
 //! One step of the constituent coder (36.212 5.1.3.2.1).
 ghost use Rattle.std.specs.Prelude.{◌≡◌};
-ghost use Rattle.sender_model.specs.Bits.{plus};
-ghost use Rattle.sender_model.specs.ConstituentCoder.{next, parity};
+ghost use Rattle.model_sender.specs.Bits.{plus};
+ghost use Rattle.model_sender.specs.ConstituentCoder.{next, parity};
 ghost use Rattle.rsc_trellis.specs.Steps.{state_before, input_before};
 
 use crate::state::State;

@@ -1,7 +1,7 @@
 //! The tail of the constituent coder (36.212 5.1.3.2.2).
 ghost use Rattle.std.specs.Prelude.{◌≡◌, map};
-ghost use Rattle.sender_model.specs.ConstituentCoder.{zero_state, parities_from};
-ghost use Rattle.sender_model.specs.Tail.{reached, tail_inputs, tail_parities};
+ghost use Rattle.model_sender.specs.ConstituentCoder.{zero_state, parities_from};
+ghost use Rattle.model_sender.specs.Tail.{reached, tail_inputs, tail_parities};
 
 use crate::state::State;
 use crate::step::plus;

@@ -1,9 +1,9 @@
 -- The sizes of a plan's blocks, and where each stands in S.
 use Rattle.std.proofs.Common.{◌≡◌, ℕ, zero, suc, ◌+◌, ◌-◌, ◌<◌, ◌≤◌, List, length, sym, subst, inl, inr, arith}
 use Rattle.std.proofs.lemmas.Bool.{cases_lt}
-use Rattle.sender_model.specs.Segmentation.{Plan, bits_of, carried, check_length, plan_of, size}
-use Rattle.sender_model.specs.CodeBlocks.{before, share, sequence}
-use Rattle.sender_model.proofs.PlanShares.{size-smaller, size-larger, size-room, fillers-room, before-more, before-all}
+use Rattle.model_sender.specs.Segmentation.{Plan, bits_of, carried, check_length, plan_of, size}
+use Rattle.model_sender.specs.CodeBlocks.{before, share, sequence}
+use Rattle.model_sender.proofs.PlanShares.{size-smaller, size-larger, size-room, fillers-room, before-more, before-all}
 use Rattle.segmentation.specs.Plans.{IsPlan}
 use Rattle.segmentation.proofs.Computed.{IsSmall, plan-small}
 use Rattle.segmentation.proofs.OfPlans.{sound-plan}

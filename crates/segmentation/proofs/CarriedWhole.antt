@@ -10,12 +10,12 @@ use Rattle.lte_bits.specs.Packing.{unpacked}
 use Rattle.lte_bits.specs.declared.bit.Bit.{Bit}
 use Rattle.lte_bits.specs.declared.bit.Bit.TheVariants.{Zero}
 use Rattle.lte_bits.specs.declared.block.Block.{Block}
-use Rattle.sender_model.specs.CheckBits.{crc, crc24a, crc24b}
-use Rattle.sender_model.specs.Segmentation.{Plan, check_length, plan_of, fill}
-use Rattle.sender_model.specs.CodeBlocks.{before, block, blocks, checked, share, sequence, whole}
-use Rattle.sender_model.proofs.CheckBitLaws.{length-crc}
-use Rattle.sender_model.proofs.PlanLaws.{plan-sound}
-use Rattle.sender_model.proofs.PlanShares.{before-more, before-all}
+use Rattle.model_sender.specs.CheckBits.{crc, crc24a, crc24b}
+use Rattle.model_sender.specs.Segmentation.{Plan, check_length, plan_of, fill}
+use Rattle.model_sender.specs.CodeBlocks.{before, block, blocks, checked, share, sequence, whole}
+use Rattle.model_sender.proofs.CheckBitLaws.{length-crc}
+use Rattle.model_sender.proofs.PlanLaws.{plan-sound}
+use Rattle.model_sender.proofs.PlanShares.{before-more, before-all}
 use Rattle.segmentation.proofs.BlockSizes.{before-le, before-within, fillers-few}
 use Rattle.segmentation.proofs.CutBlocks.{length-piece}
 use Rattle.segmentation.proofs.OfPlans.{is_plan}

@@ -2,11 +2,11 @@
 use Rattle.std.proofs.Common.{◌≡◌, ℕ, ◌+◌, ◌-◌, ◌*◌, ◌<◌, ◌≤◌, nat_lt, Bool, cond, filter, refl, ap, ◌∙◌, inl, inr, arith}
 use Rattle.std.proofs.lemmas.Bool.{cases_lt, eq-eqb, leb-true, ltb-true}
 use Rattle.std.proofs.Math.Nat.{mul-le-mul_left}
-use Rattle.sender_model.specs.Bits.{greatest}
-use Rattle.sender_model.specs.Interleaver.{sizes}
-use Rattle.sender_model.specs.Segmentation.{Plan, bits_of, count_of, check_length, carried, larger_size, smaller_size, smaller_count, plan_of}
-use Rattle.sender_model.proofs.PlanLaws.{IsSound, plan-sound}
-use Rattle.sender_model.proofs.RowLaws.{range-of_size}
+use Rattle.model_sender.specs.Bits.{greatest}
+use Rattle.model_sender.specs.Interleaver.{sizes}
+use Rattle.model_sender.specs.Segmentation.{Plan, bits_of, count_of, check_length, carried, larger_size, smaller_size, smaller_count, plan_of}
+use Rattle.model_sender.proofs.PlanLaws.{IsSound, plan-sound}
+use Rattle.model_sender.proofs.RowLaws.{range-of_size}
 
 -- ---- each is that of the plan
 

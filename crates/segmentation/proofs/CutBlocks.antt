@@ -4,11 +4,11 @@ use Rattle.std.specs.List.{range_with_len}
 use Rattle.std.proofs.lemmas.List.{length-append, length-drop, length-take-le, drop-drop}
 use Rattle.lte_bits.specs.declared.bit.Bit.{Bit}
 use Rattle.lte_bits.specs.declared.block.Block.{Block}
-use Rattle.sender_model.specs.CheckBits.{crc, crc24b}
-use Rattle.sender_model.specs.Segmentation.{Plan, check_length, plan_of, size, fill}
-use Rattle.sender_model.specs.CodeBlocks.{before, block, blocks, checked, share, sequence}
-use Rattle.sender_model.proofs.CheckBitLaws.{length-crc}
-use Rattle.sender_model.proofs.PlanShares.{before-more}
+use Rattle.model_sender.specs.CheckBits.{crc, crc24b}
+use Rattle.model_sender.specs.Segmentation.{Plan, check_length, plan_of, size, fill}
+use Rattle.model_sender.specs.CodeBlocks.{before, block, blocks, checked, share, sequence}
+use Rattle.model_sender.proofs.CheckBitLaws.{length-crc}
+use Rattle.model_sender.proofs.PlanShares.{before-more}
 use Rattle.segmentation.specs.Shape.{AreBlocksOf}
 use Rattle.segmentation.proofs.BlockSizes.{block-size, before-within}
 use Rattle.segmentation.proofs.OfPlans.{is_plan}

@@ -1,7 +1,7 @@
 -- What a lawful plan has of the plan of its payload.
 use Rattle.std.proofs.Common.{ℕ, ◌≡◌, ◌≤◌, sym, ap, ◌∙◌, subst, arith}
-use Rattle.sender_model.specs.Segmentation.{Plan, bits_of, carried, plan_of}
-use Rattle.sender_model.proofs.PlanLaws.{IsSound, plan-bytes, plan-sound}
+use Rattle.model_sender.specs.Segmentation.{Plan, bits_of, carried, plan_of}
+use Rattle.model_sender.proofs.PlanLaws.{IsSound, plan-bytes, plan-sound}
 use Rattle.segmentation.specs.Plans.{IsPlan}
 
 -- what is true of the plan of so many bytes

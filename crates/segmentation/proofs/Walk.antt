@@ -5,11 +5,11 @@ use Rattle.std.proofs.lemmas.Bool.{cases_lt, and_parts, leb-true, le-leb, lt-ltb
 use Rattle.std.proofs.lemmas.Grind.{div_ceil_times}
 use Rattle.std.proofs.lemmas.List.{get_or-reverse, length-reverse}
 use Rattle.std.proofs.Math.Nat.{mul-le-mul_right}
-use Rattle.sender_model.specs.Bits.{greatest}
-use Rattle.sender_model.specs.Interleaver.{sizes}
-use Rattle.sender_model.specs.Segmentation.{larger_size}
-use Rattle.sender_model.proofs.Extremes.{Contains-more, Contains-cases, least-one, greatest-one}
-use Rattle.sender_model.proofs.SizeTable.{size_40, size_6144}
+use Rattle.model_sender.specs.Bits.{greatest}
+use Rattle.model_sender.specs.Interleaver.{sizes}
+use Rattle.model_sender.specs.Segmentation.{larger_size}
+use Rattle.model_sender.proofs.Extremes.{Contains-more, Contains-cases, least-one, greatest-one}
+use Rattle.model_sender.proofs.SizeTable.{size_40, size_6144}
 
 -- ---- a list in order
 

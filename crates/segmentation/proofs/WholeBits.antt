@@ -6,10 +6,10 @@ use Rattle.std.proofs.lemmas.List.Concat.{flat_map-append}
 use Rattle.std.proofs.lemmas.List.FromFn.{length-map-range_with_len, get_or-map-range_with_len}
 use Rattle.lte_bits.specs.declared.bit.Bit.{Bit}
 use Rattle.lte_bits.specs.declared.block.Block.{Block}
-use Rattle.sender_model.specs.Segmentation.{Plan, bits_of, count_of, check_length, size, fill}
-use Rattle.sender_model.specs.CodeBlocks.{before, whole}
-use Rattle.sender_model.proofs.PlanLaws.{IsSound, plan-count}
-use Rattle.sender_model.proofs.PlanShares.{before-more, before-whole}
+use Rattle.model_sender.specs.Segmentation.{Plan, bits_of, count_of, check_length, size, fill}
+use Rattle.model_sender.specs.CodeBlocks.{before, whole}
+use Rattle.model_sender.proofs.PlanLaws.{IsSound, plan-count}
+use Rattle.model_sender.proofs.PlanShares.{before-more, before-whole}
 use Rattle.segmentation.specs.Plans.{IsPlan}
 use Rattle.segmentation.specs.Shape.{AreBlocksOf}
 use Rattle.segmentation.proofs.BlockSizes.{block-size, fillers-few}

@@ -1,6 +1,6 @@
 -- The plans of transport blocks (36.212 5.1.2).
 use Rattle.std.specs.Prelude.{◌≡◌, ◌≤◌}
-use Rattle.sender_model.specs.Segmentation.{Plan, plan_of}
+use Rattle.model_sender.specs.Segmentation.{Plan, plan_of}
 
 -- it is that of a transport block of 1 to 18,722 bytes
 pub record IsPlan (plan : Plan) : Type 0 where

@@ -2,7 +2,7 @@
 use Rattle.std.specs.Prelude.{◌≡◌, List, length, map}
 use Rattle.std.specs.List.{range_with_len}
 use Rattle.lte_bits.specs.declared.block.Block.{Block}
-use Rattle.sender_model.specs.Segmentation.{Plan, size, fill}
+use Rattle.model_sender.specs.Segmentation.{Plan, size, fill}
 
 -- there are C blocks, and each has its size and its fillers
 pub record AreBlocksOf (plan : Plan) (blocks : List Block) : Type 0 where

@@ -1,5 +1,5 @@
 -- What contracts see of a `Plan`.
-use Rattle.sender_model.specs.Segmentation.{Plan}
+use Rattle.model_sender.specs.Segmentation.{Plan}
 use Rattle.segmentation.specs.declared.plans.Plan.TheInside.{Inside}
 use Rattle.segmentation.specs.Plans.{IsPlan}
 

@@ -1,8 +1,8 @@
 //! Cutting a transport block into code blocks (36.212 5.1.2).
 ghost use Rattle.std.specs.Prelude.{◌≡◌, ◌≤◌, ◌<◌, ◌++◌, IfOk, length, replicate};
 ghost use Rattle.lte_bits.specs.Packing.{unpacked};
-ghost use Rattle.sender_model.specs.CheckBits.{crc, crc24a};
-ghost use Rattle.sender_model.specs.CodeBlocks.{blocks, checked, share};
+ghost use Rattle.model_sender.specs.CheckBits.{crc, crc24a};
+ghost use Rattle.model_sender.specs.CodeBlocks.{blocks, checked, share};
 ghost use Rattle.segmentation.specs.Shape.{AreBlocksOf};
 
 use crate::planning::{CHECK_BITS, check_length, fill, size};

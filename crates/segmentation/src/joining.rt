@@ -1,8 +1,8 @@
 //! The payload of code blocks (36.212 5.1.2, turned round).
 ghost use Rattle.std.specs.Prelude.{◌≡◌, ◌≤◌, ◌+◌, ◌-◌, ◌*◌, ◌↔◌, IsTrue, IfOk, length, take, drop};
 ghost use Rattle.lte_bits.specs.Packing.{packed};
-ghost use Rattle.sender_model.specs.CheckBits.{IsMultiple, crc24a};
-ghost use Rattle.sender_model.specs.CodeBlocks.{whole};
+ghost use Rattle.model_sender.specs.CheckBits.{IsMultiple, crc24a};
+ghost use Rattle.model_sender.specs.CodeBlocks.{whole};
 ghost use Rattle.segmentation.specs.Shape.{AreBlocksOf};
 
 use crate::joined::Uncut;

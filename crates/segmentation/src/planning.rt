@@ -1,7 +1,7 @@
 //! The plan of a transport block, and the sizes and fillers of its code blocks (36.212 5.1.2).
 ghost use Rattle.std.specs.Prelude.{◌≡◌, ◌≤◌, ◌<◌, ◌*◌, ◌↔◌, ◌⊎◌, IsOk, IsErr, IfOk};
-ghost use Rattle.sender_model.specs.Segmentation.{plan_of, count_of, check_length, smaller_count};
-ghost use Rattle.sender_model.specs.Segmentation.{size, fill};
+ghost use Rattle.model_sender.specs.Segmentation.{plan_of, count_of, check_length, smaller_count};
+ghost use Rattle.model_sender.specs.Segmentation.{size, fill};
 ghost use Rattle.segmentation.specs.Plans.{IsPlan};
 
 use crate::plans::Plan;

@@ -17,7 +17,7 @@ pub struct Plan {
 }
 
 impl Model for Plan {
-    ghost use Rattle.sender_model.specs.Segmentation.{Plan as Numbers};
+    ghost use Rattle.model_sender.specs.Segmentation.{Plan as Numbers};
 
     ghost Value = { Numbers };
 

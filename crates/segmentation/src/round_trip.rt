@@ -1,9 +1,9 @@
 //! What is cut is joined again. Each function computes nothing: its contract is the law.
 ghost use Rattle.std.specs.Prelude.{◌≡◌, ℕ, ◌*◌, ◌<◌, ◌≤◌, ◌++◌, All, List, length, take};
 ghost use Rattle.lte_bits.specs.Packing.{packed, unpacked};
-ghost use Rattle.sender_model.specs.CheckBits.{IsMultiple, crc, crc24a};
-ghost use Rattle.sender_model.specs.Segmentation.{plan_of};
-ghost use Rattle.sender_model.specs.CodeBlocks.{blocks, whole};
+ghost use Rattle.model_sender.specs.CheckBits.{IsMultiple, crc, crc24a};
+ghost use Rattle.model_sender.specs.Segmentation.{plan_of};
+ghost use Rattle.model_sender.specs.CodeBlocks.{blocks, whole};
 ghost use Rattle.segmentation.specs.Shape.{AreBlocksOf};
 
 /// The blocks of a payload have the sizes and the fillers of its plan, and carry its bits and their

@@ -1,9 +1,9 @@
 //! The sizes of code blocks (36.212 5.1.2).
 ghost use Rattle.std.specs.Prelude.{◌≡◌, ◌≤◌, ◌<◌, ◌*◌, ◌≢◌, nat_le, nat_lt, find, map, reverse};
-ghost use Rattle.sender_model.specs.Interleaver.{sizes};
-ghost use Rattle.sender_model.specs.Segmentation.{larger_size, smaller_size};
+ghost use Rattle.model_sender.specs.Interleaver.{sizes};
+ghost use Rattle.model_sender.specs.Segmentation.{larger_size, smaller_size};
 
-use sender_model::{ROWS, Row};
+use model_sender::{ROWS, Row};
 
 /// The rows of the table, in order of K.
 fn rows() -> &'static [Row]

@@ -6,11 +6,11 @@ use Rattle.std.proofs.lemmas.List.{ext_get_or, length-set, get_or-set_same, get_
 use Rattle.std.proofs.lemmas.List.FromFn.{fill_by_all, length-map-range_with_len, get_or-map-range_with_len}
 use Rattle.std.proofs.lemmas.Nat.{div-mul-add, mod-mul-add}
 use Rattle.lte_bits.specs.declared.block.SoftStreams.{SoftStreams}
-use Rattle.receiver_model.specs.Borders.{Border, known}
-use Rattle.receiver_model.specs.Paths.{Window}
-use Rattle.receiver_model.specs.Windows.{Extrinsic, window_between, zero_cell, cell_at, new_cells}
-use Rattle.receiver_model.specs.HalfIteration.{Shape, Before, Left, window_width, positions, order, position_of, systematic_at, parity_at, none_left, tail_border, left_by, start_border, end_border, window, renewed, left_after, after}
-use Rattle.receiver_model.proofs.PlacesOfPositions.{position-is}
+use Rattle.model_receiver.specs.Borders.{Border, known}
+use Rattle.model_receiver.specs.Paths.{Window}
+use Rattle.model_receiver.specs.Windows.{Extrinsic, window_between, zero_cell, cell_at, new_cells}
+use Rattle.model_receiver.specs.HalfIteration.{Shape, Before, Left, window_width, positions, order, position_of, systematic_at, parity_at, none_left, tail_border, left_by, start_border, end_border, window, renewed, left_after, after}
+use Rattle.model_receiver.proofs.PlacesOfPositions.{position-is}
 use Rattle.serial_decode.specs.Runs.{start_of, window_from, left_of, IsReplaced, IsPartDone}
 use Rattle.serial_decode.specs.Views.{AreWhole}
 use Rattle.serial_decode.proofs.Orders.{not-equal}

@@ -1,11 +1,11 @@
 -- The orders of the halves permute the places; tests of numbers.
 use Rattle.std.proofs.Common.{◌≡◌, ℕ, ◌==◌, ◌<◌, true, false, Contains, inl, inr}
 use Rattle.std.proofs.lemmas.Bool.Decides.{eqb_tells}
-use Rattle.sender_model.specs.Interleaver.{sizes, row_of, place}
-use Rattle.sender_model.specs.InterleaverLaws.{pi_below}
-use Rattle.sender_model.proofs.RowLaws.{lawful-of_size}
-use Rattle.receiver_model.specs.HalfIteration.{order}
-use Rattle.receiver_model.proofs.PlacesOfPositions as places
+use Rattle.model_sender.specs.Interleaver.{sizes, row_of, place}
+use Rattle.model_sender.specs.InterleaverLaws.{pi_below}
+use Rattle.model_sender.proofs.RowLaws.{lawful-of_size}
+use Rattle.model_receiver.specs.HalfIteration.{order}
+use Rattle.model_receiver.proofs.PlacesOfPositions as places
 
 pub place-below : (k i : ℕ) → Contains sizes k → place k i < k
 place-below k i size = pi_below k (row_of k).1 (row_of k).2 i (lawful-of_size k size).positive

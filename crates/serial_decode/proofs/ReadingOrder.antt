@@ -2,9 +2,9 @@
 use Rattle.std.proofs.Common.{◌≡◌, ℕ, ◌%◌, Bool, cond, take, ap, arith, sym}
 use Rattle.std.specs.Prelude.{pos}
 use Rattle.lte_bits.specs.declared.block.SoftStreams.{SoftStreams}
-use Rattle.sender_model.specs.Interleaver.{place}
-use Rattle.receiver_model.specs.Borders.{at}
-use Rattle.receiver_model.specs.HalfIteration.{Shape, systematic_at, parity_at}
+use Rattle.model_sender.specs.Interleaver.{place}
+use Rattle.model_receiver.specs.Borders.{at}
+use Rattle.model_receiver.specs.HalfIteration.{Shape, systematic_at, parity_at}
 use Rattle.serial_decode.specs.Views.{AreStreams, by_position}
 use Rattle.serial_decode.proofs.Orders.{equal, not-equal}
 use Rattle.serial_decode.proofs.Parts.{front-by_position}

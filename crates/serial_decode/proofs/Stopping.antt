@@ -4,14 +4,14 @@ use Rattle.std.specs.Prelude.{◌↔◌, IsTrue}
 use Rattle.std.proofs.lemmas.Bool.{cases_eq}
 use Rattle.lte_bits.specs.declared.bit.Bit.{Bit}
 use Rattle.lte_bits.specs.declared.block.SoftStreams.{SoftStreams}
-use Rattle.sender_model.specs.CheckBits.{IsMultiple, IsMonic, remainder}
-use Rattle.sender_model.proofs.CheckBitLaws.{crc24a-monic, crc24b-monic, multiple-remainder}
-use Rattle.receiver_model.specs.declared.result.CheckKind.{CheckKind}
-use Rattle.receiver_model.specs.declared.result.CheckKind.TheVariants.{A, B}
-use Rattle.receiver_model.specs.declared.result.CodeResult.{CodeResult}
-use Rattle.receiver_model.specs.HalfIteration.{Shape, Before, after, opening}
-use Rattle.receiver_model.specs.Decoding.{before, decided_bits, decided_in, generator, check_holds, code_result}
-use Rattle.receiver_model.proofs.DecodedOnce.{checks-true, checks-false, decoded-is, decoded_once}
+use Rattle.model_sender.specs.CheckBits.{IsMultiple, IsMonic, remainder}
+use Rattle.model_sender.proofs.CheckBitLaws.{crc24a-monic, crc24b-monic, multiple-remainder}
+use Rattle.model_receiver.specs.declared.result.CheckKind.{CheckKind}
+use Rattle.model_receiver.specs.declared.result.CheckKind.TheVariants.{A, B}
+use Rattle.model_receiver.specs.declared.result.CodeResult.{CodeResult}
+use Rattle.model_receiver.specs.HalfIteration.{Shape, Before, after, opening}
+use Rattle.model_receiver.specs.Decoding.{before, decided_bits, decided_in, generator, check_holds, code_result}
+use Rattle.model_receiver.proofs.DecodedOnce.{checks-true, checks-false, decoded-is, decoded_once}
 use Rattle.serial_decode.proofs.Orders.{equal, not-equal}
 
 generator-monic : (kind : CheckKind) → IsMonic (generator kind)

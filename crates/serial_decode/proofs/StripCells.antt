@@ -2,7 +2,7 @@
 use Rattle.std.proofs.Common.{◌≡◌, ◌≢◌, ◌⊎◌, ℕ, zero, suc, ◌<◌, List, [], ◌∷◌, length, get_or, set, refl, sym, ap, ◌∙◌, arith, inl, inr}
 use Rattle.std.proofs.lemmas.Bool.{cases_eq}
 use Rattle.std.proofs.lemmas.List.{ext_get_or, set_comm, set-set, length-set, length-map, get_or-map, get_or-set_same, get_or-set_other}
-use Rattle.receiver_model.specs.Windows.{Extrinsic, zero_cell, cell_at}
+use Rattle.model_receiver.specs.Windows.{Extrinsic, zero_cell, cell_at}
 use Rattle.serial_decode.specs.Strips.{cells_at, elsewhere}
 
 -- different positions have different places

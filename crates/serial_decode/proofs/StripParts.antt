@@ -3,7 +3,7 @@ use Rattle.std.proofs.Common.{◌≡◌, ℕ, suc, ◌+◌, ◌*◌, ◌<◌, �
 use Rattle.std.specs.List.{range_with_len}
 use Rattle.std.proofs.Math.Nat.{mul-le-mul_left}
 use Rattle.std.proofs.lemmas.List.FromFn.{length-map-range_with_len, get_or-map-range_with_len}
-use Rattle.receiver_model.specs.HalfIteration.{Shape, window_width, positions, order}
+use Rattle.model_receiver.specs.HalfIteration.{Shape, window_width, positions, order}
 use Rattle.serial_decode.specs.Views.{by_position, AreWhole}
 use Rattle.serial_decode.proofs.Orders.{order-below, order-apart}
 use Rattle.serial_decode.proofs.Parts.{part-by_position}

@@ -3,9 +3,9 @@ use Rattle.std.proofs.Common.{◌≡◌, ℕ, ℤ, ◌<◌, ◌≤◌, List, [],
 use Rattle.std.specs.List.{range_with_len}
 use Rattle.std.proofs.lemmas.List.FromFn.{length-map-range_with_len, get_or-map-range_with_len}
 use Rattle.lte_bits.specs.declared.block.SoftStreams.{SoftStreams}
-use Rattle.sender_model.specs.Interleaver.{sizes, place}
-use Rattle.receiver_model.specs.Borders.{at}
-use Rattle.receiver_model.specs.HalfIteration.{Shape, systematic_at}
+use Rattle.model_sender.specs.Interleaver.{sizes, place}
+use Rattle.model_receiver.specs.Borders.{at}
+use Rattle.model_receiver.specs.HalfIteration.{Shape, systematic_at}
 use Rattle.serial_decode.specs.Views.{by_position}
 use Rattle.serial_decode.proofs.Orders.{place-below}
 

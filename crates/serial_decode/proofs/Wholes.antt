@@ -2,8 +2,8 @@
 use Rattle.std.proofs.Common.{◌≡◌, ℕ, ◌*◌, ◌/◌, ◌≤◌, arith, inl, inr}
 use Rattle.std.proofs.Math.Nat.{mul-le-mul_left}
 use Rattle.std.proofs.lemmas.Bool.{cases_lt}
-use Rattle.sender_model.specs.InterleaverLaws.{windows-whole}
-use Rattle.receiver_model.specs.HalfIteration.{Shape, IsShape}
+use Rattle.model_sender.specs.InterleaverLaws.{windows-whole}
+use Rattle.model_receiver.specs.HalfIteration.{Shape, IsShape}
 use Rattle.serial_decode.specs.Views.{AreWhole}
 
 eight-wide : (k m w : ℕ) → m * w ≡ k → 1 ≤ m → 8 * m ≤ k → 8 ≤ w

@@ -1,10 +1,10 @@
 -- What a window's decoding leaves of the cells of all places.
 use Rattle.std.proofs.Common.{◌≡◌, ◌≢◌, ℕ, ℤ, ◌+◌, ◌*◌, ◌<◌, ◌≤◌, List, length, get_or, map, sym, ap, ◌∙◌, arith}
 use Rattle.lte_bits.specs.declared.block.SoftStreams.{SoftStreams}
-use Rattle.receiver_model.specs.Borders.{Border}
-use Rattle.receiver_model.specs.Paths.{Window}
-use Rattle.receiver_model.specs.Windows.{Extrinsic, window_between, cell_at, new_cells}
-use Rattle.receiver_model.specs.HalfIteration.{Shape, window_width, positions, order, systematic_at, parity_at}
+use Rattle.model_receiver.specs.Borders.{Border}
+use Rattle.model_receiver.specs.Paths.{Window}
+use Rattle.model_receiver.specs.Windows.{Extrinsic, window_between, cell_at, new_cells}
+use Rattle.model_receiver.specs.HalfIteration.{Shape, window_width, positions, order, systematic_at, parity_at}
 use Rattle.serial_decode.specs.Runs.{window_from, IsReplaced}
 use Rattle.serial_decode.specs.Strips.{cells_at, elsewhere}
 use Rattle.serial_decode.specs.Views.{AreWhole}

@@ -1,5 +1,5 @@
 -- What the next half of a decoding starts from.
-use Rattle.receiver_model.specs.HalfIteration.{Before}
+use Rattle.model_receiver.specs.HalfIteration.{Before}
 use Rattle.serial_decode.specs.declared.decoder.SerialDecoder.{SerialDecoder}
 
 abbrev pub before_of : SerialDecoder → Before

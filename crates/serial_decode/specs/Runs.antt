@@ -1,10 +1,10 @@
 -- One window of a half iteration, and a half that has come some way.
 use Rattle.std.specs.Prelude.{◌≡◌, ℕ, ◌+◌, ◌*◌, ◌<◌, ◌≤◌, List, length, map}
 use Rattle.lte_bits.specs.declared.block.SoftStreams.{SoftStreams}
-use Rattle.receiver_model.specs.Borders.{Border}
-use Rattle.receiver_model.specs.Paths.{Window}
-use Rattle.receiver_model.specs.Windows.{Extrinsic, window_between, cell_at, new_cells, forward_left, backward_left}
-use Rattle.receiver_model.specs.HalfIteration.{Shape, Before, Left, window_width, positions, order, systematic_at, parity_at, left_by, start_border, renewed, left_after}
+use Rattle.model_receiver.specs.Borders.{Border}
+use Rattle.model_receiver.specs.Paths.{Window}
+use Rattle.model_receiver.specs.Windows.{Extrinsic, window_between, cell_at, new_cells, forward_left, backward_left}
+use Rattle.model_receiver.specs.HalfIteration.{Shape, Before, Left, window_width, positions, order, systematic_at, parity_at, left_by, start_border, renewed, left_after}
 
 -- window t of half h between two borders, over the cells of all places
 abbrev pub window_from : SoftStreams → Shape → ℕ → ℕ → Border → Border → List Extrinsic → Window

@@ -1,6 +1,6 @@
 -- The cells of a window among those of all places.
 use Rattle.std.specs.Prelude.{ℕ, List, [], ◌∷◌, map, slice_set}
-use Rattle.receiver_model.specs.Windows.{Extrinsic, zero_cell, cell_at}
+use Rattle.model_receiver.specs.Windows.{Extrinsic, zero_cell, cell_at}
 
 -- the cells at some places
 abbrev pub cells_at : List ℕ → List Extrinsic → List Extrinsic

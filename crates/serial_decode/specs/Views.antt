@@ -2,8 +2,8 @@
 use Rattle.std.specs.Prelude.{◌≡◌, ℕ, ◌+◌, ◌*◌, ◌≤◌, Contains, List, length, map}
 use Rattle.std.specs.List.{range_with_len}
 use Rattle.lte_bits.specs.declared.block.SoftStreams.{SoftStreams}
-use Rattle.sender_model.specs.Interleaver.{sizes}
-use Rattle.receiver_model.specs.HalfIteration.{Shape, window_width}
+use Rattle.model_sender.specs.Interleaver.{sizes}
+use Rattle.model_receiver.specs.HalfIteration.{Shape, window_width}
 
 -- the soft values of a code block of a shape
 pub record AreStreams (soft : SoftStreams) (shape : Shape) : Type 0 where

@@ -1,7 +1,7 @@
 //! The decided bits, and their check.
 ghost use Rattle.std.specs.Prelude.{◌≡◌, ◌≤◌, ◌↔◌, IsTrue, if◌then◌else◌, length};
-ghost use Rattle.sender_model.specs.CheckBits.{IsMultiple};
-ghost use Rattle.receiver_model.specs.Decoding.{decided_bits, generator};
+ghost use Rattle.model_sender.specs.CheckBits.{IsMultiple};
+ghost use Rattle.model_receiver.specs.Decoding.{decided_bits, generator};
 
 use block_crc::{checks_a, checks_b};
 use lte_bits::Bit;

@@ -1,8 +1,8 @@
 //! Iterations until the check holds, whatever decodes the halves.
 ghost use Rattle.std.specs.Prelude.{◌≡◌, ◌+◌, ◌-◌, ◌*◌, ◌≤◌, ℕ, IfOk, length};
 ghost use Rattle.lte_bits.specs.declared.block.SoftStreams.{SoftStreams};
-ghost use Rattle.receiver_model.specs.HalfIteration.{Shape as Numbers, Before, after, opening};
-ghost use Rattle.receiver_model.specs.Decoding.{decided_bits, code_result};
+ghost use Rattle.model_receiver.specs.HalfIteration.{Shape as Numbers, Before, after, opening};
+ghost use Rattle.model_receiver.specs.Decoding.{decided_bits, code_result};
 
 use crate::bits::holds;
 use lte_bits::{Bit, Block, List, NoMemory};

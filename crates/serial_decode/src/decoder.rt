@@ -1,6 +1,6 @@
 //! The decoder of a code block on one thread.
 ghost use Rattle.std.specs.Prelude.{◌≡◌, ◌≤◌, IfOk, length};
-ghost use Rattle.receiver_model.specs.HalfIteration.{window_width};
+ghost use Rattle.model_receiver.specs.HalfIteration.{window_width};
 
 use crate::bits::decide;
 use crate::block::HalfDecoder;
@@ -27,7 +27,7 @@ pub struct SerialDecoder<'a> {
 }
 
 impl<'a> SerialDecoder<'a> {
-    ghost use Rattle.receiver_model.specs.HalfIteration.{opening};
+    ghost use Rattle.model_receiver.specs.HalfIteration.{opening};
     ghost use Rattle.serial_decode.specs.Views.{AreStreams};
     ghost use Rattle.serial_decode.specs.Progress.{before_of};
 

@@ -1,6 +1,6 @@
 //! Half an iteration.
 ghost use Rattle.std.specs.Prelude.{◌≡◌, ◌+◌, ◌<◌, ◌≤◌, [], length};
-ghost use Rattle.receiver_model.specs.HalfIteration.{window_width, after, end_border};
+ghost use Rattle.model_receiver.specs.HalfIteration.{window_width, after, end_border};
 ghost use Rattle.serial_decode.specs.Runs.{start_of};
 ghost use Rattle.serial_decode.specs.Views.{AreWhole};
 

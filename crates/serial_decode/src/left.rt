@@ -1,6 +1,6 @@
 //! The borders that a window leaves to its neighbours.
 ghost use Rattle.std.specs.Prelude.{◌≡◌};
-ghost use Rattle.receiver_model.specs.HalfIteration.{none_left};
+ghost use Rattle.model_receiver.specs.HalfIteration.{none_left};
 
 use std::marker::Model;
 use window_decode::Border;
@@ -14,7 +14,7 @@ pub struct Left {
 }
 
 impl Model for Left {
-    ghost use Rattle.receiver_model.specs.HalfIteration.{Left as Borders};
+    ghost use Rattle.model_receiver.specs.HalfIteration.{Left as Borders};
 
     ghost Value = { Borders };
 

@@ -1,8 +1,8 @@
 //! Lists that are made once for a code block, and their parts.
 ghost use Rattle.std.specs.Prelude.{◌≡◌, ◌+◌, ◌<◌, ◌≤◌, ℕ, Contains, IfOk, drop, length, map, slice_index, take};
 ghost use Rattle.std.specs.List.{range_with_len};
-ghost use Rattle.sender_model.specs.Interleaver.{sizes, place};
-ghost use Rattle.receiver_model.specs.Borders.{at};
+ghost use Rattle.model_sender.specs.Interleaver.{sizes, place};
+ghost use Rattle.model_receiver.specs.Borders.{at};
 
 use lte_bits::{NoMemory, Soft};
 use qpp_table::addresses;

@@ -1,6 +1,6 @@
 //! The border after the last position of a code block.
 ghost use Rattle.std.specs.Prelude.{◌≡◌};
-ghost use Rattle.receiver_model.specs.HalfIteration.{tail_border};
+ghost use Rattle.model_receiver.specs.HalfIteration.{tail_border};
 ghost use Rattle.serial_decode.specs.Views.{AreStreams};
 
 use lte_bits::SoftStreams;

@@ -1,7 +1,7 @@
 //! A code block as its half iterations read it.
 ghost use Rattle.std.specs.Prelude.{◌≡◌, ◌≤◌, ℕ};
-ghost use Rattle.sender_model.specs.Interleaver.{place};
-ghost use Rattle.receiver_model.specs.HalfIteration.{systematic_at};
+ghost use Rattle.model_sender.specs.Interleaver.{place};
+ghost use Rattle.model_receiver.specs.HalfIteration.{systematic_at};
 ghost use Rattle.serial_decode.specs.Views.{AreStreams, AreWhole, by_position};
 
 use crate::lists::{own_order, part, picked, second_order};
@@ -30,7 +30,7 @@ pub struct Views<'a> {
 
 impl<'a> Views<'a> {
     ghost use Rattle.std.specs.Prelude.{◌<◌, IfOk, length, map};
-    ghost use Rattle.receiver_model.specs.HalfIteration.{positions, window_width, order, parity_at, tail_border};
+    ghost use Rattle.model_receiver.specs.HalfIteration.{positions, window_width, order, parity_at, tail_border};
 
     /// The views of a code block. The streams have length K + 4, and the shape's fillers.
     pub fn new(

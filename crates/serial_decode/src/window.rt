@@ -1,6 +1,6 @@
 //! One window of a half iteration.
 ghost use Rattle.std.specs.Prelude.{◌≡◌, ◌<◌, ◌≤◌, length};
-ghost use Rattle.receiver_model.specs.HalfIteration.{window_width};
+ghost use Rattle.model_receiver.specs.HalfIteration.{window_width};
 ghost use Rattle.serial_decode.specs.Runs.{window_from, left_of, IsReplaced};
 
 use crate::left::Left;

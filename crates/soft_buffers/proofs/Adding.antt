@@ -5,13 +5,13 @@ use Rattle.std.proofs.lemmas.Bool.{and_parts, eqb-true, eq-eqb}
 use Rattle.std.proofs.lemmas.List.{get_or_read, get_or-set_same, get_or-set_other, length-set, length-append}
 use Rattle.std.proofs.lemmas.Nat.{div-mul-add, mod-mul-add}
 use Rattle.std.proofs.Math.Nat.{add-mod-mod, mod-eq_of_lt, mul-le-mul_left}
-use Rattle.sender_model.specs.CircularBuffer.{spot}
-use Rattle.sender_model.specs.Selection.{holds_bit, repeated}
-use Rattle.sender_model.specs.declared.spot.Spot.{Spot}
+use Rattle.model_sender.specs.CircularBuffer.{spot}
+use Rattle.model_sender.specs.Selection.{holds_bit, repeated}
+use Rattle.model_sender.specs.declared.spot.Spot.{Spot}
 use Rattle.rate_match.proofs.Walked.{walked, walked-again, walked-grows, rounds-long, step_kept, step_left}
 use Rattle.rate_match.specs.Cursor.{cursor_at}
 use Rattle.rate_match.specs.declared.cursor.Cursor.{Cursor}
-use Rattle.receiver_model.specs.SoftCells.{added, has_bit, is_bit}
+use Rattle.model_receiver.specs.SoftCells.{added, has_bit, is_bit}
 use Rattle.soft_buffers.specs.Buffers.{IsBit, cell_index, cell_of}
 use Rattle.soft_buffers.specs.Runs.{with_values}
 use Rattle.soft_buffers.proofs.Sums.{sum_of, sum-hit, sum-miss, zip-more}

@@ -4,11 +4,11 @@ use Rattle.std.proofs.lemmas.Bool.{cases_lt}
 use Rattle.std.proofs.lemmas.Bool.Decides.{eqb_tells}
 use Rattle.std.proofs.lemmas.List.{drop-drop, get_or-set_same, get_or-set_other, length-set}
 use Rattle.std.proofs.Math.Seq.{take-append_seam}
-use Rattle.sender_model.specs.Segmentation.{Plan, size}
-use Rattle.sender_model.specs.CircularBuffer.{Match, piece_length}
-use Rattle.sender_model.proofs.RangeSums.{sum_by-range_more}
-use Rattle.receiver_model.specs.SoftCells.{Reception, added, piece_start, values_of}
-use Rattle.receiver_model.proofs.SoftSums.{cell-more}
+use Rattle.model_sender.specs.Segmentation.{Plan, size}
+use Rattle.model_sender.specs.CircularBuffer.{Match, piece_length}
+use Rattle.model_sender.proofs.RangeSums.{sum_by-range_more}
+use Rattle.model_receiver.specs.SoftCells.{Reception, added, piece_start, values_of}
+use Rattle.model_receiver.proofs.SoftSums.{cell-more}
 use Rattle.soft_buffers.specs.Buffers.{AreLong, Buffers, HasTaken, HaveTaken, Hold, cells_of_block}
 
 -- the pieces so far are no more than all

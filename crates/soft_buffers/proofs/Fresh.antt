@@ -2,7 +2,7 @@
 use Rattle.std.proofs.Common.{◌≡◌, ℕ, ◌+◌, ◌*◌, ◌<◌, ℤ, pos, List, [], map, replicate, ap, ◌∙◌, arith}
 use Rattle.std.specs.List.{range_with_len}
 use Rattle.std.proofs.lemmas.List.FromFn.{get_or-map-range_with_len}
-use Rattle.sender_model.specs.Segmentation.{Plan, size}
+use Rattle.model_sender.specs.Segmentation.{Plan, size}
 use Rattle.soft_buffers.specs.Buffers.{cells_of_block}
 
 abbrev pub fresh : Plan → ℕ → List ℤ

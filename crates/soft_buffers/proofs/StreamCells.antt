@@ -3,9 +3,9 @@ use Rattle.std.proofs.Common.{◌≡◌, ℕ, ◌+◌, ◌*◌, ◌<◌, ◌≤�
 use Rattle.std.proofs.lemmas.List.{get_or-take, get_or-drop, length-take, length-drop}
 use Rattle.std.proofs.lemmas.List.FromFn.{fill_by_all, get_or-map-range_with_len, length-map-range_with_len}
 use Rattle.lte_bits.specs.declared.block.SoftStreams.{SoftStreams}
-use Rattle.sender_model.specs.Segmentation.{Plan, size, fill}
-use Rattle.sender_model.specs.declared.spot.Spot.{Spot}
-use Rattle.receiver_model.specs.SoftCells.{Reception, begun_with, cells_of, soft_cell, soft_streams}
+use Rattle.model_sender.specs.Segmentation.{Plan, size, fill}
+use Rattle.model_sender.specs.declared.spot.Spot.{Spot}
+use Rattle.model_receiver.specs.SoftCells.{Reception, begun_with, cells_of, soft_cell, soft_streams}
 use Rattle.soft_buffers.specs.Buffers.{IsBit, cell_of, cells_of_stream, streams_of_cells}
 
 abbrev streams : ℕ → List ℤ → List ℤ → List ℤ → SoftStreams

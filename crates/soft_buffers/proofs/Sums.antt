@@ -4,7 +4,7 @@ use Rattle.std.specs.List.{zip}
 use Rattle.std.proofs.lemmas.List.{map-append, append-nil}
 use Rattle.std.proofs.lemmas.List.Elements.{filter-append}
 use Rattle.std.proofs.lemmas.List.Sums.{fold-append}
-use Rattle.receiver_model.specs.SoftCells.{added, values_where}
+use Rattle.model_receiver.specs.SoftCells.{added, values_where}
 
 abbrev value : ℕ × ℤ → ℤ
 value p = p.1

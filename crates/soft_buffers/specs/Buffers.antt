@@ -2,9 +2,9 @@
 use Rattle.std.specs.Prelude.{◌≡◌, ℕ, ◌+◌, ◌*◌, ◌<◌, ◌≤◌, ℤ, pos, Option, List, [], fold, length, map, slice_index_or}
 use Rattle.std.specs.List.{range_with_len}
 use Rattle.lte_bits.specs.declared.block.SoftStreams.{SoftStreams}
-use Rattle.sender_model.specs.Segmentation.{Plan, size}
-use Rattle.sender_model.specs.declared.spot.Spot.{Spot}
-use Rattle.receiver_model.specs.SoftCells.{Reception, added, begun_with, soft_cell, values_of}
+use Rattle.model_sender.specs.Segmentation.{Plan, size}
+use Rattle.model_sender.specs.declared.spot.Spot.{Spot}
+use Rattle.model_receiver.specs.SoftCells.{Reception, added, begun_with, soft_cell, values_of}
 
 -- the plan of the transport block, N_IR or None for a full buffer, and the cells of each code block: those of
 -- d0, then of d1, then of d2

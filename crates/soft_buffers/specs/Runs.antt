@@ -1,7 +1,7 @@
 -- The values of bits that stand one after the other.
 use Rattle.std.specs.Prelude.{ℕ, zero, suc, ℤ, pos, List, slice_index_or, slice_set}
-use Rattle.sender_model.specs.declared.spot.Spot.{Spot}
-use Rattle.receiver_model.specs.SoftCells.{added}
+use Rattle.model_sender.specs.declared.spot.Spot.{Spot}
+use Rattle.model_receiver.specs.SoftCells.{added}
 use Rattle.soft_buffers.specs.Buffers.{cell_index, cell_of}
 
 -- the cells of a block of k bits with a value of a bit more

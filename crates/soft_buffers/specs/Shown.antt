@@ -1,6 +1,6 @@
 -- What contracts see of `HarqBuffers`, and what it keeps.
 use Rattle.std.specs.Prelude.{◌≡◌, length}
-use Rattle.sender_model.specs.CircularBuffer.{FitsIn}
+use Rattle.model_sender.specs.CircularBuffer.{FitsIn}
 use Rattle.rate_match.specs.Matching.{limit_of}
 use Rattle.soft_buffers.specs.declared.buffers.HarqBuffers.TheInside.{Inside}
 use Rattle.soft_buffers.specs.Buffers.{AreLong, Buffers}

@@ -1,9 +1,9 @@
 //! The soft buffers of a transport block.
 ghost use Rattle.std.specs.Prelude.{◌≡◌, ◌≤◌, ◌<◌, ◌+◌, ◌*◌, ◌++◌, [], ◌∷◌, List, IfOk, length, pos, replicate};
-ghost use Rattle.sender_model.specs.Segmentation.{fill, size};
-ghost use Rattle.sender_model.specs.CircularBuffer.{FitsIn};
+ghost use Rattle.model_sender.specs.Segmentation.{fill, size};
+ghost use Rattle.model_sender.specs.CircularBuffer.{FitsIn};
 ghost use Rattle.rate_match.specs.Matching.{limit_of};
-ghost use Rattle.receiver_model.specs.SoftCells.{Reception, reception, soft_streams};
+ghost use Rattle.model_receiver.specs.SoftCells.{Reception, reception, soft_streams};
 ghost use Rattle.soft_buffers.specs.Buffers.{HaveTaken, Hold, cells_of_block, streams_of_cells};
 
 use crate::pieces::add_codeword;

@@ -1,8 +1,8 @@
 //! The values of a transmission, block after block.
 ghost use Rattle.std.specs.Prelude.{◌≡◌, ◌≤◌, ◌<◌, ◌+◌, ◌*◌, ℤ, List, length};
-ghost use Rattle.sender_model.specs.Segmentation.{size};
-ghost use Rattle.sender_model.specs.CircularBuffer.{Fits, piece_length};
-ghost use Rattle.receiver_model.specs.SoftCells.{piece, reception};
+ghost use Rattle.model_sender.specs.Segmentation.{size};
+ghost use Rattle.model_sender.specs.CircularBuffer.{Fits, piece_length};
+ghost use Rattle.model_receiver.specs.SoftCells.{piece, reception};
 ghost use Rattle.soft_buffers.specs.Buffers.{AreLong, HasTaken, HaveTaken};
 
 use crate::values::add_values;

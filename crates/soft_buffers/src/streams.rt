@@ -1,6 +1,6 @@
 //! The soft streams of a code block from its cells.
 ghost use Rattle.std.specs.Prelude.{◌≡◌, ◌≤◌, ◌+◌, ◌*◌, IfOk, length};
-ghost use Rattle.receiver_model.specs.SoftCells.{begun_with};
+ghost use Rattle.model_receiver.specs.SoftCells.{begun_with};
 ghost use Rattle.soft_buffers.specs.Buffers.{streams_of_cells};
 
 use lte_bits::{List, NoMemory, Soft, SoftStreams};

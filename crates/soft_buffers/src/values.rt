@@ -1,9 +1,9 @@
 //! Soft values that are added to the cells of one code block.
 ghost use Rattle.std.specs.Prelude.{◌≡◌, ◌≤◌, ◌<◌, ◌+◌, ◌*◌, length, fold};
 ghost use Rattle.std.specs.List.{zip};
-ghost use Rattle.sender_model.specs.declared.spot.Spot.{Spot as Bit};
-ghost use Rattle.sender_model.specs.Selection.{bits_from, holds_bit, repeated};
-ghost use Rattle.receiver_model.specs.SoftCells.{added, has_bit, values_where};
+ghost use Rattle.model_sender.specs.declared.spot.Spot.{Spot as Bit};
+ghost use Rattle.model_sender.specs.Selection.{bits_from, holds_bit, repeated};
+ghost use Rattle.model_receiver.specs.SoftCells.{added, has_bit, values_where};
 ghost use Rattle.rate_match.specs.Cursor.{IsRun, spot_down};
 ghost use Rattle.soft_buffers.specs.Buffers.{IsBit, cell_index, cell_of};
 ghost use Rattle.soft_buffers.specs.Runs.{with_values};

@@ -8,8 +8,8 @@ use Rattle.lte_bits.specs.declared.bit.Bit.{Bit}
 use Rattle.lte_bits.specs.declared.bit.Bit.TheVariants.{Zero}
 use Rattle.lte_bits.specs.declared.bit.Cell.{Cell}
 use Rattle.lte_bits.specs.declared.bit.Cell.TheVariants.{Null}
-use Rattle.sender_model.specs.Bits.{at}
-use Rattle.sender_model.specs.CodedStreams.{cells_of, filled_cell, null_filled}
+use Rattle.model_sender.specs.Bits.{at}
+use Rattle.model_sender.specs.CodedStreams.{cells_of, filled_cell, null_filled}
 use Rattle.turbo_encode.specs.Fillers.{nulls_first}
 
 pub nulls-filled : (fill : ℕ) (bits : List Bit) → nulls_first fill (cells_of bits) ≡ null_filled fill bits

@@ -9,11 +9,11 @@ use Rattle.lte_bits.specs.Bits.{cell_of, number}
 use Rattle.lte_bits.specs.declared.bit.Bit.{Bit}
 use Rattle.lte_bits.specs.declared.bit.Bit.TheVariants.{Zero, One}
 use Rattle.lte_bits.specs.declared.bit.Cell.{Cell}
-use Rattle.sender_model.specs.ConstituentCoder.{State, next, parity, parities_from, zero_state, parities}
-use Rattle.sender_model.specs.CodedStreams.{cells_of}
-use Rattle.sender_model.specs.Interleaver.{sizes}
-use Rattle.sender_model.proofs.BitNumbers.{digit-lt, same_number}
-use Rattle.sender_model.specs.Tail.{reached}
+use Rattle.model_sender.specs.ConstituentCoder.{State, next, parity, parities_from, zero_state, parities}
+use Rattle.model_sender.specs.CodedStreams.{cells_of}
+use Rattle.model_sender.specs.Interleaver.{sizes}
+use Rattle.model_sender.proofs.BitNumbers.{digit-lt, same_number}
+use Rattle.model_sender.specs.Tail.{reached}
 use Rattle.rsc_trellis.specs.Number.{number_of}
 use Rattle.turbo_encode.specs.Tables.{entry}
 use Rattle.turbo_encode.specs.declared.fours.TheConstants.{PARITIES, NEXT, CELLS}

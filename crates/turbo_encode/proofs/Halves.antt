@@ -4,9 +4,9 @@ use Prim.Native.Nat.{◌∣◌}
 use Rattle.std.specs.Prelude.{if◌then◌else◌}
 use Rattle.std.proofs.lemmas.Bool.{cases_lt, lt-ltb, le-ltb}
 use Rattle.std.proofs.Math.Nat.{dvd-mul_right, mod-eq_of_lt, add-mod_right}
-use Rattle.sender_model.specs.Interleaver.{Lawful, pi, place, row_of, sizes}
-use Rattle.sender_model.specs.InterleaverLaws.{pi_below, pi_differs, pi_remainder}
-use Rattle.sender_model.proofs.RowLaws.{lawful-of_size}
+use Rattle.model_sender.specs.Interleaver.{Lawful, pi, place, row_of, sizes}
+use Rattle.model_sender.specs.InterleaverLaws.{pi_below, pi_differs, pi_remainder}
+use Rattle.model_sender.proofs.RowLaws.{lawful-of_size}
 use Rattle.turbo_encode.specs.Across.{across}
 use Rattle.turbo_encode.proofs.FourSteps.{size-whole}
 

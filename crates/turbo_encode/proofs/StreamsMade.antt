@@ -10,12 +10,12 @@ use Rattle.lte_bits.specs.Bits.{cell_of}
 use Rattle.lte_bits.specs.declared.bit.Cell.{Cell}
 use Rattle.lte_bits.specs.declared.bit.Cell.TheVariants.{Null}
 use Rattle.lte_bits.specs.declared.block.Streams.{Streams}
-use Rattle.sender_model.specs.Bits.{at}
-use Rattle.sender_model.specs.ConstituentCoder.{State, zero_state, values, parities, tail_x, tail_z}
-use Rattle.sender_model.specs.CodedStreams.{cells_of, filled_cell, null_filled, tail_0, tail_1, tail_2, coded, interleaved}
-use Rattle.sender_model.specs.Interleaver.{place}
-use Rattle.sender_model.specs.Tail.{reached, tail_input, tail_parity}
-use Rattle.sender_model.proofs.TailSteps.{tail_x-after, tail_z-after}
+use Rattle.model_sender.specs.Bits.{at}
+use Rattle.model_sender.specs.ConstituentCoder.{State, zero_state, values, parities, tail_x, tail_z}
+use Rattle.model_sender.specs.CodedStreams.{cells_of, filled_cell, null_filled, tail_0, tail_1, tail_2, coded, interleaved}
+use Rattle.model_sender.specs.Interleaver.{place}
+use Rattle.model_sender.specs.Tail.{reached, tail_input, tail_parity}
+use Rattle.model_sender.proofs.TailSteps.{tail_x-after, tail_z-after}
 use Rattle.turbo_encode.proofs.TailBits.{four}
 
 -- the tail after c, by the state after c

@@ -1,7 +1,7 @@
 //! Cells of the coded streams.
 ghost use Rattle.std.specs.Prelude.{◌≡◌, ◌++◌, IfOk, length};
 ghost use Rattle.lte_bits.specs.declared.bit.Cell.{Cell};
-ghost use Rattle.sender_model.specs.CodedStreams.{cells_of, null_filled};
+ghost use Rattle.model_sender.specs.CodedStreams.{cells_of, null_filled};
 ghost use Rattle.turbo_encode.specs.Fillers.{nulls_first};
 
 use crate::tails::TAIL;

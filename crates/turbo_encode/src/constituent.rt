@@ -1,9 +1,9 @@
 //! One constituent coder over a whole block (36.212 5.1.3.2.1).
 ghost use Rattle.std.specs.Prelude.{◌≡◌, Contains, IfOk, length};
-ghost use Rattle.sender_model.specs.ConstituentCoder.{zero_state, parities};
-ghost use Rattle.sender_model.specs.CodedStreams.{cells_of, null_filled};
-ghost use Rattle.sender_model.specs.Interleaver.{sizes};
-ghost use Rattle.sender_model.specs.Tail.{reached};
+ghost use Rattle.model_sender.specs.ConstituentCoder.{zero_state, parities};
+ghost use Rattle.model_sender.specs.CodedStreams.{cells_of, null_filled};
+ghost use Rattle.model_sender.specs.Interleaver.{sizes};
+ghost use Rattle.model_sender.specs.Tail.{reached};
 
 use crate::cells::write_nulls;
 use crate::fours::four_steps;

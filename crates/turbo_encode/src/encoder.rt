@@ -1,7 +1,7 @@
 //! The coded streams of a code block.
 ghost use Rattle.std.specs.Prelude.{◌≡◌, Contains, IfOk, length};
-ghost use Rattle.sender_model.specs.CodedStreams.{streams};
-ghost use Rattle.sender_model.specs.Interleaver.{sizes};
+ghost use Rattle.model_sender.specs.CodedStreams.{streams};
+ghost use Rattle.model_sender.specs.Interleaver.{sizes};
 
 use crate::cells::{ended, systematic};
 use crate::constituent::code;

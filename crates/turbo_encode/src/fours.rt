@@ -2,9 +2,9 @@
 ghost use Rattle.std.specs.Prelude.{◌≡◌, ◌<◌, List, length};
 ghost use Rattle.lte_bits.specs.declared.bit.Bit.{Bit};
 ghost use Rattle.lte_bits.specs.Bits.{number};
-ghost use Rattle.sender_model.specs.ConstituentCoder.{State as Register, parities_from};
-ghost use Rattle.sender_model.specs.CodedStreams.{cells_of};
-ghost use Rattle.sender_model.specs.Tail.{reached};
+ghost use Rattle.model_sender.specs.ConstituentCoder.{State as Register, parities_from};
+ghost use Rattle.model_sender.specs.CodedStreams.{cells_of};
+ghost use Rattle.model_sender.specs.Tail.{reached};
 ghost use Rattle.rsc_trellis.specs.Number.{number_of};
 ghost use Rattle.turbo_encode.specs.Tables.{entry};
 

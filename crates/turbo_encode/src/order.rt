@@ -1,8 +1,8 @@
 //! The order in which the second coder reads a block's bits (36.212 5.1.3.2.3).
 ghost use Rattle.std.specs.Prelude.{◌≡◌, ◌+◌, ◌<◌, ◌≤◌, Contains, IfOk, length};
 ghost use Rattle.turbo_encode.specs.Across.{across};
-ghost use Rattle.sender_model.specs.CodedStreams.{interleaved};
-ghost use Rattle.sender_model.specs.Interleaver.{sizes};
+ghost use Rattle.model_sender.specs.CodedStreams.{interleaved};
+ghost use Rattle.model_sender.specs.Interleaver.{sizes};
 
 use lte_bits::{Bit, NoMemory};
 use qpp_table::{Walk, qpp};

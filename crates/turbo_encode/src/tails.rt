@@ -1,6 +1,6 @@
 //! The tails of the three streams (36.212 5.1.3.2.2).
 ghost use Rattle.std.specs.Prelude.{◌≡◌, [], ◌∷◌};
-ghost use Rattle.sender_model.specs.Tail.{tail_input, tail_parity};
+ghost use Rattle.model_sender.specs.Tail.{tail_input, tail_parity};
 
 use lte_bits::Bit;
 use rsc_trellis::{State, tail_path};

@@ -6,7 +6,7 @@ use Rattle.std.specs.declared.option.Option.{Option}
 use Rattle.std.specs.Io.KnownBytes.{IsAtEnd}
 use Rattle.edge_io.specs.Edge.{Takes}
 use Rattle.edge_io.proofs.Known.{takes_none}
-use Rattle.sender_model.specs.CircularBuffer.{Match}
+use Rattle.model_sender.specs.CircularBuffer.{Match}
 use Rattle.std.proofs.lemmas.Bool.{cases_lt}
 use Rattle.run_loop.specs.Answer.{Part, Answer, finished, behind, refusal, closed, size_of}
 use Rattle.run_loop.specs.Due.{IsDue, IsWithin, Stopped}

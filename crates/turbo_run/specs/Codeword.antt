@@ -1,8 +1,8 @@
 -- What `codeword` answers to an input.
 use Rattle.std.specs.Prelude.{ℕ, ◌+◌, List, [], ◌∷◌, ◌++◌, length, nat_lt, ◌==◌, if◌then◌else◌, codes, decimal}
 use Rattle.lte_bits.specs.Packing.{packed}
-use Rattle.sender_model.specs.CircularBuffer.{Match}
-use Rattle.sender_model.specs.Codeword.{codeword}
+use Rattle.model_sender.specs.CircularBuffer.{Match}
+use Rattle.model_sender.specs.Codeword.{codeword}
 use Rattle.run_loop.specs.Lines.{line_end}
 use Rattle.run_loop.specs.Answer.{Part, Answer, finished, behind, heading, refusal, closed}
 

@@ -1,6 +1,6 @@
 -- What the one round of `codeword` gives where its payload was read and memory was had.
 use Rattle.std.specs.Prelude.{◌≡◌, ℕ, List, [], ◌∷◌, false}
-use Rattle.sender_model.specs.CircularBuffer.{Match}
+use Rattle.model_sender.specs.CircularBuffer.{Match}
 use Rattle.run_loop.specs.Step.{parts_of}
 use Rattle.run_loop.specs.declared.work.Part.{Part}
 use Rattle.run_loop.specs.declared.work.Stop.{Stop}

@@ -1,7 +1,7 @@
 -- What `encode` answers to an input: a hard stream of its blocks.
 use Rattle.std.specs.Prelude.{ℕ, zero, suc, ◌+◌, ◌*◌, List, [], ◌∷◌, ◌++◌, length, take, drop, flat_map, nat_lt, ◌==◌, if◌then◌else◌}
 use Rattle.lte_bits.specs.Packing.{packed}
-use Rattle.sender_model.specs.Codeword.{codeword}
+use Rattle.model_sender.specs.Codeword.{codeword}
 use Rattle.rate_match.specs.declared.sends.Sending.{Sending}
 use Rattle.coded_stream.specs.Header.{Header, header_text, word_text}
 use Rattle.coded_stream.specs.declared.kind.Kind.TheVariants.{Hard}

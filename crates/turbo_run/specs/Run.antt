@@ -8,13 +8,13 @@ use Rattle.run_loop.specs.Reply.{Reply, reading, EndsReply, IsEndingOf, ending_o
 use Rattle.run_loop.specs.declared.status.Status.{Status}
 use Rattle.run_loop.specs.declared.status.Status.TheVariants.{BadWords}
 use Rattle.stream_loop.specs.Handling.{stream_answer}
-use Rattle.decode_command.specs.Decoding.{decoding}
-use Rattle.batch_command.specs.Batch.{batch_answer}
-use Rattle.relay_commands.specs.Channel.{Noise, channel}
-use Rattle.relay_commands.specs.Points.{points}
-use Rattle.relay_commands.specs.Scramble.{scrambling}
-use Rattle.relay_commands.specs.Upgrade.{upgrade}
-use Rattle.trial_command.specs.Trials.{trial_reply}
+use Rattle.command_decode.specs.Decoding.{decoding}
+use Rattle.command_batch.specs.Batch.{batch_answer}
+use Rattle.command_relay.specs.Channel.{Noise, channel}
+use Rattle.command_relay.specs.Points.{points}
+use Rattle.command_relay.specs.Scramble.{scrambling}
+use Rattle.command_relay.specs.Upgrade.{upgrade}
+use Rattle.command_trial.specs.Trials.{trial_reply}
 use Rattle.turbo_run.specs.Codeword.{codeword_answer}
 use Rattle.turbo_run.specs.Encode.{encode_answer, hard_header}
 use Rattle.command_words.specs.Words.{command_of}

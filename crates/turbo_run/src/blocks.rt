@@ -1,7 +1,7 @@
 //! The blocks of a hard stream.
 ghost use Rattle.std.specs.Prelude.{◌≡◌, ◌≤◌, [], ◌∷◌, ◌++◌, IfOk, length};
-ghost use Rattle.sender_model.specs.Segmentation.{plan_of};
-ghost use Rattle.sender_model.specs.CircularBuffer.{Fits};
+ghost use Rattle.model_sender.specs.Segmentation.{plan_of};
+ghost use Rattle.model_sender.specs.CircularBuffer.{Fits};
 ghost use Rattle.run_loop.specs.Step.{part_of};
 ghost use Rattle.coded_stream.specs.Header.{word_text};
 ghost use Rattle.coded_stream.specs.Shown.{header_of};

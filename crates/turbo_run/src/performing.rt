@@ -4,24 +4,24 @@ ghost use Rattle.std.specs.Prelude.{IfSome};
 ghost use Rattle.run_loop.specs.Reply.{Ends, EndsReply};
 ghost use Rattle.turbo_run.specs.Run.{answer_of, unread_of, LeavesAlone};
 ghost use Rattle.command_words.specs.Lawful.{IsLawful};
-ghost use Rattle.decode_command.specs.Receivers.{GivesOutcomes, TakesTransmissions};
-ghost use Rattle.batch_command.specs.Runners.{GivesAnswers, TakesJobs};
+ghost use Rattle.command_decode.specs.Receivers.{GivesOutcomes, TakesTransmissions};
+ghost use Rattle.command_batch.specs.Runners.{GivesAnswers, TakesJobs};
 
 use crate::codeword::Codeword;
 use crate::encode::Encode;
-use batch_command::{Batch, BlockJob, Outcomes, Pipes};
 use block_receive::{Effort, Task};
 use coded_stream::{Header, Kind};
+use command_batch::{Batch, BlockJob, Outcomes, Pipes};
+use command_decode::{Decoding, Received};
+use command_relay::{Channel, Points, Relay, Scramble, Upgrade};
+use command_trial::{Trial, run_trial};
 use command_words::Command;
-use decode_command::{Decoding, Received};
 use edge_io::{Sink, Source};
 use lte_bits::Soft;
 use rate_match::Sends;
-use relay_commands::{Channel, Points, Relay, Scramble, Upgrade};
 use run_loop::{Status, drive};
 use std::alloc::Global;
 use stream_loop::Stream;
-use trial_command::{Trial, run_trial};
 
 /// Does a command, without the line that tells a fault. Where blocks of a stream are decoded one after the
 /// other, `receive` does it, and where several are decoded at once, `run_jobs`.

@@ -1,21 +1,21 @@
 //! The top calls.
 ghost use Rattle.std.specs.Prelude.{◌≡◌, ◌≤◌, IfOk};
 ghost use Rattle.std.specs.List.{AllZip};
-ghost use Rattle.receiver_model.specs.TransportBlocks.{outcome};
+ghost use Rattle.model_receiver.specs.TransportBlocks.{outcome};
 ghost use Rattle.block_receive.specs.Effort.{effort_in};
 ghost use Rattle.block_receive.specs.Receptions.{receptions};
 ghost use Rattle.run_loop.specs.Edges.{edges};
 ghost use Rattle.turbo_run.specs.Run.{Runs};
 ghost use Rattle.command_words.specs.Texts.{texts_of};
-ghost use Rattle.decode_command.specs.Receivers.{AreReceived, GivesOutcomes, TakesTransmissions};
-ghost use Rattle.batch_command.specs.Jobs.{answers};
-ghost use Rattle.batch_command.specs.Runners.{AreRun, GivesAnswers, TakesJobs};
+ghost use Rattle.command_decode.specs.Receivers.{AreReceived, GivesOutcomes, TakesTransmissions};
+ghost use Rattle.command_batch.specs.Jobs.{answers};
+ghost use Rattle.command_batch.specs.Runners.{AreRun, GivesAnswers, TakesJobs};
 
 use crate::performing::perform;
-use batch_command::{BlockJob, Outcomes, run_each};
 use block_receive::{Effort, Task, receive_alone, receive_shared};
+use command_batch::{BlockJob, Outcomes, run_each};
+use command_decode::Received;
 use command_words::read_words;
-use decode_command::Received;
 use edge_io::{Sink, Source};
 use lte_bits::Soft;
 use rate_match::Sends;

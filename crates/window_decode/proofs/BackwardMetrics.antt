@@ -3,10 +3,10 @@ use Rattle.std.proofs.Common.{◌≡◌, ℕ, suc, List, [], ◌∷◌, length, 
 use Rattle.std.proofs.lemmas.Int.{ints}
 use Rattle.lte_bits.specs.declared.bit.Bit.{Bit}
 use Rattle.lte_bits.specs.declared.bit.Bit.TheVariants.{Zero, One}
-use Rattle.sender_model.specs.ConstituentCoder.{State, next}
-use Rattle.sender_model.specs.Tail.{reached}
-use Rattle.receiver_model.specs.Paths.{Gain, earned}
-use Rattle.receiver_model.proofs.Maxima.{max-left, max-right, max_is}
+use Rattle.model_sender.specs.ConstituentCoder.{State, next}
+use Rattle.model_sender.specs.Tail.{reached}
+use Rattle.model_receiver.specs.Paths.{Gain, earned}
+use Rattle.model_receiver.proofs.Maxima.{max-left, max-right, max_is}
 use Rattle.window_decode.specs.Recursions.{way_out, backward}
 use Rattle.window_decode.specs.Metrics.{IsBackward}
 

@@ -4,12 +4,12 @@ use Rattle.std.proofs.lemmas.Int.{ints}
 use Rattle.lte_bits.specs.Softs.{IsWithin}
 use Rattle.lte_bits.specs.declared.bit.Bit.{Bit}
 use Rattle.lte_bits.specs.declared.bit.Bit.TheVariants.{Zero, One}
-use Rattle.sender_model.specs.ConstituentCoder.{State, zero_state}
-use Rattle.receiver_model.specs.Borders.{state, states, number_for, border_of, relative, IsBorder}
-use Rattle.receiver_model.specs.Paths.{greatest}
-use Rattle.receiver_model.proofs.Members.{member-map, member-unmap}
-use Rattle.receiver_model.proofs.Maxima.{greatest-bound, greatest-inside}
-use Rattle.receiver_model.proofs.GreatestPaths.{states-all}
+use Rattle.model_sender.specs.ConstituentCoder.{State, zero_state}
+use Rattle.model_receiver.specs.Borders.{state, states, number_for, border_of, relative, IsBorder}
+use Rattle.model_receiver.specs.Paths.{greatest}
+use Rattle.model_receiver.proofs.Members.{member-map, member-unmap}
+use Rattle.model_receiver.proofs.Maxima.{greatest-bound, greatest-inside}
+use Rattle.model_receiver.proofs.GreatestPaths.{states-all}
 use Rattle.window_decode.specs.Recursions.{IsBounded, AreNear, IsMetrics}
 use Rattle.window_decode.proofs.Within.{within-same, within-more}
 

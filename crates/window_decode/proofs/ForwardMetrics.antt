@@ -4,12 +4,12 @@ use Rattle.std.specs.Int.{int_max}
 use Rattle.std.proofs.lemmas.Int.{ints}
 use Rattle.lte_bits.specs.declared.bit.Bit.{Bit}
 use Rattle.lte_bits.specs.declared.bit.Bit.TheVariants.{Zero, One}
-use Rattle.sender_model.specs.ConstituentCoder.{State, next}
-use Rattle.sender_model.specs.Tail.{reached}
+use Rattle.model_sender.specs.ConstituentCoder.{State, next}
+use Rattle.model_sender.specs.Tail.{reached}
 use Rattle.rsc_trellis.specs.Steps.{state_before, input_before}
 use Rattle.rsc_trellis.proofs.TrellisSteps.{next-before, input-next}
-use Rattle.receiver_model.specs.Paths.{Path, path, end_state, Gain, earned}
-use Rattle.receiver_model.proofs.Maxima.{max-left, max-right, max_is}
+use Rattle.model_receiver.specs.Paths.{Path, path, end_state, Gain, earned}
+use Rattle.model_receiver.proofs.Maxima.{max-left, max-right, max_is}
 use Rattle.window_decode.specs.Recursions.{way_in, forward}
 use Rattle.window_decode.specs.Metrics.{IsForward}
 use Rattle.window_decode.proofs.PathSteps.{reached-append, earned-append, Cut, cut}

@@ -2,14 +2,14 @@
 use Rattle.std.proofs.Common.{◌≡◌, ℕ, suc, ◌+◌, List, ◌∷◌, ◌++◌, length, ℤ, ◌+ℤ◌, ◌-ℤ◌, ◌≤ℤ◌, refl, sym, ap, ◌∙◌, subst, arith, length-append}
 use Rattle.std.proofs.lemmas.Int.{ints}
 use Rattle.lte_bits.specs.declared.bit.Bit.{Bit}
-use Rattle.sender_model.specs.Bits as bits
-use Rattle.sender_model.specs.ConstituentCoder.{State, next, parity}
-use Rattle.sender_model.specs.Tail.{reached}
-use Rattle.receiver_model.specs.Borders.{number_for, border_of, relative, at, if_zero}
-use Rattle.receiver_model.specs.Paths.{Window, width, path, end_state, own_gain, gain, earned, score_without, greatest, IsBest, IsBestFrom, best, best_to, best_from}
-use Rattle.receiver_model.specs.Windows.{forward_left, backward_left}
-use Rattle.receiver_model.proofs.Maxima.{greatest_one}
-use Rattle.receiver_model.proofs.GreatestPaths.{best-is, best_to-is, best_from-is}
+use Rattle.model_sender.specs.Bits as bits
+use Rattle.model_sender.specs.ConstituentCoder.{State, next, parity}
+use Rattle.model_sender.specs.Tail.{reached}
+use Rattle.model_receiver.specs.Borders.{number_for, border_of, relative, at, if_zero}
+use Rattle.model_receiver.specs.Paths.{Window, width, path, end_state, own_gain, gain, earned, score_without, greatest, IsBest, IsBestFrom, best, best_to, best_from}
+use Rattle.model_receiver.specs.Windows.{forward_left, backward_left}
+use Rattle.model_receiver.proofs.Maxima.{greatest_one}
+use Rattle.model_receiver.proofs.GreatestPaths.{best-is, best_to-is, best_from-is}
 use Rattle.window_decode.specs.Recursions.{joined}
 use Rattle.window_decode.specs.Metrics.{IsForward, IsBackward}
 use Rattle.window_decode.proofs.EightStates.{states-bound, states-attained, relative-same}

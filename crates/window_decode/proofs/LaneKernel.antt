@@ -4,9 +4,9 @@ use Rattle.std.proofs.lemmas.Int.{ints}
 use Rattle.lte_bits.specs.Softs.{IsWithin}
 use Rattle.lte_bits.specs.declared.bit.Bit.{Bit}
 use Rattle.lte_bits.specs.declared.bit.Bit.TheVariants.{Zero, One}
-use Rattle.sender_model.specs.ConstituentCoder.{State, zero_state, next, parity}
+use Rattle.model_sender.specs.ConstituentCoder.{State, zero_state, next, parity}
 use Rattle.rsc_trellis.specs.Steps.{state_before, input_before}
-use Rattle.receiver_model.specs.Borders.{state, number_for, border_of, if_zero, relative, IsBorder}
+use Rattle.model_receiver.specs.Borders.{state, number_for, border_of, if_zero, relative, IsBorder}
 use Rattle.window_decode.specs.Recursions.{IsBounded, step_gain, way_in, way_out, joined}
 use Rattle.window_decode.specs.Lanes.{IsRelative}
 use Rattle.window_decode.proofs.Within.{within-same, within-sum, within-if_zero, within-more}

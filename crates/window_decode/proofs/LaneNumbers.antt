@@ -5,11 +5,11 @@ use Rattle.std.proofs.lemmas.Int.{ints}
 use Rattle.lte_bits.specs.Softs.{IsWithin}
 use Rattle.lte_bits.specs.declared.bit.Bit.{Bit}
 use Rattle.lte_bits.specs.declared.bit.Bit.TheVariants.{Zero, One}
-use Rattle.sender_model.specs.Bits.{plus}
-use Rattle.sender_model.specs.ConstituentCoder.{State}
-use Rattle.receiver_model.specs.Borders.{state, number_for, border_of}
-use Rattle.receiver_model.specs.Paths.{greatest}
-use Rattle.receiver_model.proofs.Maxima.{max-left, max-right, max_is, ≤ℤ-trans}
+use Rattle.model_sender.specs.Bits.{plus}
+use Rattle.model_sender.specs.ConstituentCoder.{State}
+use Rattle.model_receiver.specs.Borders.{state, number_for, border_of}
+use Rattle.model_receiver.specs.Paths.{greatest}
+use Rattle.model_receiver.proofs.Maxima.{max-left, max-right, max_is, ≤ℤ-trans}
 use Rattle.window_decode.specs.Recursions.{IsBounded}
 use Rattle.window_decode.specs.Lanes.{IsLanes}
 use Rattle.window_decode.proofs.Within.{within-same, within-more, within-sum}

@@ -2,10 +2,10 @@
 use Rattle.std.proofs.Common.{◌≡◌, ℕ, suc, zero, ◌+◌, List, [], ◌∷◌, ◌++◌, length, ◌+ℤ◌, refl, ap, ◌∙◌, arith}
 use Rattle.std.proofs.lemmas.Int.{ints}
 use Rattle.lte_bits.specs.declared.bit.Bit.{Bit}
-use Rattle.sender_model.specs.Bits.{at}
-use Rattle.sender_model.specs.ConstituentCoder.{State, next}
-use Rattle.sender_model.specs.Tail.{reached}
-use Rattle.receiver_model.specs.Paths.{Gain, earned}
+use Rattle.model_sender.specs.Bits.{at}
+use Rattle.model_sender.specs.ConstituentCoder.{State, next}
+use Rattle.model_sender.specs.Tail.{reached}
+use Rattle.model_receiver.specs.Paths.{Gain, earned}
 
 pub reached-append : (s : State) (us vs : List Bit) → reached s (us ++ vs) ≡ reached (reached s us) vs
 reached-append s [] vs = refl

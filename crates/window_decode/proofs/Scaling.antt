@@ -5,7 +5,7 @@ use Rattle.std.specs.Int.{int_max, int_min}
 use Rattle.std.proofs.lemmas.Bool.{cases_lt}
 use Rattle.std.proofs.lemmas.Int.{ints, clamps}
 use Rattle.lte_bits.specs.Softs.{clamped}
-use Rattle.receiver_model.specs.Windows.{scaled}
+use Rattle.model_receiver.specs.Windows.{scaled}
 
 -- a quotient is rounded toward zero
 negative : (m : ℕ) → int_div (neg_ℤ (pos m)) (pos 4) ≡ neg_ℤ (pos (m / 4))

@@ -5,15 +5,15 @@ use Rattle.std.proofs.lemmas.Int.{ints, clamps}
 use Rattle.lte_bits.specs.Softs.{IsWithin}
 use Rattle.lte_bits.specs.declared.bit.Bit.{Bit}
 use Rattle.lte_bits.specs.declared.bit.Bit.TheVariants.{Zero, One}
-use Rattle.sender_model.specs.ConstituentCoder.{State, next, parity}
-use Rattle.sender_model.specs.Tail.{reached}
+use Rattle.model_sender.specs.ConstituentCoder.{State, next, parity}
+use Rattle.model_sender.specs.Tail.{reached}
 use Rattle.rsc_trellis.specs.Steps.{state_before, input_before}
 use Rattle.rsc_trellis.proofs.TrellisSteps.{three_inputs}
-use Rattle.receiver_model.proofs.Maxima.{greatest_one}
+use Rattle.model_receiver.proofs.Maxima.{greatest_one}
 use Rattle.window_decode.proofs.ForwardMetrics.{forward-attained, forward_none, forward_more}
 use Rattle.window_decode.proofs.BackwardMetrics.{backward-attained, backward_none, backward_more}
-use Rattle.receiver_model.specs.Borders.{if_zero}
-use Rattle.receiver_model.specs.Paths.{path, Gain, earned}
+use Rattle.model_receiver.specs.Borders.{if_zero}
+use Rattle.model_receiver.specs.Paths.{path, Gain, earned}
 use Rattle.window_decode.specs.Recursions.{AreNear, step_gain, forward, backward}
 use Rattle.window_decode.specs.Metrics.{IsForward, IsBackward}
 use Rattle.window_decode.proofs.PathSteps.{reached-append, earned-append, earned-from_zero, Cut, cut}

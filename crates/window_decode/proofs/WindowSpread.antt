@@ -2,11 +2,11 @@
 use Rattle.std.proofs.Common.{◌≡◌, ℕ, ◌+◌, ◌-◌, ◌≤◌, ℤ, pos, ◌+ℤ◌, ◌-ℤ◌, ◌≤ℤ◌, refl, sym, ap, ◌∙◌, subst, arith}
 use Rattle.std.proofs.lemmas.Int.{ints}
 use Rattle.lte_bits.specs.Softs.{IsWithin}
-use Rattle.sender_model.specs.ConstituentCoder.{State}
-use Rattle.sender_model.specs.Tail.{reached}
-use Rattle.receiver_model.specs.Borders.{number_for, at}
-use Rattle.receiver_model.specs.Paths.{Window, width, path, gain, earned, best_to, best_from}
-use Rattle.receiver_model.proofs.GreatestPaths.{best_to-is, best_from-is}
+use Rattle.model_sender.specs.ConstituentCoder.{State}
+use Rattle.model_sender.specs.Tail.{reached}
+use Rattle.model_receiver.specs.Borders.{number_for, at}
+use Rattle.model_receiver.specs.Paths.{Window, width, path, gain, earned, best_to, best_from}
+use Rattle.model_receiver.proofs.GreatestPaths.{best_to-is, best_from-is}
 use Rattle.window_decode.specs.Metrics.{IsForward, IsBackward}
 use Rattle.window_decode.specs.Ranges.{IsSoft}
 use Rattle.window_decode.proofs.Spread.{IsNarrow, lowest, step-least, step-most, forward-near, backward-near}

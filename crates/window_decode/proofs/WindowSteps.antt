@@ -5,11 +5,11 @@ use Rattle.std.proofs.lemmas.Int.{ints, clamps}
 use Rattle.lte_bits.specs.Softs.{IsWithin}
 use Rattle.lte_bits.specs.declared.bit.Bit.{Bit}
 use Rattle.lte_bits.specs.declared.bit.Bit.TheVariants.{Zero, One}
-use Rattle.sender_model.specs.ConstituentCoder.{State, zero_state, next, parity}
+use Rattle.model_sender.specs.ConstituentCoder.{State, zero_state, next, parity}
 use Rattle.rsc_trellis.specs.Steps.{state_before, input_before}
-use Rattle.receiver_model.specs.Borders.{Border, IsBorder, number_for, border_of, relative, at, if_zero}
-use Rattle.receiver_model.specs.Paths.{Window, width, Gain, gain, greatest, best}
-use Rattle.receiver_model.specs.Windows.{Extrinsic, values, cell_at, window_between, cell_from, new_cell}
+use Rattle.model_receiver.specs.Borders.{Border, IsBorder, number_for, border_of, relative, at, if_zero}
+use Rattle.model_receiver.specs.Paths.{Window, width, Gain, gain, greatest, best}
+use Rattle.model_receiver.specs.Windows.{Extrinsic, values, cell_at, window_between, cell_from, new_cell}
 use Rattle.window_decode.specs.Lanes.{IsRelative}
 use Rattle.window_decode.specs.Recursions.{AreNear, step_gain, forward, backward, joined, through, cell_through}
 use Rattle.window_decode.specs.Metrics.{IsForwardRow, IsBackwardRow, IsForward, IsBackward}

@@ -6,10 +6,10 @@ use Rattle.std.proofs.lemmas.List.{get_or-set_same, get_or-set_other, get_or_rea
 use Rattle.std.proofs.lemmas.List.FromFn.{fill_by_all}
 use Rattle.std.specs.List.{range_with_len}
 use Rattle.lte_bits.specs.Softs.{IsWithin}
-use Rattle.sender_model.specs.ConstituentCoder.{State}
-use Rattle.receiver_model.specs.Borders.{Border, IsBorder, number_for, relative, at}
-use Rattle.receiver_model.specs.Paths.{Window, Gain, gain, width}
-use Rattle.receiver_model.specs.Windows.{Extrinsic, cell_at, zero_cell, window_between, new_cell, new_cells, forward_left, backward_left}
+use Rattle.model_sender.specs.ConstituentCoder.{State}
+use Rattle.model_receiver.specs.Borders.{Border, IsBorder, number_for, relative, at}
+use Rattle.model_receiver.specs.Paths.{Window, Gain, gain, width}
+use Rattle.model_receiver.specs.Windows.{Extrinsic, cell_at, zero_cell, window_between, new_cell, new_cells, forward_left, backward_left}
 use Rattle.window_decode.specs.Recursions.{AreNear, cell_through}
 use Rattle.window_decode.specs.Metrics.{IsForwardRow, IsBackwardRow, IsForward, IsBackward, row_at}
 use Rattle.window_decode.proofs.EightStates.{border_from}

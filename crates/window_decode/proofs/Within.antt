@@ -4,7 +4,7 @@ use Rattle.std.proofs.lemmas.Int.{ints}
 use Rattle.lte_bits.specs.Softs.{IsWithin}
 use Rattle.lte_bits.specs.declared.bit.Bit.{Bit}
 use Rattle.lte_bits.specs.declared.bit.Bit.TheVariants.{Zero, One}
-use Rattle.receiver_model.specs.Borders.{if_zero}
+use Rattle.model_receiver.specs.Borders.{if_zero}
 
 pub within-if_zero : (b : Bit) (n : ℕ) (v : ℤ) → IsWithin n v → IsWithin n (if_zero b v)
 within-if_zero Zero n v h = h

@@ -1,7 +1,7 @@
 -- Eight numbers of 16 bits, one for each state.
 use Rattle.std.specs.Prelude.{◌≡◌, ℤ, pos, List, length}
-use Rattle.sender_model.specs.ConstituentCoder.{zero_state}
-use Rattle.receiver_model.specs.Borders.{number_for}
+use Rattle.model_sender.specs.ConstituentCoder.{zero_state}
+use Rattle.model_receiver.specs.Borders.{number_for}
 use Rattle.window_decode.specs.Recursions.{IsBounded, AreNear}
 
 -- eight numbers from -32767 to 32767

@@ -1,10 +1,10 @@
 -- What the metrics of a recursion are: greatest numbers over paths.
 use Rattle.std.specs.Prelude.{◌≡◌, ℕ, ℤ, ◌+ℤ◌, List, [], length, slice_index_or}
 use Rattle.lte_bits.specs.declared.bit.Bit.{Bit}
-use Rattle.sender_model.specs.ConstituentCoder.{State}
-use Rattle.sender_model.specs.Tail.{reached}
-use Rattle.receiver_model.specs.Borders.{Border, number_for, relative}
-use Rattle.receiver_model.specs.Paths.{Path, end_state, Gain, earned, IsGreatest}
+use Rattle.model_sender.specs.ConstituentCoder.{State}
+use Rattle.model_sender.specs.Tail.{reached}
+use Rattle.model_receiver.specs.Borders.{Border, number_for, relative}
+use Rattle.model_receiver.specs.Paths.{Path, end_state, Gain, earned, IsGreatest}
 
 -- m has for each state the greatest number of a path of j bits that ends in it
 abbrev pub IsForward : (State → ℤ) → Gain → ℕ → (State → ℤ) → Type 0

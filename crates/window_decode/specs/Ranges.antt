@@ -1,8 +1,8 @@
 -- The ranges of a window's values.
 use Rattle.std.specs.Prelude.{ℕ}
 use Rattle.lte_bits.specs.Softs.{IsWithin}
-use Rattle.receiver_model.specs.Borders.{at}
-use Rattle.receiver_model.specs.Paths.{Window}
+use Rattle.model_receiver.specs.Borders.{at}
+use Rattle.model_receiver.specs.Paths.{Window}
 
 -- systematic and parity values are soft values, and the cells are clamped ones
 pub record IsSoft (w : Window) : Type 0 where

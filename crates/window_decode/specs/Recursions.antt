@@ -4,11 +4,11 @@ use Rattle.std.specs.Int.{int_max}
 use Rattle.lte_bits.specs.Softs.{IsWithin}
 use Rattle.lte_bits.specs.declared.bit.Bit.{Bit}
 use Rattle.lte_bits.specs.declared.bit.Bit.TheVariants.{Zero, One}
-use Rattle.sender_model.specs.ConstituentCoder.{State, next, parity}
+use Rattle.model_sender.specs.ConstituentCoder.{State, next, parity}
 use Rattle.rsc_trellis.specs.Steps.{state_before, input_before}
-use Rattle.receiver_model.specs.Borders.{number_for, border_of, if_zero}
-use Rattle.receiver_model.specs.Paths.{greatest}
-use Rattle.receiver_model.specs.Windows.{Extrinsic, cell_from}
+use Rattle.model_receiver.specs.Borders.{number_for, border_of, if_zero}
+use Rattle.model_receiver.specs.Paths.{greatest}
+use Rattle.model_receiver.specs.Windows.{Extrinsic, cell_from}
 
 -- the number of each state is from -n to n
 abbrev pub IsBounded : ℕ → (State → ℤ) → Type 0

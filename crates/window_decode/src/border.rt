@@ -1,8 +1,8 @@
 //! Borders between windows.
 ghost use Rattle.std.specs.Prelude.{◌≡◌, ◌<◌, ◌+ℤ◌, ◌-ℤ◌, length};
-ghost use Rattle.sender_model.specs.ConstituentCoder.{zero_state};
-ghost use Rattle.receiver_model.specs.Borders.{IsBorder, number_for, border_of, at, if_zero};
-ghost use Rattle.receiver_model.specs.Borders.{relative, unknown, known, tail, tail_sum};
+ghost use Rattle.model_sender.specs.ConstituentCoder.{zero_state};
+ghost use Rattle.model_receiver.specs.Borders.{IsBorder, number_for, border_of, at, if_zero};
+ghost use Rattle.model_receiver.specs.Borders.{relative, unknown, known, tail, tail_sum};
 ghost use Rattle.lte_bits.specs.Softs.{IsWithin};
 ghost use Rattle.window_decode.specs.Recursions.{IsBounded, IsMetrics, AreNear};
 
@@ -20,7 +20,7 @@ pub struct Border {
 
 impl Model for Border {
     ghost use Rattle.std.specs.Prelude.{ℤ, List};
-    ghost use Rattle.receiver_model.specs.Borders.{IsBorder};
+    ghost use Rattle.model_receiver.specs.Borders.{IsBorder};
 
     ghost Value = { List ℤ };
 

@@ -1,7 +1,7 @@
 //! Extrinsic cells.
 ghost use Rattle.std.specs.Prelude.{◌≡◌, ℤ, ◌+ℤ◌};
 ghost use Rattle.lte_bits.specs.Softs.{IsWithin};
-ghost use Rattle.receiver_model.specs.Windows.{cell_from};
+ghost use Rattle.model_receiver.specs.Windows.{cell_from};
 
 use std::marker::Model;
 
@@ -14,7 +14,7 @@ pub struct Ext {
 
 impl Model for Ext {
     ghost use Rattle.lte_bits.specs.Softs.{IsWithin};
-    ghost use Rattle.receiver_model.specs.Windows.{Extrinsic};
+    ghost use Rattle.model_receiver.specs.Windows.{Extrinsic};
 
     ghost Value = { Extrinsic };
 
@@ -26,7 +26,7 @@ impl Model for Ext {
 }
 
 impl Ext {
-    ghost use Rattle.receiver_model.specs.Windows.{zero_cell};
+    ghost use Rattle.model_receiver.specs.Windows.{zero_cell};
 
     /// The cell before the first half iteration.
     pub const ZERO: Ext = Ext {

@@ -4,11 +4,11 @@ ghost use Rattle.std.specs.Prelude.{◌≡◌, ◌+ℤ◌, ◌-ℤ◌};
 ghost use Rattle.std.specs.Int.{int_max};
 ghost use Rattle.lte_bits.specs.Softs.{IsWithin};
 ghost use Rattle.lte_bits.specs.declared.bit.Bit.TheVariants.{Zero, One};
-ghost use Rattle.sender_model.specs.ConstituentCoder.{zero_state, next, parity};
+ghost use Rattle.model_sender.specs.ConstituentCoder.{zero_state, next, parity};
 ghost use Rattle.rsc_trellis.specs.Steps.{state_before, input_before};
-ghost use Rattle.sender_model.specs.Bits.{plus};
-ghost use Rattle.receiver_model.specs.Borders.{state, border_of, number_for, relative, if_zero};
-ghost use Rattle.receiver_model.specs.Paths.{greatest};
+ghost use Rattle.model_sender.specs.Bits.{plus};
+ghost use Rattle.model_receiver.specs.Borders.{state, border_of, number_for, relative, if_zero};
+ghost use Rattle.model_receiver.specs.Paths.{greatest};
 ghost use Rattle.window_decode.specs.Recursions.{IsBounded};
 ghost use Rattle.window_decode.specs.Lanes.{IsLanes};
 

@@ -14,7 +14,7 @@ pub mod work;
 
 pub use border::Border;
 pub use ext::Ext;
-pub use receiver_model::{CheckKind, CodeResult};
+pub use model_receiver::{CheckKind, CodeResult};
 pub use shape::Shape;
 pub use strip::Strip;
 pub use window::run_window;

@@ -1,7 +1,7 @@
 //! Laws of a window's metrics. The function computes nothing: its contract is the law.
 ghost use Rattle.std.specs.Prelude.{◌≤◌, ◌-ℤ◌, ◌≤ℤ◌, pos};
-ghost use Rattle.sender_model.specs.ConstituentCoder.{State};
-ghost use Rattle.receiver_model.specs.Paths.{Window, width, best_to, best_from};
+ghost use Rattle.model_sender.specs.ConstituentCoder.{State};
+ghost use Rattle.model_receiver.specs.Paths.{Window, width, best_to, best_from};
 ghost use Rattle.window_decode.specs.Ranges.{IsSoft};
 
 /// After three positions the metrics of a window differ by at most 3 * (127 + 511 + 127) = 2295: those

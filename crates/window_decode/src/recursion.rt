@@ -2,8 +2,8 @@
 ghost use Rattle.std.specs.Prelude.{◌≡◌, ◌+ℤ◌, ◌-ℤ◌};
 ghost use Rattle.lte_bits.specs.Softs.{IsWithin};
 ghost use Rattle.lte_bits.specs.declared.bit.Bit.TheVariants.{Zero, One};
-ghost use Rattle.sender_model.specs.ConstituentCoder.{next, parity};
-ghost use Rattle.receiver_model.specs.Borders.{border_of, number_for, if_zero, relative};
+ghost use Rattle.model_sender.specs.ConstituentCoder.{next, parity};
+ghost use Rattle.model_receiver.specs.Borders.{border_of, number_for, if_zero, relative};
 ghost use Rattle.window_decode.specs.Recursions.{step_gain, way_in, forward, backward, through};
 ghost use Rattle.window_decode.specs.Lanes.{IsRelative};
 

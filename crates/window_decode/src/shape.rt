@@ -1,9 +1,9 @@
 //! The shape of a code block's decoding.
 ghost use Rattle.std.specs.Prelude.{◌≡◌, ◌↔◌, IsSome, IfSome};
-ghost use Rattle.receiver_model.specs.HalfIteration.{IsShape, shape_of};
+ghost use Rattle.model_receiver.specs.HalfIteration.{IsShape, shape_of};
 
+use model_receiver::CheckKind;
 use qpp_table::qpp;
-use receiver_model::CheckKind;
 use std::marker::Model;
 
 /// The size of a code block, its fillers and check, the windows of a half iteration, and the limit of
@@ -18,7 +18,7 @@ pub struct Shape {
 }
 
 impl Model for Shape {
-    ghost use Rattle.receiver_model.specs.HalfIteration.{Shape as Numbers, IsShape, shape_of};
+    ghost use Rattle.model_receiver.specs.HalfIteration.{Shape as Numbers, IsShape, shape_of};
 
     ghost Value = { Numbers };
 

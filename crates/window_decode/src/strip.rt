@@ -1,8 +1,8 @@
 //! Strips: the values and cells of one window, however they are kept.
 ghost use Rattle.std.specs.Prelude.{◌≡◌, ◌<◌, ℤ, List, length, slice_set};
 ghost use Rattle.lte_bits.specs.Softs.{IsWithin};
-ghost use Rattle.receiver_model.specs.Borders.{at};
-ghost use Rattle.receiver_model.specs.Windows.{Extrinsic, cell_at};
+ghost use Rattle.model_receiver.specs.Borders.{at};
+ghost use Rattle.model_receiver.specs.Windows.{Extrinsic, cell_at};
 
 use crate::ext::Ext;
 

@@ -1,8 +1,8 @@
 //! One window of the max-log decoder.
 ghost use Rattle.std.specs.Prelude.{◌≡◌, ◌<◌, ◌≤◌, ℤ, ◌+ℤ◌, length};
-ghost use Rattle.receiver_model.specs.Borders.{IsBorder, at};
-ghost use Rattle.receiver_model.specs.Windows.{cell_at, window_between};
-ghost use Rattle.receiver_model.specs.Windows.{new_cells, forward_left, backward_left};
+ghost use Rattle.model_receiver.specs.Borders.{IsBorder, at};
+ghost use Rattle.model_receiver.specs.Windows.{cell_at, window_between};
+ghost use Rattle.model_receiver.specs.Windows.{new_cells, forward_left, backward_left};
 ghost use Rattle.window_decode.specs.Lanes.{IsRelative};
 ghost use Rattle.window_decode.specs.Recursions.{cell_through};
 

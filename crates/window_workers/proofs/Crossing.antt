@@ -12,7 +12,7 @@ use Rattle.serial_decode.specs.contracts.left.Left as Left
 use Rattle.cell_shares.specs.contracts.share.Share as Share
 use Rattle.cell_shares.proofs.part.Part.TheSendSync.{the_send as part}
 use Rattle.cell_shares.proofs.right.FreeRight.TheSendSync.{the_send as right}
-use Rattle.receiver_model.specs.contracts.result.CodeResult as CodeResult
+use Rattle.model_receiver.specs.contracts.result.CodeResult as CodeResult
 use Rattle.window_workers.specs.contracts.view.WindowView as WindowView
 use Rattle.window_workers.specs.contracts.piece.Tools as Tools
 use Rattle.window_workers.specs.contracts.piece.WindowPiece as WindowPiece

@@ -3,7 +3,7 @@ use Rattle.std.proofs.Common.{◌≡◌, ℕ, zero, suc, ◌+◌, ◌<◌, ◌�
 use mathlib.Core.Option.{some}
 use lib.ListN.{get_elem?}
 use Rattle.std.specs.List.{range_with_len}
-use Rattle.receiver_model.specs.HalfIteration.{Before, cells_in}
+use Rattle.model_receiver.specs.HalfIteration.{Before, cells_in}
 use Rattle.cell_shares.specs.declared.order.Order.{Order}
 use Rattle.cell_shares.specs.Names.{Name}
 use Rattle.cell_shares.specs.Deal.{deal}

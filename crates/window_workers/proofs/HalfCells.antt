@@ -4,11 +4,11 @@ use Rattle.std.specs.List.{range_with_len}
 use Rattle.std.proofs.lemmas.List.{ext_get_or, length-map, length-replicate}
 use Rattle.std.proofs.lemmas.List.FromFn.{length-map-range_with_len, get_or-map-range_with_len}
 use Rattle.lte_bits.specs.declared.block.SoftStreams.{SoftStreams}
-use Rattle.receiver_model.specs.Paths.{Window, width}
-use Rattle.receiver_model.specs.Windows.{Extrinsic, zero_cell, cell_at, new_cell, new_cells}
-use Rattle.receiver_model.specs.HalfIteration.{Shape, Before, none_left, window_width, order, position_of, cells_in, window, renewed, left_after}
-use Rattle.receiver_model.specs.Decoding.{before}
-use Rattle.receiver_model.proofs.PlacesOfPositions.{order-apart, position-back}
+use Rattle.model_receiver.specs.Paths.{Window, width}
+use Rattle.model_receiver.specs.Windows.{Extrinsic, zero_cell, cell_at, new_cell, new_cells}
+use Rattle.model_receiver.specs.HalfIteration.{Shape, Before, none_left, window_width, order, position_of, cells_in, window, renewed, left_after}
+use Rattle.model_receiver.specs.Decoding.{before}
+use Rattle.model_receiver.proofs.PlacesOfPositions.{order-apart, position-back}
 use Rattle.serial_decode.specs.Views.{AreWhole}
 use Rattle.serial_decode.proofs.HalfSteps.{renewed-in_window}
 use Rattle.serial_decode.proofs.Stopping.{before-none, before-more}

@@ -2,8 +2,8 @@
 use Rattle.std.proofs.Common.{◌≡◌, ℕ, suc, List, length, map, reverse, sym, ap, ◌∙◌, subst}
 use Prim.Native.Nat.{◌∣◌}
 use Rattle.std.proofs.lemmas.List.{reverse-reverse}
-use Rattle.receiver_model.specs.Windows.{Extrinsic}
-use Rattle.receiver_model.specs.HalfIteration.{left_after}
+use Rattle.model_receiver.specs.Windows.{Extrinsic}
+use Rattle.model_receiver.specs.HalfIteration.{left_after}
 use Rattle.cell_shares.specs.declared.cells.Cells.{Cells}
 use Rattle.cell_shares.specs.declared.order.Order.{Order}
 use Rattle.cell_shares.specs.Deal.{deal}

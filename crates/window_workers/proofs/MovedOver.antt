@@ -5,8 +5,8 @@ use lib.ListN.{get_elem?}
 use Rattle.std.proofs.lemmas.List.{append_assoc, map-append, reverse-append}
 use Rattle.serial_decode.proofs.Orders.{not-equal}
 use Rattle.window_workers.proofs.Somes.{some-same}
-use Rattle.receiver_model.specs.Borders.{Border, known}
-use Rattle.receiver_model.specs.HalfIteration.{Left, left_by}
+use Rattle.model_receiver.specs.Borders.{Border, known}
+use Rattle.model_receiver.specs.HalfIteration.{Left, left_by}
 use Rattle.window_workers.specs.declared.piece.WindowPiece.{WindowPiece}
 use Rattle.window_workers.specs.HalfEnds.{start_by, end_by}
 

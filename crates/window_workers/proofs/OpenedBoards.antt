@@ -3,9 +3,9 @@ use Rattle.std.proofs.Common.{◌≡◌, ℕ, zero, suc, ◌+◌, ◌-◌, ◌<�
 use Rattle.std.specs.Prelude.{IsSomeAnd, Option, Some, None}
 use Rattle.std.proofs.lemmas.List.{length-reverse}
 use Rattle.lte_bits.specs.declared.block.SoftStreams.{SoftStreams}
-use Rattle.receiver_model.specs.Borders.{Border}
-use Rattle.receiver_model.specs.Windows.{Extrinsic, zero_cell}
-use Rattle.receiver_model.specs.HalfIteration.{Shape, Before, Left}
+use Rattle.model_receiver.specs.Borders.{Border}
+use Rattle.model_receiver.specs.Windows.{Extrinsic, zero_cell}
+use Rattle.model_receiver.specs.HalfIteration.{Shape, Before, Left}
 use Rattle.serial_decode.proofs.Stopping.{before-none}
 use Rattle.cell_shares.specs.declared.cells.Cells.{Cells}
 use Rattle.cell_shares.specs.declared.order.Order.{Order}

@@ -3,12 +3,12 @@ use Rattle.std.proofs.Common.{◌≡◌, ℕ, ◌%◌, ◌==◌, ◌<◌, ◌≤
 use mathlib.Core.HLevel.{is_prop→PathP}
 use Rattle.std.specs.Coded.{le_prop}
 use Rattle.std.proofs.Math.Logic.{∥∥₁_prop}
-use Rattle.sender_model.specs.declared.rows.Row.{Row}
-use Rattle.sender_model.specs.Interleaver.{Lawful, pi, sizes, row_of, place}
-use Rattle.sender_model.proofs.RowLaws.{row_found}
+use Rattle.model_sender.specs.declared.rows.Row.{Row}
+use Rattle.model_sender.specs.Interleaver.{Lawful, pi, sizes, row_of, place}
+use Rattle.model_sender.proofs.RowLaws.{row_found}
 use Rattle.qpp_table.specs.declared.interleaver.Qpp.{Qpp}
 use Rattle.qpp_table.specs.Qpp.{row_in}
-use Rattle.receiver_model.specs.HalfIteration.{order}
+use Rattle.model_receiver.specs.HalfIteration.{order}
 use Rattle.cell_shares.specs.declared.order.Order.{Order}
 use Rattle.cell_shares.specs.declared.order.Order.TheVariants.{Natural, Interleaved}
 use Rattle.cell_shares.specs.Orders.{place_in, IsOrderOf}

@@ -2,9 +2,9 @@
 use Rattle.std.proofs.Common.{◌≡◌, ℕ, suc, ◌+◌, ◌%◌, ◌==◌, Bool, true, false, cond, List, [], ◌∷◌, length, map, sym, ap, ◌∙◌}
 use Rattle.std.specs.List.{range_with_len}
 use Rattle.lte_bits.specs.declared.block.SoftStreams.{SoftStreams}
-use Rattle.receiver_model.specs.Borders.{Border, at, tail}
-use Rattle.receiver_model.specs.Windows.{Extrinsic}
-use Rattle.receiver_model.specs.HalfIteration.{Left, tail_border, cells_in, left_after}
+use Rattle.model_receiver.specs.Borders.{Border, at, tail}
+use Rattle.model_receiver.specs.Windows.{Extrinsic}
+use Rattle.model_receiver.specs.HalfIteration.{Left, tail_border, cells_in, left_after}
 use Rattle.cell_shares.specs.declared.order.Order.{Order}
 use Rattle.cell_shares.specs.declared.share.Share.{Share}
 use Rattle.cell_shares.specs.Names.{Name}

@@ -2,10 +2,10 @@
 use Rattle.std.proofs.Common.{◌≡◌, ℕ, ◌*◌, ◌%◌, ◌==◌, ◌<◌, Bool, true, false, cond, List, length, map, sym, ap, ◌∙◌}
 use Rattle.std.specs.Prelude.{ℤ}
 use Rattle.std.proofs.lemmas.List.FromFn.{length-map-range_with_len}
-use Rattle.sender_model.specs.Interleaver.{place}
-use Rattle.receiver_model.specs.Borders.{Border, at}
-use Rattle.receiver_model.specs.Windows.{Extrinsic, window_between}
-use Rattle.receiver_model.specs.HalfIteration.{window_width, positions, systematic_at, parity_at, window}
+use Rattle.model_sender.specs.Interleaver.{place}
+use Rattle.model_receiver.specs.Borders.{Border, at}
+use Rattle.model_receiver.specs.Windows.{Extrinsic, window_between}
+use Rattle.model_receiver.specs.HalfIteration.{window_width, positions, systematic_at, parity_at, window}
 use Rattle.serial_decode.specs.Views.{AreWhole}
 use Rattle.serial_decode.proofs.Wholes.{are-whole}
 use Rattle.cell_shares.specs.Deal.{share_places}

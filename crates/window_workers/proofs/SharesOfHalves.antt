@@ -1,9 +1,9 @@
 -- The shares of a half have the cells of its windows.
 use Rattle.std.proofs.Common.{◌≡◌, ℕ, zero, suc, ◌+◌, ◌*◌, ◌/◌, ◌<◌, List, [], ◌∷◌, ◌++◌, length, get_or, map, take, drop, refl, ap, ◌∙◌, subst, arith}
 use Rattle.std.specs.List.{range_with_len}
-use Rattle.receiver_model.specs.Windows.{Extrinsic, zero_cell}
-use Rattle.receiver_model.specs.HalfIteration.{Shape, Before, window_width, order, cells_in}
-use Rattle.receiver_model.proofs.PlacesOfPositions.{order-apart}
+use Rattle.model_receiver.specs.Windows.{Extrinsic, zero_cell}
+use Rattle.model_receiver.specs.HalfIteration.{Shape, Before, window_width, order, cells_in}
+use Rattle.model_receiver.proofs.PlacesOfPositions.{order-apart}
 use Rattle.serial_decode.specs.Views.{AreWhole}
 use Rattle.serial_decode.proofs.StripParts.{position-inside}
 use Rattle.cell_shares.specs.declared.order.Order.{Order}

@@ -3,11 +3,11 @@ use Rattle.std.proofs.Common.{◌≡◌, ℕ, suc, ◌+◌, ◌-◌, ◌*◌, �
 use Rattle.std.specs.Prelude.{◌↔◌, IsTrue, IsFalse}
 use Rattle.std.proofs.lemmas.Bool.{cases_eq}
 use Rattle.lte_bits.specs.declared.bit.Bit.{Bit}
-use Rattle.sender_model.specs.CheckBits.{IsMultiple}
-use Rattle.receiver_model.specs.declared.result.CheckKind.{CheckKind}
-use Rattle.receiver_model.specs.Windows.{Extrinsic}
-use Rattle.receiver_model.specs.Decoding.{before, decided_bits, decided_in, generator}
-use Rattle.receiver_model.proofs.DecodedOnce.{decoded-is, decoded_once}
+use Rattle.model_sender.specs.CheckBits.{IsMultiple}
+use Rattle.model_receiver.specs.declared.result.CheckKind.{CheckKind}
+use Rattle.model_receiver.specs.Windows.{Extrinsic}
+use Rattle.model_receiver.specs.Decoding.{before, decided_bits, decided_in, generator}
+use Rattle.model_receiver.proofs.DecodedOnce.{decoded-is, decoded_once}
 use Rattle.serial_decode.proofs.Stopping.{result_with}
 use Rattle.window_workers.specs.declared.job.DecodingJob.{DecodingJob}
 use Rattle.window_workers.specs.declared.common.Progress.{Progress}

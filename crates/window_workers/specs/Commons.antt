@@ -1,11 +1,11 @@
 -- The common value: the common state of a half, and ended at a half.
 use Rattle.std.specs.Prelude.{◌≡◌, ℕ, ◌-◌, ◌*◌, ◌<◌, ◌≤◌, length}
-use Rattle.sender_model.specs.CheckBits.{IsMultiple}
-use Rattle.sender_model.specs.Interleaver.{row_of}
+use Rattle.model_sender.specs.CheckBits.{IsMultiple}
+use Rattle.model_sender.specs.Interleaver.{row_of}
 use Rattle.qpp_table.specs.Qpp.{row_in}
-use Rattle.receiver_model.specs.declared.result.CodeResult.{CodeResult}
-use Rattle.receiver_model.specs.HalfIteration.{tail_border}
-use Rattle.receiver_model.specs.Decoding.{decided_in, generator, code_result}
+use Rattle.model_receiver.specs.declared.result.CodeResult.{CodeResult}
+use Rattle.model_receiver.specs.HalfIteration.{tail_border}
+use Rattle.model_receiver.specs.Decoding.{decided_in, generator, code_result}
 use Rattle.phase_board.specs.Slots.{HasRoom}
 use Rattle.window_workers.specs.declared.job.DecodingJob.{DecodingJob}
 use Rattle.window_workers.specs.declared.common.Progress.{Progress}

@@ -2,8 +2,8 @@
 use Rattle.std.specs.Prelude.{◌≡◌, ℕ, suc, ◌+◌, ◌-◌, ◌==◌, if◌then◌else◌, List, [], length, reverse}
 use mathlib.Core.Option.{some}
 use lib.ListN.{get_elem?}
-use Rattle.receiver_model.specs.Borders.{Border, known}
-use Rattle.receiver_model.specs.HalfIteration.{Left, left_by, left_after}
+use Rattle.model_receiver.specs.Borders.{Border, known}
+use Rattle.model_receiver.specs.HalfIteration.{Left, left_by, left_after}
 use Rattle.phase_board.specs.Slots.{AllPieces}
 use Rattle.window_workers.specs.declared.job.DecodingJob.{DecodingJob}
 use Rattle.window_workers.specs.declared.piece.Tools.{Tools}

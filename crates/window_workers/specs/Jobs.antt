@@ -1,7 +1,7 @@
 -- The job of a decoding.
 use Rattle.std.specs.Prelude.{◌≡◌, ℕ}
-use Rattle.receiver_model.specs.HalfIteration.{IsShape, Before}
-use Rattle.receiver_model.specs.Decoding.{before}
+use Rattle.model_receiver.specs.HalfIteration.{IsShape, Before}
+use Rattle.model_receiver.specs.Decoding.{before}
 use Rattle.serial_decode.specs.Views.{AreStreams}
 use Rattle.window_workers.specs.declared.job.DecodingJob.{DecodingJob}
 

@@ -1,7 +1,7 @@
 -- What a board is opened with.
 use Rattle.std.specs.Prelude.{◌≡◌, List}
 use Rattle.lte_bits.specs.declared.block.SoftStreams.{SoftStreams}
-use Rattle.receiver_model.specs.HalfIteration.{Shape}
+use Rattle.model_receiver.specs.HalfIteration.{Shape}
 use Rattle.window_workers.specs.declared.job.DecodingJob.{DecodingJob}
 use Rattle.window_workers.specs.declared.piece.WindowPiece.{WindowPiece}
 use Rattle.window_workers.specs.declared.common.WindowCommon.{WindowCommon}

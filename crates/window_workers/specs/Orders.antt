@@ -1,7 +1,7 @@
 -- The orders in which the halves take the cells.
 use Rattle.std.specs.Prelude.{◌≡◌, ℕ, ◌%◌, ◌==◌, if◌then◌else◌, Option, Some, None}
-use Rattle.sender_model.specs.declared.rows.Row.{Row}
-use Rattle.sender_model.specs.Interleaver.{row_of}
+use Rattle.model_sender.specs.declared.rows.Row.{Row}
+use Rattle.model_sender.specs.Interleaver.{row_of}
 use Rattle.qpp_table.specs.Qpp.{row_in}
 use Rattle.cell_shares.specs.declared.order.Order.{Order}
 use Rattle.cell_shares.specs.declared.order.Order.TheVariants.{Natural, Interleaved}

@@ -1,7 +1,7 @@
 -- The piece of a window: held for a half, ready for its draw, and done.
 use Rattle.std.specs.Prelude.{◌≡◌, ℕ, suc, ◌≤◌, map}
-use Rattle.receiver_model.specs.HalfIteration.{Left, window_width, positions, order, systematic_at, parity_at, start_border, end_border, cells_in, left_after}
-use Rattle.receiver_model.specs.Windows.{Extrinsic}
+use Rattle.model_receiver.specs.HalfIteration.{Left, window_width, positions, order, systematic_at, parity_at, start_border, end_border, cells_in, left_after}
+use Rattle.model_receiver.specs.Windows.{Extrinsic}
 use Rattle.cell_shares.specs.declared.share.Share.{Share}
 use Rattle.cell_shares.specs.Shares.{share_name, share_number, share_order, share_values}
 use Rattle.window_workers.specs.declared.job.DecodingJob.{DecodingJob}

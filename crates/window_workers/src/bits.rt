@@ -1,6 +1,6 @@
 //! The decided bits of joined cells.
 ghost use Rattle.std.specs.Prelude.{◌≡◌, ◌≤◌, length};
-ghost use Rattle.receiver_model.specs.Decoding.{decided_bits};
+ghost use Rattle.model_receiver.specs.Decoding.{decided_bits};
 ghost use Rattle.cell_shares.specs.Shares.{cell_values};
 
 use cell_shares::Cells;

@@ -1,10 +1,10 @@
 //! What a board is made of.
 ghost use Rattle.std.specs.Prelude.{◌≡◌, ◌<◌, IfOk, replicate};
-ghost use Rattle.sender_model.specs.Interleaver.{row_of};
+ghost use Rattle.model_sender.specs.Interleaver.{row_of};
 ghost use Rattle.qpp_table.specs.Qpp.{row_in};
 ghost use Rattle.cell_shares.specs.Shares.{cell_values, name_of};
-ghost use Rattle.receiver_model.specs.HalfIteration.{none_left};
-ghost use Rattle.receiver_model.specs.Windows.{zero_cell};
+ghost use Rattle.model_receiver.specs.HalfIteration.{none_left};
+ghost use Rattle.model_receiver.specs.Windows.{zero_cell};
 ghost use Rattle.serial_decode.specs.Views.{AreStreams};
 ghost use Rattle.window_workers.specs.declared.job.DecodingJob.{DecodingJob};
 ghost use Rattle.window_workers.specs.Commons.{IsProgress};

@@ -1,6 +1,6 @@
 //! The order of a half.
 ghost use Rattle.std.specs.Prelude.{◌≡◌, ℕ};
-ghost use Rattle.sender_model.specs.Interleaver.{row_of};
+ghost use Rattle.model_sender.specs.Interleaver.{row_of};
 ghost use Rattle.qpp_table.specs.Qpp.{row_in};
 ghost use Rattle.window_workers.specs.Orders.{IsOrderIn};
 

@@ -2,7 +2,7 @@
 ghost use Rattle.std.specs.Prelude.{◌≡◌, ◌<◌, ◌≤◌, length};
 ghost use Rattle.cell_shares.specs.Deal.{share_places};
 ghost use Rattle.cell_shares.specs.Shares.{share_values, share_label, share_number, share_order};
-ghost use Rattle.receiver_model.specs.Windows.{window_between, new_cells};
+ghost use Rattle.model_receiver.specs.Windows.{window_between, new_cells};
 ghost use Rattle.serial_decode.specs.Runs.{left_of};
 ghost use Rattle.window_workers.specs.Pieces.{job_of_piece, IsReady, IsDone};
 

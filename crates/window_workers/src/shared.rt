@@ -4,7 +4,7 @@ ghost use Rattle.std.specs.Thread.{IsSync};
 ghost use Rattle.phase_board.specs.ClaimWord.{IsStopped};
 ghost use Rattle.phase_board.specs.Closings.{closed_job};
 ghost use Rattle.phase_board.specs.Seats.{IsIdleOf, idle_view};
-ghost use Rattle.receiver_model.specs.Decoding.{code_result};
+ghost use Rattle.model_receiver.specs.Decoding.{code_result};
 ghost use Rattle.window_workers.specs.Pieces.{job_of_piece};
 
 use crate::gate::Gate;

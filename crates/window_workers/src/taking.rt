@@ -1,6 +1,6 @@
 //! The result of a decoding that has ended.
 ghost use Rattle.std.specs.Prelude.{◌≡◌, ◌*◌, ◌-◌, ℕ};
-ghost use Rattle.receiver_model.specs.Decoding.{code_result};
+ghost use Rattle.model_receiver.specs.Decoding.{code_result};
 ghost use Rattle.window_workers.specs.declared.job.DecodingJob.{DecodingJob};
 ghost use Rattle.window_workers.specs.Commons.{IsEndedAt};
 

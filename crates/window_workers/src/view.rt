@@ -1,6 +1,6 @@
 //! A window as the halves of one order read it.
 ghost use Rattle.std.specs.Prelude.{◌≡◌, ◌%◌, ◌==◌, ◌<◌, if◌then◌else◌, IfOk, map};
-ghost use Rattle.receiver_model.specs.HalfIteration.{order, parity_at, positions, systematic_at};
+ghost use Rattle.model_receiver.specs.HalfIteration.{order, parity_at, positions, systematic_at};
 
 use lte_bits::{NoMemory, Soft};
 use serial_decode::lists::part;

@@ -3,7 +3,7 @@ use Rattle.std.proofs.lemmas.Nat.{shr-shr}
 use Rattle.std.proofs.lemmas.List.{length-set, take_all, take_more_set}
 use Rattle.lte_bits.specs.Bits.{digit, number}
 use Rattle.lte_bits.specs.declared.bit.Bit.{Bit}
-use Rattle.sender_model.proofs.BitNumbers.{number-append}
+use Rattle.model_sender.proofs.BitNumbers.{number-append}
 use Rattle.block_crc.proofs.generator.digits.Goals as goal
 
 -- one more digit is written

@@ -1,9 +1,9 @@
 use Rattle.std.proofs.Common.{◌≡◌, ◌*◌, List, IfOk, IsTrue, ◌↔◌, map, take, subst, ◌∙◌}
 use Rattle.lte_bits.specs.Packing.{packed}
 use Rattle.lte_bits.specs.declared.block.Block.{Block}
-use Rattle.sender_model.specs.CheckBits.{IsMultiple, crc24a}
-use Rattle.sender_model.specs.CodeBlocks.{whole}
-use Rattle.sender_model.specs.Segmentation.{Plan}
+use Rattle.model_sender.specs.CheckBits.{IsMultiple, crc24a}
+use Rattle.model_sender.specs.CodeBlocks.{whole}
+use Rattle.model_sender.specs.Segmentation.{Plan}
 use Rattle.block_receive.proofs.joining.join.Goals as goal
 
 pub returns-clause-payload : goal.returns-clause-payload

@@ -2,18 +2,18 @@ use Rattle.std.proofs.Common.{◌≡◌, ◌≤◌, ◌+◌, ℕ, suc, ◌<◌, 
 use Rattle.std.specs.Prelude.{◌&&◌}
 use Rattle.rate_match.specs.declared.sends.Sending.{Sending}
 use Rattle.rate_match.specs.Sendings.{common}
-use Rattle.receiver_model.specs.SoftCells.{Reception}
-use Rattle.receiver_model.specs.declared.result.CheckKind.TheVariants.{A}
-use Rattle.receiver_model.specs.declared.result.TbOutcome.TheVariants.{Delivered, Failed}
-use Rattle.receiver_model.specs.Decoding.{check_holds}
-use Rattle.receiver_model.specs.TransportBlocks.{Effort, all_passed, delivers, if_passed, iterations_of, payload_of, results_in, whole_of}
+use Rattle.model_receiver.specs.SoftCells.{Reception}
+use Rattle.model_receiver.specs.declared.result.CheckKind.TheVariants.{A}
+use Rattle.model_receiver.specs.declared.result.TbOutcome.TheVariants.{Delivered, Failed}
+use Rattle.model_receiver.specs.Decoding.{check_holds}
+use Rattle.model_receiver.specs.TransportBlocks.{Effort, all_passed, delivers, if_passed, iterations_of, payload_of, results_in, whole_of}
 use Rattle.soft_buffers.specs.Buffers.{Buffers}
 use Rattle.block_receive.specs.Effort.{effort_in}
 use Rattle.block_receive.specs.Receptions.{receptions}
 use Rattle.block_receive.proofs.Taken.{AreTaken, all-at, receptions-long, taken-more}
 use Rattle.block_receive.proofs.TriedResults.{IsTold, IsTransmission, delivers-is, held-none, held-passed, transmission-is}
-use Rattle.sender_model.specs.Segmentation.{Plan}
-use Rattle.receiver_model.specs.declared.result.CodeResult.{CodeResult}
+use Rattle.model_sender.specs.Segmentation.{Plan}
+use Rattle.model_receiver.specs.declared.result.CodeResult.{CodeResult}
 use Rattle.serial_decode.proofs.Stopping.{check-is}
 use Rattle.block_receive.proofs.Outcomes.{none-more, outcome-delivered, outcome-failed}
 use Rattle.block_receive.proofs.receiving.receive.Goals as goal

@@ -1,6 +1,6 @@
 use Rattle.std.proofs.Common.{◌≡◌, take}
 use Rattle.rate_match.specs.Sendings.{common}
-use Rattle.receiver_model.specs.TransportBlocks.{held_after, iterations_of, results_in}
+use Rattle.model_receiver.specs.TransportBlocks.{held_after, iterations_of, results_in}
 use Rattle.soft_buffers.specs.Buffers.{Hold}
 use Rattle.block_receive.specs.Effort.{effort_in}
 use Rattle.block_receive.specs.Receptions.{receptions}

@@ -1,9 +1,9 @@
 use Rattle.std.proofs.Common.{ℕ, Contains, subst, sym, ◌∙◌}
 use Rattle.std.specs.Prelude.{IfSome}
-use Rattle.sender_model.specs.Interleaver.{sizes}
-use Rattle.sender_model.specs.Segmentation.{Plan}
+use Rattle.model_sender.specs.Interleaver.{sizes}
+use Rattle.model_sender.specs.Segmentation.{Plan}
 use Rattle.rate_match.proofs.BlockNumbers.{block-numbers}
-use Rattle.receiver_model.specs.HalfIteration.{shape_of}
+use Rattle.model_receiver.specs.HalfIteration.{shape_of}
 use Rattle.std.proofs.Common.{◌≡◌, ap}
 use Rattle.block_receive.proofs.LawfulShapes.{IsCount, lawful, shape-is}
 use Rattle.block_receive.proofs.shapes.block_shape.Goals as goal

@@ -1,10 +1,10 @@
 use Rattle.std.proofs.Common.{◌≡◌, ℕ, ◌<◌, ℤ, List, sym, ap, ◌∙◌, subst}
 use Rattle.lte_bits.specs.declared.block.SoftStreams.{SoftStreams}
-use Rattle.sender_model.specs.Segmentation.{Plan, size, fill}
+use Rattle.model_sender.specs.Segmentation.{Plan, size, fill}
 use Rattle.segmentation.specs.Plans.{IsPlan}
 use Rattle.rate_match.proofs.BlockNumbers.{block-numbers}
-use Rattle.receiver_model.specs.HalfIteration.{Shape}
-use Rattle.receiver_model.specs.TransportBlocks.{block_shape}
+use Rattle.model_receiver.specs.HalfIteration.{Shape}
+use Rattle.model_receiver.specs.TransportBlocks.{block_shape}
 use Rattle.soft_buffers.specs.Buffers.{cells_of_block, streams_of_cells}
 use Rattle.block_receive.specs.declared.task.Task.{Task}
 use Rattle.block_receive.specs.Effort.{effort_in}

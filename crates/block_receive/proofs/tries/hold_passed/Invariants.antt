@@ -1,5 +1,5 @@
 use Rattle.std.proofs.Common.{◌≡◌, map}
-use Rattle.receiver_model.specs.TransportBlocks.{if_passed}
+use Rattle.model_receiver.specs.TransportBlocks.{if_passed}
 use Rattle.block_receive.proofs.tries.hold_passed.Given as goal
 
 abbrev pub invariant-loop-result : goal.invariant-loop-result

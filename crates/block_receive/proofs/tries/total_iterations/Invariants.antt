@@ -1,5 +1,5 @@
 use Rattle.std.proofs.Common.{◌≡◌, ◌*◌, ◌≤◌, take}
-use Rattle.receiver_model.specs.TransportBlocks.{iterations_of}
+use Rattle.model_receiver.specs.TransportBlocks.{iterations_of}
 use Rattle.block_receive.proofs.tries.total_iterations.Given as goal
 
 abbrev pub invariant-loop-result : goal.invariant-loop-result

@@ -3,11 +3,11 @@ use Rattle.std.specs.List.{range_with_len}
 use Rattle.std.specs.Prelude.{Option, None, unwrap_or}
 use Rattle.std.specs.Vec.Iter.{into_iter_items, into_iter_len}
 use Rattle.lte_bits.proofs.Pushes.{pushed_next}
-use Rattle.sender_model.specs.Segmentation.{Plan}
+use Rattle.model_sender.specs.Segmentation.{Plan}
 use Rattle.segmentation.specs.Plans.{IsPlan}
-use Rattle.receiver_model.specs.declared.result.CodeResult.{CodeResult}
-use Rattle.receiver_model.specs.SoftCells.{Reception}
-use Rattle.receiver_model.specs.TransportBlocks.{Effort, Held, block_result, tried_block}
+use Rattle.model_receiver.specs.declared.result.CodeResult.{CodeResult}
+use Rattle.model_receiver.specs.SoftCells.{Reception}
+use Rattle.model_receiver.specs.TransportBlocks.{Effort, Held, block_result, tried_block}
 use Rattle.soft_buffers.specs.Buffers.{Hold}
 use Rattle.block_receive.specs.Effort.{effort_in}
 use Rattle.block_receive.proofs.TriedBlocks.{drawn, drawn-next}

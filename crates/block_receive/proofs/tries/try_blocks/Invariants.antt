@@ -1,8 +1,8 @@
 use Rattle.std.proofs.Common.{◌≡◌, List, drop, map}
 use Rattle.std.specs.List.{range_with_len}
 use Rattle.std.specs.Vec.Iter.{into_iter_items}
-use Rattle.receiver_model.specs.SoftCells.{Reception}
-use Rattle.receiver_model.specs.TransportBlocks.{tried_block}
+use Rattle.model_receiver.specs.SoftCells.{Reception}
+use Rattle.model_receiver.specs.TransportBlocks.{tried_block}
 use Rattle.soft_buffers.specs.Buffers.{Hold}
 use Rattle.block_receive.specs.Effort.{effort_in}
 use Rattle.block_receive.proofs.tries.try_blocks.Given as goal

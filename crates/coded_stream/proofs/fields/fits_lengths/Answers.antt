@@ -1,6 +1,6 @@
 use Rattle.std.proofs.Common.{◌≡◌, ℕ, IsTrue, sym, subst, arith}
-use Rattle.sender_model.specs.Segmentation.{Plan, plan_of}
-use Rattle.sender_model.specs.CircularBuffer.{FitsIn}
+use Rattle.model_sender.specs.Segmentation.{Plan, plan_of}
+use Rattle.model_sender.specs.CircularBuffer.{FitsIn}
 use Rattle.rate_match.specs.Matching.{limit_of}
 use Rattle.rate_match.specs.Fitting.{FitsAll, fits_all}
 use Rattle.rate_match.proofs.Need.{fits_fewer}

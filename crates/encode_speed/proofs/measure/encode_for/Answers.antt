@@ -1,8 +1,8 @@
 use Rattle.std.proofs.Common.{ℕ, Contains, ap, sym, subst, ◌∙◌}
 use Rattle.lte_bits.specs.declared.block.Block.{Block}
-use Rattle.sender_model.specs.CodedStreams.{streams}
-use Rattle.sender_model.specs.Interleaver.{sizes}
-use Rattle.sender_model.proofs.SizeTable.{size_6144}
+use Rattle.model_sender.specs.CodedStreams.{streams}
+use Rattle.model_sender.specs.Interleaver.{sizes}
+use Rattle.model_sender.proofs.SizeTable.{size_6144}
 use Rattle.encode_speed.proofs.measure.encode_for.Goals as goal
 
 pub encode-requires : goal.encode-requires

@@ -1,10 +1,10 @@
 use Rattle.std.proofs.Common.{◌≡◌, ℕ, ◌≤◌, List, ◌++◌, None, length, flat_map, rules, sym, subst, ap, ◌∙◌}
 use Rattle.std.specs.declared.option.Option.{Option}
-use Rattle.sender_model.specs.CircularBuffer.{FitsIn}
+use Rattle.model_sender.specs.CircularBuffer.{FitsIn}
 use Rattle.rate_match.specs.Matching.{limit_of}
 use Rattle.rate_match.specs.Sendings.{common}
 use Rattle.gomzelat_c.specs.Sendings.{limit_in}
-use Rattle.gomzelat_c.specs.Tests.{Test, first_failed, is_from, receiver_tests, reception_tests, transmission_tests}
+use Rattle.gomzelat_c.specs.Tests.{Test, first_failed, is_from, test_receiver, reception_tests, transmission_tests}
 use Rattle.gomzelat_c.specs.declared.receiver.Receiver.{Receiver}
 use Rattle.gomzelat_c.specs.declared.refusal.Refusal.TheVariants.{BadLength, BadCount}
 use Rattle.gomzelat_c.specs.declared.transmission.Transmission.{Transmission}
@@ -19,16 +19,16 @@ left ts rest = flat_map transmission_tests ts ++ rest
 
 -- where these two hold
 begun : (bytes : ℕ) (ts : List Transmission) (r : Receiver) (values room : ℕ) → 1 ≤ bytes → bytes ≤ 18722 → 1 ≤ length ts → length ts ≤ 8 →
-    first_failed (reception_tests bytes ts r values room) ≡ first_failed (left ts (receiver_tests bytes ts r values room))
+    first_failed (reception_tests bytes ts r values room) ≡ first_failed (left ts (test_receiver bytes ts r values room))
 begun bytes ts r values room some few many most =
-    behind_two (is_from 1 18722 bytes) (is_from 1 8 (length ts)) BadLength BadCount (left ts (receiver_tests bytes ts r values room))
+    behind_two (is_from 1 18722 bytes) (is_from 1 8 (length ts)) BadLength BadCount (left ts (test_receiver bytes ts r values room))
     (is_from_true 1 18722 bytes some few) (is_from_true 1 8 (length ts) many most)
 
 pub returns-in_err-sends-clause-refused : goal.returns-in_err-sends-clause-refused
 returns-in_err-sends-clause-refused c =
     let ts = c.args.transmissions.now in
     let r = c.in_err-sends.field-0.0 in
-    let tests = receiver_tests c.args.bytes ts c.args.receiver.now c.args.values c.args.room in
+    let tests = test_receiver c.args.bytes ts c.args.receiver.now c.args.values c.args.room in
     handed_on c.from_residual-in_err-sends.result r c.from_residual-in_err-sends.ensures.1
     ∙ sym (begun c.args.bytes ts c.args.receiver.now c.args.values c.args.room (search rules) (search rules) (search rules) (search rules)
     ∙ one_failed (flat_map transmission_tests ts) tests r (sym c.in_err-sends.ensures.refused))
@@ -36,11 +36,11 @@ returns-in_err-sends-clause-refused c =
 -- where the transmissions are accepted too, for a plan of so many bytes
 behind_sends : (bytes planned : ℕ) (ts : List Transmission) (r : Receiver) (values room : ℕ) → 1 ≤ bytes → bytes ≤ 18722 → 1 ≤ length ts → length ts ≤ 8 →
     planned ≡ bytes → None ≡ first_failed (flat_map transmission_tests ts) →
-    first_failed (receiver_tests planned ts r values room) ≡ first_failed (reception_tests bytes ts r values room)
+    first_failed (test_receiver planned ts r values room) ≡ first_failed (reception_tests bytes ts r values room)
 behind_sends bytes planned ts r values room some few many most same none =
-    ap (λ (n : ℕ). first_failed (receiver_tests n ts r values room)) same
+    ap (λ (n : ℕ). first_failed (test_receiver n ts r values room)) same
     ∙ sym (begun bytes ts r values room some few many most
-    ∙ none_failed (flat_map transmission_tests ts) (receiver_tests bytes ts r values room) (sym none))
+    ∙ none_failed (flat_map transmission_tests ts) (test_receiver bytes ts r values room) (sym none))
 
 pub returns-in_err-effort-clause-refused : goal.returns-in_err-effort-clause-refused
 returns-in_err-effort-clause-refused c =

@@ -1,8 +1,8 @@
 use Rattle.std.proofs.Common.{◌≡◌, length, map, sym, subst, ap, ◌∙◌, arith}
 use Rattle.lte_bits.specs.Softs.{clamped}
-use Rattle.sender_model.specs.Segmentation.{Plan}
-use Rattle.receiver_model.specs.TransportBlocks.{outcome}
-use Rattle.receiver_model.specs.declared.result.TbOutcome.{TbOutcome}
+use Rattle.model_sender.specs.Segmentation.{Plan}
+use Rattle.model_receiver.specs.TransportBlocks.{outcome}
+use Rattle.model_receiver.specs.declared.result.TbOutcome.{TbOutcome}
 use Rattle.block_receive.specs.Effort.{effort_of}
 use Rattle.block_receive.specs.Receptions.{receptions}
 use Rattle.gomzelat_c.specs.Receiving.{HasRoom}

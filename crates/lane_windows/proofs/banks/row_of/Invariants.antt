@@ -1,5 +1,5 @@
 use Rattle.std.proofs.Common.{◌≡◌, ℕ, ◌+◌, ◌*◌, ◌<◌, length}
-use Rattle.receiver_model.specs.Windows.{cell_at}
+use Rattle.model_receiver.specs.Windows.{cell_at}
 use Rattle.lane_windows.proofs.banks.row_of.Given as goal
 
 abbrev pub invariant-loop-b : goal.invariant-loop-b

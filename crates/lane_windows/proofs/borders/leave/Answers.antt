@@ -1,6 +1,6 @@
 use Rattle.std.proofs.Common.{ℕ, length, arith}
 use Rattle.std.proofs.lemmas.List.FromFn.{fill_by_all}
-use Rattle.receiver_model.specs.HalfIteration.{none_left}
+use Rattle.model_receiver.specs.HalfIteration.{none_left}
 use Rattle.lock_step.specs.Lanes.{border_at}
 use Rattle.lane_windows.proofs.borders.leave.Goals as goal
 

@@ -1,5 +1,5 @@
 use Rattle.std.proofs.Common.{◌≡◌, ℕ, ◌<◌}
-use Rattle.receiver_model.specs.HalfIteration.{left_by}
+use Rattle.model_receiver.specs.HalfIteration.{left_by}
 use Rattle.lock_step.specs.Lanes.{border_at}
 use Rattle.lane_windows.proofs.borders.leave.Given as goal
 

@@ -1,6 +1,6 @@
 use Rattle.std.proofs.Common.{◌≡◌, ℕ, ◌+◌, ◌<◌, [], length}
 use Rattle.std.specs.Prelude.{◌==◌, if◌then◌else◌}
-use Rattle.receiver_model.specs.HalfIteration.{left_by, start_border}
+use Rattle.model_receiver.specs.HalfIteration.{left_by, start_border}
 use Rattle.serial_decode.specs.Runs.{start_of}
 use Rattle.lock_step.specs.Lanes.{border_at}
 use Rattle.lane_windows.proofs.borders.take_left.Given as goal

@@ -1,6 +1,6 @@
 use Rattle.std.proofs.Common.{◌≡◌, ℕ, ℤ, ◌*◌, ◌/◌, ◌<◌, ◌≤◌, List, length, take, sym, ap, ◌∙◌, subst, arith}
 use Rattle.std.proofs.lemmas.List.{length-take-le}
-use Rattle.receiver_model.specs.Windows.{new_cells, forward_left, backward_left}
+use Rattle.model_receiver.specs.Windows.{new_cells, forward_left, backward_left}
 use Rattle.cell_shares.specs.Orders.{place_in, IsOrderOf}
 use Rattle.serial_decode.proofs.Parts.{written}
 use Rattle.lock_step.specs.Lanes.{column, AreWithin}

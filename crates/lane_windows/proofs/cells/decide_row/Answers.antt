@@ -2,7 +2,7 @@ use Rattle.std.proofs.Common.{◌≡◌, ℕ, ◌+◌, ◌*◌, ◌%◌, ◌<◌
 use Rattle.std.proofs.lemmas.Bool.{cases_eq}
 use Rattle.std.proofs.lemmas.Nat.{mod-mul-add, same_from_place}
 use Rattle.lte_bits.specs.declared.bit.Bit.TheVariants.{Zero}
-use Rattle.receiver_model.specs.Borders.{at}
+use Rattle.model_receiver.specs.Borders.{at}
 use Rattle.lane_windows.specs.Banks.{bit_at_place}
 use Rattle.lane_windows.proofs.BankCells.{fits-twice, place-inside}
 use Rattle.lane_windows.proofs.cells.decide_row.Goals as goal

@@ -1,6 +1,6 @@
 use Rattle.std.proofs.Common.{◌≡◌, ◌≢◌, ℕ, ◌+◌, ◌*◌, ◌%◌, ◌<◌, get_or}
 use Rattle.lte_bits.specs.declared.bit.Bit.TheVariants.{Zero}
-use Rattle.receiver_model.specs.Borders.{at}
+use Rattle.model_receiver.specs.Borders.{at}
 use Rattle.lane_windows.specs.Banks.{bit_at_place}
 use Rattle.lane_windows.proofs.cells.decide_row.Given as goal
 

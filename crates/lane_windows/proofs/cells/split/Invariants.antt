@@ -1,7 +1,7 @@
 use Rattle.std.proofs.Common.{◌≡◌, ℕ, ◌<◌, pos, int_lt, length}
 use Rattle.lte_bits.specs.Softs.{IsWithin}
-use Rattle.receiver_model.specs.Borders.{at}
-use Rattle.receiver_model.specs.Windows.{cell_at}
+use Rattle.model_receiver.specs.Borders.{at}
+use Rattle.model_receiver.specs.Windows.{cell_at}
 use Rattle.lane_windows.proofs.cells.split.Given as goal
 
 abbrev pub invariant-loop-b : goal.invariant-loop-b

@@ -1,5 +1,5 @@
 use Rattle.std.proofs.Common.{◌≡◌, ℕ, ◌<◌, length, slice_index_or}
-use Rattle.receiver_model.specs.Borders.{at}
+use Rattle.model_receiver.specs.Borders.{at}
 use Rattle.lane_windows.proofs.crossings.bring_row.Given as goal
 
 abbrev pub invariant-loop-t : goal.invariant-loop-t

@@ -2,7 +2,7 @@ use Rattle.std.proofs.Common.{◌≡◌, ℕ, ◌<◌, ℤ, pos, List, length, g
 use Rattle.std.proofs.lemmas.Bool.{cases_eq}
 use Rattle.std.proofs.lemmas.List.{length-set}
 use Rattle.lte_bits.specs.Softs.{IsWithin}
-use Rattle.receiver_model.specs.Borders.{at}
+use Rattle.model_receiver.specs.Borders.{at}
 use Rattle.lane_windows.proofs.Columns.{within-set_at}
 use Rattle.lane_windows.proofs.crossings.put_row_back.Goals as goal
 

@@ -1,6 +1,6 @@
 use Rattle.std.proofs.Common.{◌≡◌, ℕ, ◌<◌, ◌+◌, ◌==◌, cond, length, sym, ap, ◌∙◌, subst}
-use Rattle.receiver_model.specs.Borders.{Border}
-use Rattle.receiver_model.specs.HalfIteration.{left_by, tail_border}
+use Rattle.model_receiver.specs.Borders.{Border}
+use Rattle.model_receiver.specs.HalfIteration.{left_by, tail_border}
 use Rattle.lock_step.specs.Lanes.{border_at}
 use Rattle.lane_windows.specs.Halves.{HaveRunHalf}
 use Rattle.lane_windows.proofs.LaneHalves.{cells-after, left-after}

@@ -1,5 +1,5 @@
 use Rattle.std.proofs.Common.{ℕ, ◌*◌, length, arith}
-use Rattle.receiver_model.specs.Borders.{at}
+use Rattle.model_receiver.specs.Borders.{at}
 use Rattle.lane_windows.proofs.Columns.{column-is}
 use Rattle.lane_windows.proofs.rows.lay_out.Goals as goal
 

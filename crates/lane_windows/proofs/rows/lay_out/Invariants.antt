@@ -1,6 +1,6 @@
 use Rattle.std.proofs.Common.{◌≡◌, ℕ, ◌+◌, ◌*◌, ◌<◌}
 use Rattle.lte_bits.specs.Softs.{IsWithin}
-use Rattle.receiver_model.specs.Borders.{at}
+use Rattle.model_receiver.specs.Borders.{at}
 use Rattle.lane_windows.specs.Banks.{number_in}
 use Rattle.lane_windows.proofs.rows.lay_out.Given as goal
 

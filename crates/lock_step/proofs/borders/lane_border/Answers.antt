@@ -1,5 +1,5 @@
 use Rattle.std.proofs.Common.{ap, sym, ◌∙◌, subst, List, ℤ}
-use Rattle.receiver_model.specs.Borders.{IsBorder}
+use Rattle.model_receiver.specs.Borders.{IsBorder}
 use Rattle.lock_step.specs.Lanes.{column}
 use Rattle.window_decode.proofs.LaneNumbers.{passed}
 use Rattle.window_decode.proofs.LaneKernel.{passed-border}

@@ -1,5 +1,5 @@
 use Rattle.std.proofs.Common.{◌≡◌, ℕ, ◌<◌, length}
-use Rattle.receiver_model.specs.Borders.{IsBorder, at}
+use Rattle.model_receiver.specs.Borders.{IsBorder, at}
 use Rattle.lock_step.specs.Lanes.{border_at}
 use Rattle.lock_step.proofs.borders.put_numbers.Given as goal
 

@@ -1,6 +1,6 @@
 use Rattle.std.proofs.Common.{List, ℤ, ap, sym, ◌∙◌, subst, arith, rules}
-use Rattle.receiver_model.specs.Borders.{at}
-use Rattle.receiver_model.specs.Windows.{scaled}
+use Rattle.model_receiver.specs.Borders.{at}
+use Rattle.model_receiver.specs.Windows.{scaled}
 use Rattle.lock_step.specs.Vectors.{IsVector, better_by}
 use Rattle.lock_step.proofs.Vectors.{small-vector, AreLanes, same-lanes, sum-lanes, lanes_stored, any_passed, sum-fits, vector-still, vector_passed}
 use Rattle.lock_step.proofs.joined.join.Goals as goal

@@ -1,5 +1,5 @@
 use Rattle.std.proofs.Common.{◌∙◌, arith, rules}
-use Rattle.receiver_model.specs.Borders.{at}
+use Rattle.model_receiver.specs.Borders.{at}
 use Rattle.lock_step.proofs.Vectors.{small-vector, AreLanes, same-lanes, sum-lanes, larger-lanes, lanes_passed, any_passed, sum-fits, more-lanes}
 use Rattle.lock_step.proofs.StateRows.{s0, s1, s2, s3, s4, s5, s6, s7, row-vector}
 use Rattle.lock_step.proofs.Joins.{pair, one-lane}

@@ -1,5 +1,5 @@
 use Rattle.std.proofs.Common.{ap, sym, ◌∙◌, arith, rules, subst, List, ℤ}
-use Rattle.receiver_model.specs.Borders.{at}
+use Rattle.model_receiver.specs.Borders.{at}
 use Rattle.lock_step.specs.Vectors.{IsVector}
 use Rattle.lock_step.proofs.Vectors.{vector-still, vector_passed}
 use Rattle.lock_step.proofs.lanes.greater.Goals as goal

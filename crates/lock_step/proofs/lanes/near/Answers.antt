@@ -1,7 +1,7 @@
 use Rattle.lte_bits.specs.Softs.{clamped}
 use Rattle.lock_step.proofs.Vectors.{map-lane, map-vector}
 use Rattle.lock_step.proofs.Quarters.{near_stored, near-within}
-use Rattle.receiver_model.specs.Borders.{at}
+use Rattle.model_receiver.specs.Borders.{at}
 use Rattle.lock_step.proofs.lanes.near.Goals as goal
 
 pub returns-clause-vector : goal.returns-clause-vector

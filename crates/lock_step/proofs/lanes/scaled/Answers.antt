@@ -1,6 +1,6 @@
 use Rattle.std.proofs.Common.{ap, ◌∙◌, arith, rules}
 use Rattle.lte_bits.specs.Softs.{clamped}
-use Rattle.receiver_model.specs.Borders.{at}
+use Rattle.model_receiver.specs.Borders.{at}
 use Rattle.lock_step.proofs.Vectors.{vector-still, vector_passed}
 use Rattle.lock_step.proofs.Quarters.{three_quarters, three_quarters-near}
 use Rattle.lock_step.proofs.lanes.scaled.Goals as goal

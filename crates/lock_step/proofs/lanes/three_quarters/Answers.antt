@@ -1,6 +1,6 @@
 use Rattle.std.proofs.Common.{rules}
 use Rattle.std.proofs.lemmas.Simd.{Each2-splat, Each1-all}
-use Rattle.receiver_model.specs.Borders.{at}
+use Rattle.model_receiver.specs.Borders.{at}
 use Rattle.lock_step.proofs.Vectors.{map-lane, map-vector}
 use Rattle.lock_step.proofs.Quarters.{three_quarters, thrice-fits, quarters_stored, quarters-within}
 use Rattle.lock_step.proofs.lanes.three_quarters.Goals as goal

@@ -1,5 +1,5 @@
 use Rattle.std.proofs.Common.{List, length, ℤ, sym, ap, ◌∙◌, subst, rules}
-use Rattle.receiver_model.specs.Windows.{new_cells}
+use Rattle.model_receiver.specs.Windows.{new_cells}
 use Rattle.window_decode.specs.Metrics.{IsForwardRow, IsBackwardRow}
 use Rattle.window_decode.proofs.WindowSteps.{forward-relative}
 use Rattle.window_decode.proofs.WindowSweep.{forward_row-border, backward_row-border}

@@ -1,7 +1,7 @@
 use Rattle.std.proofs.Common.{◌≡◌, ℤ, List, pos, ◌+ℤ◌, sym, ap, subst, arith, rules}
 use Rattle.std.specs.Prelude.{int_lt}
 use Rattle.std.proofs.lemmas.Int.{ints}
-use Rattle.receiver_model.specs.Borders.{at}
+use Rattle.model_receiver.specs.Borders.{at}
 use Rattle.lock_step.specs.Vectors.{AreRelative, better_by}
 use Rattle.lock_step.proofs.Vectors.{sum-small}
 use Rattle.lock_step.proofs.Cells.{same_cell}

@@ -1,8 +1,8 @@
 use Rattle.std.proofs.Common.{◌≡◌, ℕ, suc, ◌<◌, ◌+◌, ◌-◌, List, length, ℤ, ◌+ℤ◌, refl, sym, ap, ◌∙◌, subst, arith, rules}
 use Rattle.std.proofs.lemmas.List.{length-set, length-map}
-use Rattle.receiver_model.specs.Borders.{at}
-use Rattle.receiver_model.specs.Paths.{Window}
-use Rattle.receiver_model.specs.Windows.{new_cell}
+use Rattle.model_receiver.specs.Borders.{at}
+use Rattle.model_receiver.specs.Paths.{Window}
+use Rattle.model_receiver.specs.Windows.{new_cell}
 use Rattle.window_decode.specs.Recursions.{cell_through}
 use Rattle.window_decode.proofs.WindowSteps.{cell-best, backward_first, backward-row, backward-relative}
 use Rattle.window_decode.proofs.WindowSweep.{backward_at}

@@ -1,6 +1,6 @@
 use Rattle.std.proofs.Common.{◌≡◌, ℕ, ◌+◌, ◌-◌, ◌<◌, ◌≤◌, length}
-use Rattle.receiver_model.specs.Borders.{Border}
-use Rattle.receiver_model.specs.Windows.{new_cell}
+use Rattle.model_receiver.specs.Borders.{Border}
+use Rattle.model_receiver.specs.Windows.{new_cell}
 use Rattle.window_decode.specs.Metrics.{IsBackwardRow}
 use Rattle.lock_step.specs.Lanes.{row_at, column, lane_window}
 use Rattle.lock_step.specs.Vectors.{AreMetrics, lane_gain, AreForwardRows, cell_of}

@@ -1,6 +1,6 @@
 use Rattle.std.proofs.Common.{◌<◌, List, [], length, ℤ, ◌+ℤ◌, refl, sym, ap, ◌∙◌, subst, arith, rules}
 use Rattle.std.proofs.lemmas.List.{get_or-set_same, length-set}
-use Rattle.receiver_model.specs.Borders.{at, number_for, relative}
+use Rattle.model_receiver.specs.Borders.{at, number_for, relative}
 use Rattle.window_decode.specs.Recursions.{step_gain, forward}
 use Rattle.window_decode.specs.Metrics.{IsForwardRow}
 use Rattle.window_decode.proofs.WindowSteps.{forward_first, forward-row, forward-relative}

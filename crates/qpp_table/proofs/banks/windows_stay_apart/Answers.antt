@@ -1,4 +1,4 @@
-use Rattle.sender_model.specs.InterleaverLaws.{row-window, bank-window, bank_below, window_place_below}
+use Rattle.model_sender.specs.InterleaverLaws.{row-window, bank-window, bank_below, window_place_below}
 use Rattle.qpp_table.proofs.banks.windows_stay_apart.Goals as goal
 
 pub returns-clause-one_row : goal.returns-clause-one_row

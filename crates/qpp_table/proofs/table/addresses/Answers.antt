@@ -1,5 +1,5 @@
 use Rattle.std.proofs.Common.{arith}
-use Rattle.sender_model.proofs.RowLaws.{range-of_size}
+use Rattle.model_sender.proofs.RowLaws.{range-of_size}
 use Rattle.qpp_table.proofs.SizesByRange.{from_40, from_232, from_424, from_720, from_1184, from_1952, from_3392, from_4928}
 use Rattle.qpp_table.proofs.table.addresses.Goals as goal
 

@@ -1,9 +1,9 @@
 use Rattle.std.proofs.Common.{◌≡◌, ℕ, ◌==◌, find, List, Option, Some, Contains, subst, refl, sym, ap, ◌∙◌}
-use Rattle.sender_model.specs.Interleaver.{pi, sizes, row_of, place}
-use Rattle.sender_model.specs.Rows.{IsRow}
-use Rattle.sender_model.specs.declared.rows.Row.{Row}
-use Rattle.sender_model.specs.declared.rows.TheConstants.{ROWS}
-use Rattle.sender_model.proofs.RowLaws.{size-of_find, row-of_find, no_size-of_find, row_found, row-of_size}
+use Rattle.model_sender.specs.Interleaver.{pi, sizes, row_of, place}
+use Rattle.model_sender.specs.Rows.{IsRow}
+use Rattle.model_sender.specs.declared.rows.Row.{Row}
+use Rattle.model_sender.specs.declared.rows.TheConstants.{ROWS}
+use Rattle.model_sender.proofs.RowLaws.{size-of_find, row-of_find, no_size-of_find, row_found, row-of_size}
 use Rattle.qpp_table.specs.Qpp.{row_in}
 use Rattle.qpp_table.proofs.table.qpp.Goals as goal
 

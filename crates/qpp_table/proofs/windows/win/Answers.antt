@@ -2,7 +2,7 @@ use Rattle.std.proofs.Common.{◌≡◌, ℕ, ◌*◌, ◌≤◌, ◌<◌, ◌+�
 use Rattle.std.proofs.lemmas.Bool.{cases_lt}
 use Rattle.std.proofs.lemmas.Nat.Gcd.{dvd_of_mod-eq-zero, mod-eq-zero_of_dvd}
 use Prim.Native.Nat.{◌∣◌}
-use Rattle.sender_model.proofs.RowLaws.{range-of_size}
+use Rattle.model_sender.proofs.RowLaws.{range-of_size}
 use Rattle.qpp_table.proofs.windows.win.Goals as goal
 use Rattle.qpp_table.proofs.windows.win.Goals.{then-k-count-eq0+then-count-k, else-k-count-eq0, else-k-count-eq0-via-then-k-count-eq0+else-count-k, else-k-count-eq0-via-else-k-count-eq0}
 

@@ -1,4 +1,4 @@
-use Rattle.sender_model.proofs.PaddedStreams.{column-below}
+use Rattle.model_sender.proofs.PaddedStreams.{column-below}
 use Rattle.rate_match.proofs.cursor.column.Goals as goal
 
 pub returns-clause-small : goal.returns-clause-small

@@ -1,6 +1,6 @@
 use Rattle.std.proofs.Common.{◌≡◌, ℕ, IsTrue, sym, subst, arith}
-use Rattle.sender_model.specs.Segmentation.{plan_of}
-use Rattle.sender_model.specs.CircularBuffer.{Fits}
+use Rattle.model_sender.specs.Segmentation.{plan_of}
+use Rattle.model_sender.specs.CircularBuffer.{Fits}
 use Rattle.rate_match.specs.Fitting.{FitsAll, fits_all}
 use Rattle.rate_match.proofs.Need.{fits_fewer}
 use Rattle.rate_match.proofs.FitTest.{fits_all-true, true-fits_all, same_test}

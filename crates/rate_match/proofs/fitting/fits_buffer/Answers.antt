@@ -1,5 +1,5 @@
 use Rattle.std.proofs.Common.{ap, subst, arith}
-use Rattle.sender_model.specs.Segmentation.{Plan}
+use Rattle.model_sender.specs.Segmentation.{Plan}
 use Rattle.segmentation.specs.Plans.{IsPlan}
 use Rattle.segmentation.proofs.OfPlans.{sound-plan}
 use Rattle.rate_match.proofs.SizeSteps.{size-step}

@@ -1,6 +1,6 @@
 use Rattle.std.proofs.Common.{◌≡◌, ◌*◌, ◌/◌, ◌≤◌, ap, ◌∙◌, arith}
-use Rattle.sender_model.specs.Segmentation.{Plan, size}
-use Rattle.sender_model.specs.CircularBuffer.{rows_of}
+use Rattle.model_sender.specs.Segmentation.{Plan, size}
+use Rattle.model_sender.specs.CircularBuffer.{rows_of}
 use Rattle.rate_match.proofs.BlockNumbers.{block-numbers, limit-kept}
 use Rattle.rate_match.proofs.numbers.buffer_len.Goals as goal
 

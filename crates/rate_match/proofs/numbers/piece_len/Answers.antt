@@ -1,8 +1,8 @@
 use Rattle.std.proofs.Common.{◌≡◌, ℕ, ◌<◌, ap, subst, arith}
 use Rattle.std.specs.List.{range_with_len, sum_by}
-use Rattle.sender_model.specs.CircularBuffer.{Match, piece_length}
-use Rattle.sender_model.specs.Segmentation.{Plan}
-use Rattle.sender_model.proofs.Pieces.{pieces-sum}
+use Rattle.model_sender.specs.CircularBuffer.{Match, piece_length}
+use Rattle.model_sender.specs.Segmentation.{Plan}
+use Rattle.model_sender.proofs.Pieces.{pieces-sum}
 use Rattle.segmentation.specs.Plans.{IsPlan}
 use Rattle.rate_match.specs.Matching.{IsMatch}
 use Rattle.rate_match.proofs.BlockNumbers.{block-numbers}

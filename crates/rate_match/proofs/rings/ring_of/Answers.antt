@@ -1,7 +1,7 @@
 use Rattle.std.proofs.Common.{ℕ, ◌*◌, ◌≤◌, ap, arith}
-use Rattle.sender_model.specs.Segmentation.{Plan, size}
-use Rattle.sender_model.specs.CircularBuffer.{rows_of, buffer_size}
-use Rattle.sender_model.proofs.SelectionLaws.{rows-bounds}
+use Rattle.model_sender.specs.Segmentation.{Plan, size}
+use Rattle.model_sender.specs.CircularBuffer.{rows_of, buffer_size}
+use Rattle.model_sender.proofs.SelectionLaws.{rows-bounds}
 use Rattle.rate_match.proofs.BlockNumbers.{block-numbers}
 use Rattle.rate_match.proofs.rings.ring_of.Goals as goal
 

@@ -3,11 +3,11 @@ use Rattle.std.proofs.Common.{◌≡◌, ℕ, ◌+◌, ◌-◌, ◌*◌, ◌≤�
 use Rattle.lte_bits.specs.declared.bit.Bit.{Bit}
 use Rattle.lte_bits.specs.declared.bit.Bit.TheVariants.{Zero}
 use Rattle.lte_bits.specs.declared.block.Streams.{Streams}
-use Rattle.sender_model.specs.Interleaver.{sizes}
-use Rattle.sender_model.specs.Segmentation.{Plan, size, fill}
-use Rattle.sender_model.specs.CircularBuffer.{rows_of, buffer_size, start, w}
-use Rattle.sender_model.specs.Selection.{bit_of_cell, bits_from, holds_bit, repeated, sent}
-use Rattle.sender_model.proofs.SelectionLaws.{rows-bounds, fitting_bit}
+use Rattle.model_sender.specs.Interleaver.{sizes}
+use Rattle.model_sender.specs.Segmentation.{Plan, size, fill}
+use Rattle.model_sender.specs.CircularBuffer.{rows_of, buffer_size, start, w}
+use Rattle.model_sender.specs.Selection.{bit_of_cell, bits_from, holds_bit, repeated, sent}
+use Rattle.model_sender.proofs.SelectionLaws.{rows-bounds, fitting_bit}
 use Rattle.rate_match.proofs.Lengths.{sent-long}
 use Rattle.rate_match.proofs.Parts.{behind_written, longer-kept, rest-long}
 use Rattle.rate_match.proofs.BlockNumbers.{block-numbers}

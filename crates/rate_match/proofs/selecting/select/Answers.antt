@@ -1,7 +1,7 @@
 use Rattle.std.proofs.Common.{List, ◌++◌, length, ap, ◌∙◌}
 use Rattle.lte_bits.specs.declared.bit.Bit.{Bit}
-use Rattle.sender_model.specs.Segmentation.{Plan}
-use Rattle.sender_model.specs.Selection.{sent}
+use Rattle.model_sender.specs.Segmentation.{Plan}
+use Rattle.model_sender.specs.Selection.{sent}
 use Rattle.rate_match.proofs.Lengths.{sent-long}
 use Rattle.rate_match.proofs.selecting.select.Goals as goal
 

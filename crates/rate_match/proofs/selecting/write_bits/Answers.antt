@@ -4,8 +4,8 @@ use Rattle.std.proofs.lemmas.List.{length-map, length-take-le, take_all, take_mo
 use Rattle.std.proofs.lemmas.List.FromFn.{length-map-range_with_len}
 use Rattle.lte_bits.specs.declared.bit.Bit.{Bit}
 use Rattle.lte_bits.specs.declared.block.Streams.{Streams}
-use Rattle.sender_model.specs.CircularBuffer.{cell_at, w}
-use Rattle.sender_model.specs.Selection.{bit_of_cell, bits_from, holds_bit, repeated}
+use Rattle.model_sender.specs.CircularBuffer.{cell_at, w}
+use Rattle.model_sender.specs.Selection.{bit_of_cell, bits_from, holds_bit, repeated}
 use Rattle.rate_match.specs.Cursor.{IsRun, cursor_at}
 use Rattle.rate_match.specs.declared.cursor.Cursor.{Cursor}
 use Rattle.rate_match.proofs.Lengths.{repeated-long}

@@ -1,6 +1,6 @@
 use Rattle.std.proofs.Common.{◌-◌, ◌≤◌, [], length, take}
-use Rattle.sender_model.specs.CircularBuffer.{w}
-use Rattle.sender_model.specs.Selection.{bit_of_cell, holds_bit}
+use Rattle.model_sender.specs.CircularBuffer.{w}
+use Rattle.model_sender.specs.Selection.{bit_of_cell, holds_bit}
 use Rattle.rate_match.proofs.Selected.{IsWalking}
 use Rattle.rate_match.proofs.selecting.write_bits.Given as goal
 

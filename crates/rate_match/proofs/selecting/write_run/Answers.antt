@@ -3,9 +3,9 @@ use Rattle.std.proofs.lemmas.List.FromFn.{fill_by_all}
 use Rattle.lte_bits.specs.declared.bit.Bit.{Bit}
 use Rattle.lte_bits.specs.declared.bit.Bit.TheVariants.{Zero}
 use Rattle.lte_bits.specs.declared.block.Streams.{Streams}
-use Rattle.sender_model.specs.declared.spot.Spot.{Spot}
-use Rattle.sender_model.specs.CircularBuffer.{cell_at, w}
-use Rattle.sender_model.specs.Selection.{bit_of_cell}
+use Rattle.model_sender.specs.declared.spot.Spot.{Spot}
+use Rattle.model_sender.specs.CircularBuffer.{cell_at, w}
+use Rattle.model_sender.specs.Selection.{bit_of_cell}
 use Rattle.rate_match.proofs.selecting.write_run.Goals as goal
 
 -- the bit at a place of the buffer

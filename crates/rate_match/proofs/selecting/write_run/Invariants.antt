@@ -1,7 +1,7 @@
 use Rattle.std.proofs.Common.{◌≡◌, ℕ, ◌+◌, ◌<◌, get_or}
 use Rattle.lte_bits.specs.declared.bit.Bit.TheVariants.{Zero}
-use Rattle.sender_model.specs.CircularBuffer.{w}
-use Rattle.sender_model.specs.Selection.{bit_of_cell}
+use Rattle.model_sender.specs.CircularBuffer.{w}
+use Rattle.model_sender.specs.Selection.{bit_of_cell}
 use Rattle.rate_match.proofs.selecting.write_run.Given as goal
 
 abbrev pub invariant-loop-i : goal.invariant-loop-i

@@ -4,8 +4,8 @@ use Rattle.std.proofs.lemmas.List.{length-drop}
 use Rattle.lte_bits.specs.declared.bit.Bit.{Bit}
 use Rattle.lte_bits.specs.declared.block.Block.{Block}
 use Rattle.lte_bits.proofs.Pushes.{pushed_next}
-use Rattle.sender_model.specs.Segmentation.{Plan}
-use Rattle.sender_model.specs.CodeBlocks.{before, block, blocks, share, sequence}
+use Rattle.model_sender.specs.Segmentation.{Plan}
+use Rattle.model_sender.specs.CodeBlocks.{before, block, blocks, share, sequence}
 use Rattle.segmentation.specs.Plans.{IsPlan}
 use Rattle.segmentation.specs.Shape.{AreBlocksOf}
 use Rattle.segmentation.proofs.BlockSizes.{fillers-few, block-size, before-within}

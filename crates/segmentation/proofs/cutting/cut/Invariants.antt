@@ -1,6 +1,6 @@
 use Rattle.std.proofs.Common.{◌≡◌, map, drop}
 use Rattle.std.specs.List.{range_with_len}
-use Rattle.sender_model.specs.CodeBlocks.{before, block, sequence}
+use Rattle.model_sender.specs.CodeBlocks.{before, block, sequence}
 use Rattle.segmentation.proofs.cutting.cut.Given as goal
 
 abbrev pub invariant-loop-r : goal.invariant-loop-r

@@ -1,5 +1,5 @@
 use Rattle.std.proofs.Common.{ap, ◌∙◌, arith}
-use Rattle.sender_model.specs.Segmentation.{Plan, check_length}
+use Rattle.model_sender.specs.Segmentation.{Plan, check_length}
 use Rattle.segmentation.proofs.BlockSizes.{block-size}
 use Rattle.segmentation.proofs.cutting.share.Goals as goal
 

@@ -1,7 +1,7 @@
 use Rattle.std.proofs.Common.{◌*◌, ◌≡◌, length, sym, ap, ◌∙◌, subst, List, arith}
 use Rattle.std.proofs.lemmas.List.{length-take-le}
 use Rattle.lte_bits.specs.declared.bit.Bit.{Bit}
-use Rattle.sender_model.specs.Segmentation.{Plan}
+use Rattle.model_sender.specs.Segmentation.{Plan}
 use Rattle.segmentation.specs.Plans.{IsPlan}
 use Rattle.segmentation.proofs.WholeBits.{length-whole}
 use Rattle.segmentation.proofs.joining.uncut.Goals as goal

@@ -1,6 +1,6 @@
 use Rattle.std.proofs.Common.{length, ap, ◌∙◌, subst, arith}
 use Rattle.lte_bits.specs.declared.block.Block.{Block}
-use Rattle.sender_model.specs.Segmentation.{Plan, check_length}
+use Rattle.model_sender.specs.Segmentation.{Plan, check_length}
 use Rattle.segmentation.specs.Plans.{IsPlan}
 use Rattle.segmentation.proofs.WholeBits.{shape-at, fillers-fit}
 use Rattle.segmentation.proofs.joining.whole.Goals as goal

@@ -1,5 +1,5 @@
 use Rattle.std.proofs.Common.{◌≡◌, take}
-use Rattle.sender_model.specs.CodeBlocks.{whole}
+use Rattle.model_sender.specs.CodeBlocks.{whole}
 use Rattle.segmentation.proofs.joining.whole.Given as goal
 
 abbrev pub invariant-loop-block : goal.invariant-loop-block

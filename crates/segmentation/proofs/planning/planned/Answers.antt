@@ -1,6 +1,6 @@
 use Rattle.std.proofs.Common.{◌≡◌, ◌≤◌, ℕ, ◌+◌, ◌*◌, sym, ap, ◌∙◌, arith}
-use Rattle.sender_model.specs.Segmentation.{count_of, check_length, larger_size, smaller_size, plan_of}
-use Rattle.sender_model.proofs.PlanLaws.{plan-bytes, plan-sound}
+use Rattle.model_sender.specs.Segmentation.{count_of, check_length, larger_size, smaller_size, plan_of}
+use Rattle.model_sender.proofs.PlanLaws.{plan-bytes, plan-sound}
 use Rattle.segmentation.proofs.Computed.{AreThePlan, are_the_plan, count_at, plan-small, count-is, carried-is, larger-is, smaller-is, smaller_count-is}
 use Rattle.segmentation.proofs.OfPlans.{same_plan}
 use Rattle.segmentation.proofs.planning.planned.Goals as goal

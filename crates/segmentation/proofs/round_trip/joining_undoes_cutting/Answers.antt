@@ -3,8 +3,8 @@ use Rattle.std.proofs.Math.Seq.{take-append_seam}
 use Rattle.lte_bits.specs.Packing.{packed, unpacked}
 use Rattle.lte_bits.specs.declared.bit.Bit.{Bit}
 use Rattle.lte_bits.proofs.Unpacking.{length-unpacked}
-use Rattle.sender_model.specs.CheckBits.{IsMultiple, crc, crc24a}
-use Rattle.sender_model.proofs.CheckBitLaws.{crc24a-monic, crc-is}
+use Rattle.model_sender.specs.CheckBits.{IsMultiple, crc, crc24a}
+use Rattle.model_sender.proofs.CheckBitLaws.{crc24a-monic, crc-is}
 use Rattle.segmentation.proofs.CarriedWhole.{whole-blocks}
 use Rattle.segmentation.proofs.PackedAgain.{packed-unpacked}
 use Rattle.segmentation.proofs.round_trip.joining_undoes_cutting.Goals as goal

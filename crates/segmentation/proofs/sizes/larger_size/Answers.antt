@@ -1,6 +1,6 @@
 use Rattle.std.proofs.Common.{ℕ, List, nat_le, find, ap, ◌∙◌, sym, ◌≡◌, Option}
 use Rattle.std.specs.Int.{div_ceil}
-use Rattle.sender_model.specs.Interleaver.{sizes}
+use Rattle.model_sender.specs.Interleaver.{sizes}
 use Rattle.segmentation.proofs.Walk.{larger-found, larger-some, is_some}
 use Rattle.segmentation.proofs.sizes.larger_size.Goals as goal
 

@@ -1,9 +1,9 @@
 use Rattle.std.proofs.Common.{◌≡◌, ◌==◌, ℕ, List, [], ◌∷◌, ◌++◌, refl, nat_lt, cond, map, filter, find, reverse, Bool, false, Option, ap, ◌∙◌, sym}
 use Rattle.std.proofs.lemmas.Bool.{ne_eqb}
 use Rattle.std.proofs.lemmas.List.{map-append, reverse-append}
-use Rattle.sender_model.specs.Bits.{greatest}
-use Rattle.sender_model.specs.Interleaver.{sizes}
-use Rattle.sender_model.specs.declared.rows.Row.{Row}
+use Rattle.model_sender.specs.Bits.{greatest}
+use Rattle.model_sender.specs.Interleaver.{sizes}
+use Rattle.model_sender.specs.declared.rows.Row.{Row}
 use Rattle.segmentation.proofs.Walk.{smaller-found, smaller-some, is_some}
 use Rattle.segmentation.proofs.sizes.smaller_size.Goals as goal
 

@@ -1,8 +1,8 @@
 use Rattle.std.proofs.Common.{◌≡◌, ℕ, ◌≤◌, List, length, drop, map, replicate, sym, ◌∙◌, arith, length-append, length-drop}
 use Rattle.std.proofs.lemmas.List.{ext_get_or, length-map, length-replicate}
 use Rattle.lte_bits.specs.declared.bit.Bit.TheVariants.{Zero}
-use Rattle.receiver_model.specs.Windows.{Extrinsic}
-use Rattle.receiver_model.specs.Decoding.{decided_bit, decided_bits}
+use Rattle.model_receiver.specs.Windows.{Extrinsic}
+use Rattle.model_receiver.specs.Decoding.{decided_bit, decided_bits}
 use Rattle.serial_decode.proofs.bits.decide.Goals as goal
 
 length-decided : (fill : ℕ) (cells : List Extrinsic) → fill ≤ length cells → length (decided_bits fill cells) ≡ length cells

@@ -1,6 +1,6 @@
 use Rattle.std.proofs.Common.{◌≡◌, ◌+◌, ◌-◌, true, false, List, length, take, drop, ◌++◌, refl, sym, ap, ◌∙◌, arith, rules}
 use Rattle.lte_bits.specs.declared.bit.Bit.{Bit}
-use Rattle.receiver_model.specs.Decoding.{decided_in, check_holds}
+use Rattle.model_receiver.specs.Decoding.{decided_in, check_holds}
 use Rattle.serial_decode.proofs.Parts.{written}
 use Rattle.serial_decode.proofs.Stopping.{before-none, before-iteration, left-by_iteration, decided-by_iteration, fail-more, check-is, decode-passed, decode-failed}
 use Rattle.serial_decode.proofs.block.decode_halves.Goals as goal

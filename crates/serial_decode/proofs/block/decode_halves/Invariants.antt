@@ -1,5 +1,5 @@
 use Rattle.std.proofs.Common.{◌≡◌, ◌+◌, ◌-◌, ◌*◌, ◌<◌, ◌≤◌, length}
-use Rattle.receiver_model.specs.Decoding.{before, decided_in}
+use Rattle.model_receiver.specs.Decoding.{before, decided_in}
 use Rattle.serial_decode.proofs.Stopping.{FailBefore}
 use Rattle.serial_decode.proofs.block.decode_halves.Given as goal
 

@@ -1,6 +1,6 @@
 use Rattle.std.proofs.Common.{◌≡◌, ℕ, ◌<◌, ◌∙◌, ap, subst, arith}
 use Rattle.std.proofs.lemmas.List.{get_or_default}
-use Rattle.receiver_model.specs.HalfIteration.{Left, none_left}
+use Rattle.model_receiver.specs.HalfIteration.{Left, none_left}
 use Rattle.serial_decode.specs.Runs.{start_of, IsPartDone}
 use Rattle.serial_decode.proofs.HalfSteps.{window-is, one_more_done, end-is, cells-all_done, left-all_done}
 use Rattle.serial_decode.proofs.half.decode_half.Goals as goal

@@ -1,5 +1,5 @@
 use Rattle.std.proofs.Common.{◌≡◌, map, take}
-use Rattle.receiver_model.specs.Borders.{at}
+use Rattle.model_receiver.specs.Borders.{at}
 use Rattle.serial_decode.proofs.lists.picked.Given as goal
 
 abbrev pub invariant-loop-place : goal.invariant-loop-place

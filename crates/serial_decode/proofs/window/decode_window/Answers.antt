@@ -1,7 +1,7 @@
 use Rattle.std.proofs.Common.{ap, ◌∙◌, arith}
 use Rattle.std.proofs.lemmas.List.{length-map}
-use Rattle.receiver_model.specs.Windows.{cell_at, new_cells, forward_left, backward_left}
-use Rattle.receiver_model.specs.HalfIteration.{order}
+use Rattle.model_receiver.specs.Windows.{cell_at, new_cells, forward_left, backward_left}
+use Rattle.model_receiver.specs.HalfIteration.{order}
 use Rattle.serial_decode.specs.Strips.{elsewhere}
 use Rattle.serial_decode.proofs.StripParts.{length-part}
 use Rattle.serial_decode.proofs.WindowRuns.{strip_window-is, replaced}

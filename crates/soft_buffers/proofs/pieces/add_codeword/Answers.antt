@@ -1,9 +1,9 @@
 use Rattle.std.proofs.Common.{◌≡◌, ℕ, ◌<◌, ℤ, List, [], length, take, get_or, set, subst, ap, sym, ◌∙◌, arith}
 use Rattle.std.specs.List.{refill}
 use Rattle.std.proofs.lemmas.List.{get_or_read, length-drop}
-use Rattle.sender_model.specs.Segmentation.{Plan}
-use Rattle.sender_model.specs.CircularBuffer.{piece_length}
-use Rattle.receiver_model.specs.SoftCells.{Reception, piece, piece_start, reception}
+use Rattle.model_sender.specs.Segmentation.{Plan}
+use Rattle.model_sender.specs.CircularBuffer.{piece_length}
+use Rattle.model_receiver.specs.SoftCells.{Reception, piece, piece_start, reception}
 use Rattle.soft_buffers.specs.Buffers.{HasTaken, cells_of_block}
 use Rattle.soft_buffers.proofs.Codewords.{start-within, rest-more, passed-more, refilled}
 use Rattle.soft_buffers.proofs.pieces.add_codeword.Goals as goal

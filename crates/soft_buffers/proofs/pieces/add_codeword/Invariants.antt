@@ -1,5 +1,5 @@
 use Rattle.std.proofs.Common.{◌≡◌, drop}
-use Rattle.receiver_model.specs.SoftCells.{piece_start, reception}
+use Rattle.model_receiver.specs.SoftCells.{piece_start, reception}
 use Rattle.soft_buffers.proofs.Codewords.{IsPassed}
 use Rattle.soft_buffers.proofs.pieces.add_codeword.Given as goal
 

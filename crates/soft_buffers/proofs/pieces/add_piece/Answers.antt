@@ -1,8 +1,8 @@
 use Rattle.std.proofs.Common.{◌≡◌, ℕ, length, Contains, subst, sym, arith}
-use Rattle.sender_model.specs.Interleaver.{sizes}
-use Rattle.sender_model.specs.Segmentation.{Plan}
-use Rattle.sender_model.specs.Selection.{bits_from, holds_bit}
-use Rattle.sender_model.proofs.SelectionLaws.{fitting_bit}
+use Rattle.model_sender.specs.Interleaver.{sizes}
+use Rattle.model_sender.specs.Segmentation.{Plan}
+use Rattle.model_sender.specs.Selection.{bits_from, holds_bit}
+use Rattle.model_sender.proofs.SelectionLaws.{fitting_bit}
 use Rattle.rate_match.proofs.BlockNumbers.{block-numbers}
 use Rattle.soft_buffers.proofs.pieces.add_piece.Goals as goal
 

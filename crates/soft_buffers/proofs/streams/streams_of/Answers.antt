@@ -1,5 +1,5 @@
 use Rattle.std.proofs.Common.{◌≡◌, ℕ, ◌+◌, ℤ, pos, List, take, drop, ap, ◌∙◌}
-use Rattle.receiver_model.specs.SoftCells.{begun_with}
+use Rattle.model_receiver.specs.SoftCells.{begun_with}
 use Rattle.soft_buffers.proofs.StreamCells.{cut-is, streams_with}
 use Rattle.soft_buffers.proofs.streams.streams_of.Goals as goal
 

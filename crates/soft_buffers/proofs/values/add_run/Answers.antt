@@ -1,6 +1,6 @@
 use Rattle.std.proofs.Common.{◌≡◌, ◌+◌, ◌<◌, ℕ, suc, ℤ, pos, length, get_or, ap, ◌∙◌, arith}
 use Rattle.std.proofs.lemmas.List.{get_or_read}
-use Rattle.sender_model.specs.declared.spot.Spot.{Spot}
+use Rattle.model_sender.specs.declared.spot.Spot.{Spot}
 use Rattle.rate_match.specs.Cursor.{spot_down}
 use Rattle.soft_buffers.specs.Runs.{with_value, with_values}
 use Rattle.soft_buffers.proofs.Adding.{changed}

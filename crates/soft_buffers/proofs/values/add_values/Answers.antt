@@ -1,6 +1,6 @@
 use Rattle.std.proofs.Common.{◌≡◌, ℕ, ◌+◌, ◌-◌, ◌*◌, ◌%◌, ◌<◌, ◌≤◌, ℤ, pos, List, length, get_or, take, drop, refl, ap, sym, subst, ◌∙◌, arith}
 use Rattle.std.proofs.lemmas.List.{get_or-drop, get_or-take}
-use Rattle.sender_model.specs.declared.spot.Spot.{Spot}
+use Rattle.model_sender.specs.declared.spot.Spot.{Spot}
 use Rattle.rate_match.specs.Cursor.{IsRun, cursor_at, spot_down}
 use Rattle.rate_match.specs.declared.cursor.Cursor.{Cursor}
 use Rattle.rate_match.proofs.Parts.{part-long}

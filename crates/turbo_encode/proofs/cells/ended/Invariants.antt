@@ -1,5 +1,5 @@
 use Rattle.std.proofs.Common.{◌≡◌, ◌++◌, take}
-use Rattle.sender_model.specs.CodedStreams.{cells_of}
+use Rattle.model_sender.specs.CodedStreams.{cells_of}
 use Rattle.turbo_encode.proofs.cells.ended.Given as goal
 
 abbrev pub invariant-loop-bit : goal.invariant-loop-bit

@@ -1,6 +1,6 @@
 use Rattle.std.proofs.Common.{◌≡◌, ℕ, ◌<◌, get_or}
 use Rattle.lte_bits.specs.declared.bit.Cell.TheVariants.{Null}
-use Rattle.sender_model.specs.CodedStreams.{cells_of}
+use Rattle.model_sender.specs.CodedStreams.{cells_of}
 use Rattle.turbo_encode.proofs.cells.write_cells.Given as goal
 
 abbrev pub invariant-loop-i : goal.invariant-loop-i

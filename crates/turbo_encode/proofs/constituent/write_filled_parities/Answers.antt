@@ -1,5 +1,5 @@
 use Rattle.std.proofs.Common.{ap, ◌∙◌}
-use Rattle.sender_model.specs.ConstituentCoder.{parities}
+use Rattle.model_sender.specs.ConstituentCoder.{parities}
 use Rattle.turbo_encode.specs.Fillers.{nulls_first}
 use Rattle.turbo_encode.proofs.FilledCells.{nulls-filled}
 use Rattle.turbo_encode.proofs.constituent.write_filled_parities.Goals as goal

@@ -4,9 +4,9 @@ use Rattle.std.proofs.lemmas.List.{take_all}
 use Rattle.lte_bits.specs.declared.bit.Bit.{Bit}
 use Rattle.lte_bits.specs.declared.bit.Cell.{Cell}
 use Rattle.lte_bits.proofs.Chunks.{take-chunk}
-use Rattle.sender_model.specs.ConstituentCoder.{zero_state, parities}
-use Rattle.sender_model.specs.CodedStreams.{cells_of}
-use Rattle.sender_model.specs.Tail.{reached}
+use Rattle.model_sender.specs.ConstituentCoder.{zero_state, parities}
+use Rattle.model_sender.specs.CodedStreams.{cells_of}
+use Rattle.model_sender.specs.Tail.{reached}
 use Rattle.rsc_trellis.specs.Number.{number_of}
 use Rattle.turbo_encode.proofs.FourSteps.{cells_more, reached_more, same_state, size-whole}
 use Rattle.turbo_encode.proofs.FourWritten.{fours_more}

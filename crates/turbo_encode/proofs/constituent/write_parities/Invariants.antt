@@ -1,7 +1,7 @@
 use Rattle.std.proofs.Common.{◌≡◌, ◌*◌, ◌<◌, take}
-use Rattle.sender_model.specs.ConstituentCoder.{zero_state, parities}
-use Rattle.sender_model.specs.CodedStreams.{cells_of}
-use Rattle.sender_model.specs.Tail.{reached}
+use Rattle.model_sender.specs.ConstituentCoder.{zero_state, parities}
+use Rattle.model_sender.specs.CodedStreams.{cells_of}
+use Rattle.model_sender.specs.Tail.{reached}
 use Rattle.rsc_trellis.specs.Number.{number_of}
 use Rattle.turbo_encode.proofs.constituent.write_parities.Given as goal
 

@@ -1,10 +1,10 @@
 use Rattle.std.proofs.Common.{◌≡◌, ◌++◌, ℕ, List, Contains, length, sym, ap, subst, ◌∙◌}
 use Rattle.lte_bits.specs.declared.bit.Bit.{Bit}
 use Rattle.lte_bits.specs.declared.bit.Cell.{Cell}
-use Rattle.sender_model.specs.ConstituentCoder.{zero_state, parities}
-use Rattle.sender_model.specs.CodedStreams.{cells_of, null_filled, coded, interleaved}
-use Rattle.sender_model.specs.Interleaver.{sizes}
-use Rattle.sender_model.specs.Tail.{reached}
+use Rattle.model_sender.specs.ConstituentCoder.{zero_state, parities}
+use Rattle.model_sender.specs.CodedStreams.{cells_of, null_filled, coded, interleaved}
+use Rattle.model_sender.specs.Interleaver.{sizes}
+use Rattle.model_sender.specs.Tail.{reached}
 use Rattle.turbo_encode.proofs.StreamsMade.{length-interleaved, streams-made}
 use Rattle.turbo_encode.proofs.encoder.encode.Goals as goal
 

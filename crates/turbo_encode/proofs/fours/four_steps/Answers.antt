@@ -1,8 +1,8 @@
 use Rattle.std.proofs.Common.{◌≡◌, ◌∙◌, ◌^◌, length, sym, ap, arith}
-use Rattle.sender_model.specs.ConstituentCoder.{parities_from}
-use Rattle.sender_model.specs.Tail.{reached}
-use Rattle.sender_model.proofs.BitNumbers.{number-lt}
-use Rattle.sender_model.proofs.Coder.{made}
+use Rattle.model_sender.specs.ConstituentCoder.{parities_from}
+use Rattle.model_sender.specs.Tail.{reached}
+use Rattle.model_sender.proofs.BitNumbers.{number-lt}
+use Rattle.model_sender.proofs.Coder.{made}
 use Rattle.turbo_encode.proofs.FourSteps.{next-entry, parity-entry, number_of-small, numbered}
 use Rattle.turbo_encode.proofs.fours.four_steps.Goals as goal
 

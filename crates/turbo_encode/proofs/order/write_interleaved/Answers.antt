@@ -3,9 +3,9 @@ use Rattle.std.proofs.lemmas.Bool.{cases_lt}
 use Rattle.std.proofs.lemmas.List.{length-set}
 use Rattle.std.proofs.lemmas.List.FromFn.{fill_by_all}
 use Rattle.lte_bits.specs.declared.bit.Bit.TheVariants.{Zero}
-use Rattle.sender_model.specs.Bits.{at}
-use Rattle.sender_model.specs.Interleaver.{pi, place, row_of}
-use Rattle.sender_model.proofs.RowLaws.{range-of_size}
+use Rattle.model_sender.specs.Bits.{at}
+use Rattle.model_sender.specs.Interleaver.{pi, place, row_of}
+use Rattle.model_sender.proofs.RowLaws.{range-of_size}
 use Rattle.turbo_encode.specs.Across.{across}
 use Rattle.turbo_encode.proofs.Halves.{half-whole, place_across}
 use Rattle.turbo_encode.proofs.order.write_interleaved.Goals as goal

@@ -1,7 +1,7 @@
 use Rattle.std.proofs.Common.{◌≡◌, ℕ, ◌+◌, ◌/◌, ◌<◌, length, get_or}
 use Rattle.lte_bits.specs.declared.bit.Bit.TheVariants.{Zero}
-use Rattle.sender_model.specs.Bits.{at}
-use Rattle.sender_model.specs.Interleaver.{place, row_of}
+use Rattle.model_sender.specs.Bits.{at}
+use Rattle.model_sender.specs.Interleaver.{place, row_of}
 use Rattle.qpp_table.specs.Walk.{size_along, IsAt}
 use Rattle.turbo_encode.proofs.order.write_interleaved.Given as goal
 

@@ -1,7 +1,7 @@
 use Rattle.std.proofs.Common.{◌≡◌, ℤ, pos, ◌-ℤ◌, ◌≤ℤ◌, FitsSigned, to_z, of_z, w16, w64, arith}
 use Rattle.std.proofs.lemmas.Int.{ints}
 use Rattle.lte_bits.specs.Softs.{IsWithin}
-use Rattle.sender_model.specs.ConstituentCoder.{zero_state}
+use Rattle.model_sender.specs.ConstituentCoder.{zero_state}
 use Rattle.window_decode.proofs.border.above_zero.Goals as goal
 
 fits : (a b u v : ℤ) → a ≡ u → b ≡ v → IsWithin 10000000 u → IsWithin 10000000 v → FitsSigned w64 (to_z w64 (of_z w64 a) -ℤ to_z w64 (of_z w64 b))

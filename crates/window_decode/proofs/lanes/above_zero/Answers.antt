@@ -1,6 +1,6 @@
 use Rattle.std.proofs.Common.{◌≡◌, ℤ, List, length, ap, ◌∙◌, ◌-ℤ◌, ◌≤◌, arith}
-use Rattle.sender_model.specs.ConstituentCoder.{zero_state}
-use Rattle.receiver_model.specs.Borders.{number_for, border_of}
+use Rattle.model_sender.specs.ConstituentCoder.{zero_state}
+use Rattle.model_receiver.specs.Borders.{number_for, border_of}
 use Rattle.window_decode.proofs.EightStates.{number-border_of}
 use Rattle.window_decode.proofs.LaneSteps.{IsDifference, each_lane, difference-same, differences_fit, differences_stored, zip2-border}
 use Rattle.window_decode.proofs.LaneNumbers.{passed, lanes-own, lanes_passed, moved-numbers}

@@ -1,5 +1,5 @@
 use Rattle.lte_bits.specs.declared.bit.Bit.TheVariants.{One}
-use Rattle.sender_model.specs.ConstituentCoder.{next}
+use Rattle.model_sender.specs.ConstituentCoder.{next}
 use Rattle.window_decode.proofs.LaneSteps.{picked-border}
 use Rattle.window_decode.proofs.lanes.after_one.Goals as goal
 

@@ -1,10 +1,10 @@
 use Rattle.std.proofs.Common.{◌≡◌, ◌≤◌, ℤ, List, sym, ap, ◌∙◌, to_z, of_z, w16, arith}
 use Rattle.std.specs.Int.{int_max}
 use Rattle.lte_bits.specs.declared.bit.Bit.TheVariants.{Zero, One}
-use Rattle.sender_model.specs.Bits.{plus}
-use Rattle.sender_model.specs.ConstituentCoder.{State}
-use Rattle.receiver_model.specs.Borders.{state, number_for, border_of}
-use Rattle.receiver_model.specs.Paths.{greatest}
+use Rattle.model_sender.specs.Bits.{plus}
+use Rattle.model_sender.specs.ConstituentCoder.{State}
+use Rattle.model_receiver.specs.Borders.{state, number_for, border_of}
+use Rattle.model_receiver.specs.Paths.{greatest}
 use Rattle.window_decode.proofs.LaneSteps.{stored}
 use Rattle.window_decode.proofs.LaneNumbers.{passed, AreNumbers, lanes-own, lanes_passed, moved-numbers, larger-numbers, number_passed, of_two, of_four, of_eight, greatest-of_eight}
 use Rattle.window_decode.proofs.lanes.greatest.Goals as goal

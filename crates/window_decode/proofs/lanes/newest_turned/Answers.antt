@@ -1,6 +1,6 @@
 use Rattle.lte_bits.specs.declared.bit.Bit.TheVariants.{One}
-use Rattle.sender_model.specs.Bits.{plus}
-use Rattle.receiver_model.specs.Borders.{state}
+use Rattle.model_sender.specs.Bits.{plus}
+use Rattle.model_receiver.specs.Borders.{state}
 use Rattle.window_decode.proofs.LaneSteps.{picked-border}
 use Rattle.window_decode.proofs.lanes.newest_turned.Goals as goal
 

@@ -1,4 +1,4 @@
-use Rattle.sender_model.specs.ConstituentCoder.{zero_state}
+use Rattle.model_sender.specs.ConstituentCoder.{zero_state}
 use Rattle.window_decode.proofs.LaneSteps.{picked-border}
 use Rattle.window_decode.proofs.lanes.of_state_zero.Goals as goal
 

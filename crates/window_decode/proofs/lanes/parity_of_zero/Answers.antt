@@ -1,5 +1,5 @@
 use Rattle.lte_bits.specs.declared.bit.Bit.TheVariants.{Zero}
-use Rattle.sender_model.specs.ConstituentCoder.{parity}
+use Rattle.model_sender.specs.ConstituentCoder.{parity}
 use Rattle.window_decode.proofs.LaneSteps.{where-border}
 use Rattle.window_decode.proofs.lanes.parity_of_zero.Goals as goal
 

@@ -3,7 +3,7 @@ use Rattle.std.specs.Int.{int_max}
 use Rattle.lte_bits.specs.Softs.{IsWithin}
 use Rattle.lte_bits.specs.declared.bit.Bit.{Bit}
 use Rattle.lte_bits.specs.declared.bit.Bit.TheVariants.{Zero, One}
-use Rattle.receiver_model.specs.Borders.{number_for, border_of}
+use Rattle.model_receiver.specs.Borders.{number_for, border_of}
 use Rattle.window_decode.specs.Recursions.{step_gain, way_out, backward}
 use Rattle.window_decode.specs.Lanes.{IsRelative}
 use Rattle.window_decode.proofs.Within.{within-more}

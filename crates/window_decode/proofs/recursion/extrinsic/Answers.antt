@@ -3,8 +3,8 @@ use Rattle.std.proofs.lemmas.Int.{ints}
 use Rattle.lte_bits.specs.Softs.{IsWithin}
 use Rattle.lte_bits.specs.declared.bit.Bit.{Bit}
 use Rattle.lte_bits.specs.declared.bit.Bit.TheVariants.{Zero, One}
-use Rattle.receiver_model.specs.Borders.{number_for, border_of}
-use Rattle.receiver_model.specs.Paths.{greatest}
+use Rattle.model_receiver.specs.Borders.{number_for, border_of}
+use Rattle.model_receiver.specs.Paths.{greatest}
 use Rattle.window_decode.specs.Recursions.{through, joined}
 use Rattle.window_decode.specs.Lanes.{IsRelative}
 use Rattle.window_decode.proofs.Within.{within-same}

@@ -2,7 +2,7 @@ use Rattle.std.proofs.Common.{◌≡◌, ℤ, List, arith}
 use Rattle.std.specs.Int.{int_max}
 use Rattle.lte_bits.specs.Softs.{IsWithin}
 use Rattle.lte_bits.specs.declared.bit.Bit.TheVariants.{Zero, One}
-use Rattle.receiver_model.specs.Borders.{number_for, border_of}
+use Rattle.model_receiver.specs.Borders.{number_for, border_of}
 use Rattle.window_decode.specs.Recursions.{step_gain, way_in, forward}
 use Rattle.window_decode.specs.Lanes.{IsRelative}
 use Rattle.window_decode.proofs.LaneNumbers.{AreNumbers, passed, numbers_passed, lanes_passed, larger-numbers}

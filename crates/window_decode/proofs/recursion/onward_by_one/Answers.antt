@@ -1,6 +1,6 @@
 use Rattle.std.proofs.Common.{arith}
 use Rattle.lte_bits.specs.declared.bit.Bit.TheVariants.{One}
-use Rattle.sender_model.specs.ConstituentCoder.{parity}
+use Rattle.model_sender.specs.ConstituentCoder.{parity}
 use Rattle.window_decode.proofs.LaneNumbers.{numbers_passed, lanes_passed, sum-fits, sum-numbers}
 use Rattle.window_decode.proofs.LaneKernel.{earned-numbers, relative-numbers, after-numbers}
 use Rattle.window_decode.proofs.recursion.onward_by_one.Goals as goal

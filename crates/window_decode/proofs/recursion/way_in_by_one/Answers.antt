@@ -1,6 +1,6 @@
 use Rattle.std.proofs.Common.{arith}
 use Rattle.lte_bits.specs.declared.bit.Bit.TheVariants.{One}
-use Rattle.sender_model.specs.ConstituentCoder.{parity}
+use Rattle.model_sender.specs.ConstituentCoder.{parity}
 use Rattle.rsc_trellis.specs.Steps.{input_before}
 use Rattle.window_decode.proofs.LaneNumbers.{numbers_passed, lanes_passed, sum-fits}
 use Rattle.window_decode.proofs.LaneKernel.{earned-numbers, relative-numbers, before-numbers, gain-numbers, way-sum}

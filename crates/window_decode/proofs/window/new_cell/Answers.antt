@@ -2,7 +2,7 @@ use Rattle.std.proofs.Common.{◌≡◌, ℤ, ◌-ℤ◌, List, ap, ◌∙◌, t
 use Rattle.std.proofs.lemmas.Int.{ints}
 use Rattle.lte_bits.specs.Softs.{IsWithin}
 use Rattle.lte_bits.specs.declared.bit.Bit.TheVariants.{Zero, One}
-use Rattle.receiver_model.specs.Windows.{cell_from}
+use Rattle.model_receiver.specs.Windows.{cell_from}
 use Rattle.window_decode.specs.Recursions.{through}
 use Rattle.window_decode.proofs.Within.{within-more}
 use Rattle.window_decode.proofs.LaneSteps.{stored}

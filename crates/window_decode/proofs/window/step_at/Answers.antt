@@ -1,7 +1,7 @@
 use Rattle.std.proofs.Common.{◌≡◌, ℤ, ◌+ℤ◌, ap, ◌∙◌, to_z, of_z, w16, arith}
 use Rattle.std.proofs.lemmas.Int.{ints}
 use Rattle.lte_bits.specs.Softs.{IsWithin}
-use Rattle.receiver_model.specs.Windows.{Extrinsic}
+use Rattle.model_receiver.specs.Windows.{Extrinsic}
 use Rattle.window_decode.proofs.window.step_at.Goals as goal
 
 sum : (s x u v : ℤ) → s ≡ u → x ≡ v → IsWithin 127 s → IsWithin 511 x → to_z w16 (of_z w16 (to_z w16 (of_z w16 s) +ℤ to_z w16 (of_z w16 x))) ≡ u +ℤ v

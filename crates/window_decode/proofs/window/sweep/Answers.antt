@@ -1,7 +1,7 @@
 use Rattle.std.proofs.Common.{◌≡◌, ℕ, suc, ◌+◌, ◌-◌, ◌<◌, length, map, to_z, w16, refl, ap, ◌∙◌, arith}
 use Rattle.std.proofs.lemmas.List.{length-set}
-use Rattle.receiver_model.specs.Borders.{at}
-use Rattle.receiver_model.specs.Windows.{cell_at}
+use Rattle.model_receiver.specs.Borders.{at}
+use Rattle.model_receiver.specs.Windows.{cell_at}
 use Rattle.window_decode.specs.Recursions.{cell_through}
 use Rattle.window_decode.proofs.LaneNumbers.{passed}
 use Rattle.window_decode.proofs.LaneKernel.{relative-still}

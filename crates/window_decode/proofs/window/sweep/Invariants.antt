@@ -1,7 +1,7 @@
 use Rattle.std.proofs.Common.{◌≡◌, ℕ, ◌-◌, ◌<◌, length, map, to_z, w16}
-use Rattle.receiver_model.specs.Borders.{IsBorder}
-use Rattle.receiver_model.specs.Paths.{gain}
-use Rattle.receiver_model.specs.Windows.{window_between}
+use Rattle.model_receiver.specs.Borders.{IsBorder}
+use Rattle.model_receiver.specs.Paths.{gain}
+use Rattle.model_receiver.specs.Windows.{window_between}
 use Rattle.window_decode.specs.Metrics.{IsForwardRow, IsBackwardRow, row_at}
 use Rattle.window_decode.proofs.Spread.{IsNarrow}
 use Rattle.window_decode.proofs.WindowSweep.{Renewed}

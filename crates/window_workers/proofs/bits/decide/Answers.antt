@@ -1,8 +1,8 @@
 use Rattle.std.proofs.Common.{◌≡◌, ℕ, ◌≤◌, List, length, drop, map, replicate, sym, ◌∙◌, arith, length-append, length-drop}
 use Rattle.std.proofs.lemmas.List.{ext_get_or, length-map, length-replicate}
 use Rattle.lte_bits.specs.declared.bit.Bit.TheVariants.{Zero}
-use Rattle.receiver_model.specs.Windows.{Extrinsic}
-use Rattle.receiver_model.specs.Decoding.{decided_bit, decided_bits}
+use Rattle.model_receiver.specs.Windows.{Extrinsic}
+use Rattle.model_receiver.specs.Decoding.{decided_bit, decided_bits}
 use Rattle.cell_shares.specs.Shares.{cell_values}
 use Rattle.window_workers.proofs.bits.decide.Goals as goal
 

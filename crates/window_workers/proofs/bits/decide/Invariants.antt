@@ -1,6 +1,6 @@
 use Rattle.std.proofs.Common.{◌≡◌, ℕ, ◌<◌, get_or}
 use Rattle.lte_bits.specs.declared.bit.Bit.TheVariants.{Zero}
-use Rattle.receiver_model.specs.Decoding.{decided_bits}
+use Rattle.model_receiver.specs.Decoding.{decided_bits}
 use Rattle.cell_shares.specs.Shares.{cell_values}
 use Rattle.window_workers.proofs.bits.decide.Given as goal
 

@@ -1,10 +1,10 @@
 use Rattle.std.proofs.Common.{◌≡◌, ℕ, suc, ◌+◌, ◌-◌, ◌*◌, ◌%◌, ◌/◌, ◌≤◌, List, length, sym, ap, ◌∙◌, refl, subst, arith}
 use Rattle.std.specs.Prelude.{◌↔◌, IsTrue, IsFalse}
 use Rattle.lte_bits.specs.declared.bit.Bit.{Bit}
-use Rattle.sender_model.specs.CheckBits.{IsMultiple}
-use Rattle.receiver_model.specs.declared.result.CheckKind.{CheckKind}
+use Rattle.model_sender.specs.CheckBits.{IsMultiple}
+use Rattle.model_receiver.specs.declared.result.CheckKind.{CheckKind}
 use Rattle.cell_shares.specs.Shares.{cell_values}
-use Rattle.receiver_model.specs.Decoding.{generator}
+use Rattle.model_receiver.specs.Decoding.{generator}
 use Rattle.serial_decode.proofs.Parts.{written}
 use Rattle.serial_decode.proofs.Stopping.{result_with}
 use Rattle.window_workers.specs.Commons.{IsResultAt}

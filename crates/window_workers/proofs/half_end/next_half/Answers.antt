@@ -11,7 +11,7 @@ use Rattle.window_workers.proofs.OrdersOfHalves.{order-is_of}
 use Rattle.serial_decode.proofs.Parts.{written}
 use Rattle.window_workers.proofs.DonePieces.{long-map}
 use Rattle.window_workers.proofs.ReadyPieces.{tail-is, long-of_job, ready-pieces, left-of_pieces}
-use Rattle.receiver_model.specs.HalfIteration.{tail_border}
+use Rattle.model_receiver.specs.HalfIteration.{tail_border}
 use Rattle.window_workers.proofs.half_end.next_half.Goals as goal
 
 pub overflow_add-half : goal.overflow_add-half

@@ -1,5 +1,5 @@
 use Rattle.std.proofs.Common.{◌≡◌, ℕ, ◌+◌, ◌-◌, ◌<◌, List, [], ◌∷◌, length, reverse, sym, ap, ◌∙◌, subst, arith, length-append}
-use Rattle.receiver_model.specs.HalfIteration.{Shape}
+use Rattle.model_receiver.specs.HalfIteration.{Shape}
 use Rattle.phase_board.specs.Slots.{AllPieces}
 use Rattle.window_workers.specs.declared.piece.Tools.{Tools}
 use Rattle.window_workers.specs.Pieces.{AreTools}

@@ -1,7 +1,7 @@
 use Rattle.std.proofs.Common.{ℕ, length, refl, sym, ap, ◌∙◌, subst, arith}
 use Rattle.std.proofs.lemmas.List.{length-reverse}
-use Rattle.sender_model.specs.Interleaver.{row_of}
-use Rattle.receiver_model.specs.HalfIteration.{Shape}
+use Rattle.model_sender.specs.Interleaver.{row_of}
+use Rattle.model_receiver.specs.HalfIteration.{Shape}
 use Rattle.cell_shares.specs.Shares.{name_of}
 use Rattle.window_workers.specs.declared.job.DecodingJob.{DecodingJob}
 use Rattle.window_workers.specs.Orders.{IsOrderIn}

@@ -1,7 +1,7 @@
 use Rattle.std.proofs.Common.{◌≡◌, ℕ, length, replicate, sym, ap, ◌∙◌, arith, rules}
-use Rattle.sender_model.specs.Interleaver.{row_of}
+use Rattle.model_sender.specs.Interleaver.{row_of}
 use Rattle.qpp_table.specs.Qpp.{row_in}
-use Rattle.receiver_model.specs.HalfIteration.{Shape, Before, none_left, tail_border}
+use Rattle.model_receiver.specs.HalfIteration.{Shape, Before, none_left, tail_border}
 use Rattle.serial_decode.proofs.Stopping.{before-none}
 use Rattle.window_workers.proofs.making.first_progress.Goals as goal
 

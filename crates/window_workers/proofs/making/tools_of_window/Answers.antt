@@ -1,8 +1,8 @@
 use Rattle.std.proofs.Common.{◌≡◌, ℕ, map, sym, ap, ◌∙◌, arith}
 use Rattle.std.proofs.Math.Nat.{div-le_self}
 use Rattle.lte_bits.specs.declared.block.SoftStreams.{SoftStreams}
-use Rattle.sender_model.proofs.RowLaws.{range-of_size}
-use Rattle.receiver_model.specs.HalfIteration.{Shape, window_width, positions, order, systematic_at, parity_at}
+use Rattle.model_sender.proofs.RowLaws.{range-of_size}
+use Rattle.model_receiver.specs.HalfIteration.{Shape, window_width, positions, order, systematic_at, parity_at}
 use Rattle.window_workers.proofs.making.tools_of_window.Goals as goal
 
 pub new-requires-3-clause-most : goal.new-requires-3-clause-most

@@ -1,7 +1,7 @@
 use Rattle.std.proofs.Common.{◌≡◌, ℕ, length, replicate, sym, ap, ◌∙◌, subst, rules}
 use Prim.Native.Nat.{◌∣◌}
 use Rattle.std.proofs.lemmas.List.{length-replicate}
-use Rattle.receiver_model.specs.Windows.{zero_cell}
+use Rattle.model_receiver.specs.Windows.{zero_cell}
 use Rattle.window_workers.proofs.making.zero_cells.Goals as goal
 
 pub new-requires-clause-divides : goal.new-requires-clause-divides

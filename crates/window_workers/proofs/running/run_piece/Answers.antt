@@ -1,5 +1,5 @@
 use Rattle.std.proofs.Common.{sym, ap, ◌∙◌, subst, arith}
-use Rattle.receiver_model.specs.Windows.{new_cells}
+use Rattle.model_receiver.specs.Windows.{new_cells}
 use Rattle.cell_shares.specs.Shares.{share_number}
 use Rattle.serial_decode.specs.Runs.{left_of}
 use Rattle.window_workers.specs.Orders.{IsOrderIn}

@@ -1,5 +1,5 @@
 use Rattle.std.proofs.Common.{◌≡◌, ◌<◌, get_or, map, ℕ}
-use Rattle.receiver_model.specs.HalfIteration.{none_left}
+use Rattle.model_receiver.specs.HalfIteration.{none_left}
 use Rattle.window_workers.specs.Pieces.{left_of_piece}
 use Rattle.window_workers.proofs.scattering.take_left.Given as goal
 

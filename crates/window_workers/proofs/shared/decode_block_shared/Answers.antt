@@ -2,7 +2,7 @@ use Rattle.std.proofs.Common.{◌∙◌}
 use Rattle.phase_board.specs.Boards.{board_job}
 use Rattle.phase_board.specs.ClaimWord.{half_of}
 use Rattle.phase_board.specs.Seats.{idle_view}
-use Rattle.receiver_model.specs.Decoding.{code_result}
+use Rattle.model_receiver.specs.Decoding.{code_result}
 use Rattle.window_workers.specs.Pieces.{job_of_piece}
 use Rattle.window_workers.proofs.shared.decode_block_shared.Goals as goal
 

@@ -1,7 +1,7 @@
 use Rattle.std.proofs.Common.{List, sym, ◌∙◌, subst}
 use Rattle.lte_bits.specs.declared.bit.Bit.{Bit}
-use Rattle.sender_model.specs.CheckBits.{IsCrc}
-use Rattle.sender_model.proofs.CheckBitLaws.{crc-is, crc_by_number}
+use Rattle.model_sender.specs.CheckBits.{IsCrc}
+use Rattle.model_sender.proofs.CheckBitLaws.{crc-is, crc_by_number}
 use Rattle.block_crc.proofs.generator.Generator.check_bits.Goals as goal
 
 pub returns-clause-value : goal.returns-clause-value

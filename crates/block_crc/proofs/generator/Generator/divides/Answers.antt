@@ -1,5 +1,5 @@
 use Rattle.std.proofs.Common.{arith}
-use Rattle.sender_model.proofs.CheckBitLaws.{multiple-remainder}
+use Rattle.model_sender.proofs.CheckBitLaws.{multiple-remainder}
 use Rattle.block_crc.proofs.generator.Generator.divides.Goals as goal
 
 pub returns : goal.returns

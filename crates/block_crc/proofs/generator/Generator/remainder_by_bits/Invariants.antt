@@ -1,5 +1,5 @@
 use Rattle.std.proofs.Common.{◌≡◌, ◌<◌, ◌^◌, drop}
-use Rattle.sender_model.specs.CheckBits.{remainder}
+use Rattle.model_sender.specs.CheckBits.{remainder}
 use Rattle.block_crc.proofs.generator.Generator.remainder_by_bits.Given as goal
 
 abbrev pub invariant-loop-bit : goal.invariant-loop-bit

@@ -1,6 +1,6 @@
 use Rattle.std.proofs.Common.{ℕ, ◌≡◌, ◌≢◌, ◌∙◌, ◌*◌, ◌/◌, ◌<◌, List, [], ◌∷◌, length, refl, sym, ap, subst, arith}
 use Rattle.std.specs.List.{range_with_len}
-use Rattle.sender_model.specs.InterleaverLaws.{windows-whole}
+use Rattle.model_sender.specs.InterleaverLaws.{windows-whole}
 use Rattle.core.specs.Mem.Slots.{slots_counts, slots_items}
 use Rattle.cell_shares.specs.Parts.{places, values}
 use Rattle.cell_shares.proofs.Numbers.{places-numbered, values-numbered}

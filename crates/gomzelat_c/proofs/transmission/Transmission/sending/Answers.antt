@@ -1,7 +1,7 @@
 use Rattle.std.proofs.Common.{◌≡◌, ℕ, Err, Ok, ap, sym, ◌∙◌, min}
 use Rattle.std.specs.declared.option.Option.{Option}
 use Rattle.std.specs.declared.result.Result.{Result}
-use Rattle.sender_model.specs.CircularBuffer.{Match}
+use Rattle.model_sender.specs.CircularBuffer.{Match}
 use Rattle.rate_match.specs.Matching.{limit_of, matched}
 use Rattle.rate_match.specs.declared.matching.BadMatch.{BadMatch}
 use Rattle.gomzelat_c.specs.Refusals.{refusal_of}

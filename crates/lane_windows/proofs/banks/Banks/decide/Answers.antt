@@ -3,8 +3,8 @@ use Rattle.std.proofs.lemmas.Bool.{cases_eq}
 use Rattle.std.proofs.lemmas.List.{ext_get_or}
 use Rattle.std.proofs.lemmas.Nat.{mod-mul-add, div_below, mod_below, div-add-mod'}
 use Rattle.lte_bits.specs.declared.bit.Bit.TheVariants.{Zero}
-use Rattle.receiver_model.specs.Windows.{cell_at}
-use Rattle.receiver_model.specs.Decoding.{decided_bits}
+use Rattle.model_receiver.specs.Windows.{cell_at}
+use Rattle.model_receiver.specs.Decoding.{decided_bits}
 use Rattle.lane_windows.specs.Banks.{number_in, cell_in, bit_at_place}
 use Rattle.lane_windows.proofs.BankCells.{fits-twice, place-inside, bit-at, length-decided}
 use Rattle.lane_windows.proofs.BankRows.{length-of_view, read-number, cell-in_view}

@@ -1,6 +1,6 @@
 use Rattle.std.proofs.Common.{◌≡◌, ℕ, ◌+◌, ◌*◌, ◌<◌, get_or}
 use Rattle.lte_bits.specs.declared.bit.Bit.TheVariants.{Zero}
-use Rattle.receiver_model.specs.Decoding.{decided_bits}
+use Rattle.model_receiver.specs.Decoding.{decided_bits}
 use Rattle.lane_windows.proofs.banks.Banks.decide.Given as goal
 
 abbrev pub invariant-loop-r : goal.invariant-loop-r

@@ -2,8 +2,8 @@ use Rattle.std.proofs.Common.{◌≡◌, ◌≢◌, ℕ, ◌+◌, ◌*◌, ◌/�
 use Rattle.std.proofs.lemmas.Bool.{cases_eq}
 use Rattle.std.proofs.lemmas.List.{length-replicate}
 use Rattle.std.proofs.lemmas.Nat.{mod-mul-add}
-use Rattle.sender_model.specs.InterleaverLaws.{windows-whole}
-use Rattle.receiver_model.specs.Windows.{Extrinsic, zero_cell, cell_at}
+use Rattle.model_sender.specs.InterleaverLaws.{windows-whole}
+use Rattle.model_receiver.specs.Windows.{Extrinsic, zero_cell, cell_at}
 use Rattle.lane_windows.proofs.BankCells.{rows-of_product, lanes-some, fits-four_times, same-by_banks}
 use Rattle.lane_windows.proofs.banks.Banks.new.Goals as goal
 

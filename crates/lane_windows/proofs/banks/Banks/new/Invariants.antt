@@ -1,5 +1,5 @@
 use Rattle.std.proofs.Common.{◌≡◌, ℕ, ◌+◌, ◌*◌, ◌<◌, length}
-use Rattle.receiver_model.specs.Windows.{cell_at}
+use Rattle.model_receiver.specs.Windows.{cell_at}
 use Rattle.lane_windows.proofs.banks.Banks.new.Given as goal
 
 abbrev pub invariant-loop-r : goal.invariant-loop-r

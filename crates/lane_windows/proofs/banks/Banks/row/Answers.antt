@@ -1,8 +1,8 @@
 use Rattle.std.proofs.Common.{◌+◌, ◌*◌, ◌/◌, ◌<◌, length, ℤ, sym, ap, ◌∙◌, subst, arith}
 use Rattle.std.proofs.lemmas.List.FromFn.{fill_by_all}
 use Rattle.lte_bits.specs.Softs.{IsWithin}
-use Rattle.receiver_model.specs.Borders.{at}
-use Rattle.receiver_model.specs.Windows.{zero_cell, cell_at}
+use Rattle.model_receiver.specs.Borders.{at}
+use Rattle.model_receiver.specs.Windows.{zero_cell, cell_at}
 use Rattle.lane_windows.specs.Banks.{number_in, cell_of}
 use Rattle.lane_windows.proofs.BankCells.{fits-twice}
 use Rattle.lane_windows.proofs.BankRows.{read-number, cell-of_view, width-of_view}

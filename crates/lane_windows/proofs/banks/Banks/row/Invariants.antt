@@ -1,6 +1,6 @@
 use Rattle.std.proofs.Common.{◌≡◌, ℕ, ◌<◌, length}
-use Rattle.receiver_model.specs.Borders.{at}
-use Rattle.receiver_model.specs.Windows.{cell_at}
+use Rattle.model_receiver.specs.Borders.{at}
+use Rattle.model_receiver.specs.Windows.{cell_at}
 use Rattle.lane_windows.specs.Banks.{cell_of}
 use Rattle.lane_windows.proofs.banks.Banks.row.Given as goal
 

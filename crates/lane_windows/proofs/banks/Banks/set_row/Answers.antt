@@ -1,6 +1,6 @@
 use Rattle.std.proofs.Common.{◌∙◌, arith}
-use Rattle.receiver_model.specs.Borders.{at}
-use Rattle.receiver_model.specs.Windows.{cell_at}
+use Rattle.model_receiver.specs.Borders.{at}
+use Rattle.model_receiver.specs.Windows.{cell_at}
 use Rattle.lane_windows.proofs.BankRows.{same-cell, width-of_view, length-replaced, cell-replaced, cell-kept}
 use Rattle.lane_windows.proofs.banks.Banks.set_row.Goals as goal
 

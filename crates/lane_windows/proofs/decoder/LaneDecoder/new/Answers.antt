@@ -1,5 +1,5 @@
 use Rattle.std.proofs.Common.{◌≡◌, ℕ, ◌*◌, ◌≤◌, arith}
-use Rattle.sender_model.proofs.RowLaws.{range-of_size}
+use Rattle.model_sender.proofs.RowLaws.{range-of_size}
 use Rattle.lane_windows.proofs.BankCells.{lanes-least}
 use Rattle.lane_windows.proofs.LaneHalves.{narrow, covers}
 use Rattle.lane_windows.proofs.decoder.LaneDecoder.new.Goals as goal

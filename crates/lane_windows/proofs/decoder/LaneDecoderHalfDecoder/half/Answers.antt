@@ -1,6 +1,6 @@
 use Rattle.std.proofs.Common.{◌≡◌, ℕ, ◌++◌, List, length, take, drop, sym, ap, ◌∙◌, arith}
 use Rattle.std.proofs.lemmas.List.FromFn.{length-map-range_with_len}
-use Rattle.receiver_model.specs.HalfIteration.{Left, position_of, renewed, after}
+use Rattle.model_receiver.specs.HalfIteration.{Left, position_of, renewed, after}
 use Rattle.serial_decode.specs.Runs.{start_of}
 use Rattle.serial_decode.proofs.Parts.{written}
 use Rattle.lane_windows.proofs.decoder.LaneDecoderHalfDecoder.half.Goals as goal

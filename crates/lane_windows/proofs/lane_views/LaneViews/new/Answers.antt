@@ -2,9 +2,9 @@ use Rattle.std.proofs.Common.{◌≡◌, ℕ, ◌+◌, ◌*◌, ◌%◌, ◌<◌
 use Rattle.std.specs.Prelude.{slice_index}
 use Rattle.std.specs.List.{range_with_len}
 use Rattle.std.proofs.lemmas.List.FromFn.{length-map-range_with_len, get_or-map-range_with_len}
-use Rattle.sender_model.specs.Interleaver.{place}
-use Rattle.sender_model.proofs.RowLaws.{range-of_size}
-use Rattle.receiver_model.specs.HalfIteration.{Shape, window_width, order}
+use Rattle.model_sender.specs.Interleaver.{place}
+use Rattle.model_sender.proofs.RowLaws.{range-of_size}
+use Rattle.model_receiver.specs.HalfIteration.{Shape, window_width, order}
 use Rattle.serial_decode.specs.Views.{AreWhole}
 use Rattle.serial_decode.proofs.Orders.{order-below, order-apart}
 use Rattle.lane_windows.specs.Crossings.{IsTable}

@@ -1,6 +1,6 @@
 use Rattle.std.proofs.Common.{◌≡◌, ℕ, ◌*◌, ◌/◌, ◌%◌, ◌<◌, ◌≤◌, Bool, cond, length, sym, ap, ◌∙◌, subst, arith}
-use Rattle.sender_model.specs.Interleaver.{place}
-use Rattle.receiver_model.specs.HalfIteration.{window_width}
+use Rattle.model_sender.specs.Interleaver.{place}
+use Rattle.model_receiver.specs.HalfIteration.{window_width}
 use Rattle.serial_decode.proofs.Orders.{equal, not-equal}
 use Rattle.lock_step.specs.Lanes.{AreWithin}
 use Rattle.lane_windows.specs.Crossings.{IsTable, AreApart}

@@ -1,7 +1,7 @@
 use Rattle.std.proofs.Common.{◌≡◌, ℕ, ℤ, ◌*◌, ◌<◌, List, length, map, replicate, pos, sym, ap, ◌∙◌, subst, arith}
 use Rattle.std.proofs.lemmas.List.{length-replicate}
 use Rattle.std.proofs.lemmas.List.FromFn.{length-map-range_with_len}
-use Rattle.receiver_model.specs.HalfIteration.{Shape, window_width, positions, systematic_at, parity_at}
+use Rattle.model_receiver.specs.HalfIteration.{Shape, window_width, positions, systematic_at, parity_at}
 use Rattle.serial_decode.specs.Views.{AreWhole, by_position}
 use Rattle.serial_decode.proofs.Parts.{written}
 use Rattle.lock_step.specs.Lanes.{column, AreWithin}

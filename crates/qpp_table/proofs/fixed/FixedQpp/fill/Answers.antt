@@ -1,8 +1,8 @@
 use Rattle.std.proofs.Common.{◌≡◌, ◌≢◌, ◌<◌, length, get_or-set_other, get_or-set_same, below_more, sym, ap, ◌∙◌, arith}
 use Rattle.std.proofs.lemmas.List.FromFn.{fill_by_all}
-use Rattle.sender_model.specs.Interleaver.{pi, place}
-use Rattle.sender_model.specs.declared.rows.Row.{Row}
-use Rattle.sender_model.proofs.RowLaws.{row-of_find}
+use Rattle.model_sender.specs.Interleaver.{pi, place}
+use Rattle.model_sender.specs.declared.rows.Row.{Row}
+use Rattle.model_sender.proofs.RowLaws.{row-of_find}
 use Rattle.qpp_table.specs.Groups.{addresses_of}
 use Rattle.qpp_table.proofs.FoundRows.{found_row-kept}
 use Rattle.qpp_table.proofs.fixed.FixedQpp.fill.Goals as goal

@@ -1,5 +1,5 @@
 use Rattle.std.proofs.Common.{◌≡◌, ℕ, ◌<◌, slice_index_or}
-use Rattle.sender_model.specs.Interleaver.{place}
+use Rattle.model_sender.specs.Interleaver.{place}
 use Rattle.qpp_table.specs.Walk.{size_along, IsAt}
 use Rattle.qpp_table.proofs.fixed.FixedQpp.fill.Given as goal
 

@@ -2,13 +2,13 @@ use Rattle.std.proofs.Common.{◌≡◌, ℕ, ◌≤◌, List, ◌++◌, length,
 use Rattle.std.specs.List.{range_with_len}
 use Rattle.lte_bits.specs.declared.bit.Bit.{Bit}
 use Rattle.lte_bits.specs.declared.block.Streams.{Streams}
-use Rattle.sender_model.specs.Segmentation.{Plan, plan_of, size, fill}
-use Rattle.sender_model.specs.CodeBlocks.{block}
-use Rattle.sender_model.specs.CodedStreams.{streams}
-use Rattle.sender_model.specs.CircularBuffer.{AreStreams, Fits}
-use Rattle.sender_model.specs.Selection.{sent}
-use Rattle.sender_model.specs.Codeword.{codeword}
-use Rattle.sender_model.proofs.PlanLaws.{plan-sound}
+use Rattle.model_sender.specs.Segmentation.{Plan, plan_of, size, fill}
+use Rattle.model_sender.specs.CodeBlocks.{block}
+use Rattle.model_sender.specs.CodedStreams.{streams}
+use Rattle.model_sender.specs.CircularBuffer.{AreStreams, Fits}
+use Rattle.model_sender.specs.Selection.{sent}
+use Rattle.model_sender.specs.Codeword.{codeword}
+use Rattle.model_sender.proofs.PlanLaws.{plan-sound}
 use Rattle.rate_match.specs.Coded.{AreStreamsOf}
 use Rattle.rate_match.proofs.Lengths.{codeword-long}
 use Rattle.rate_match.proofs.BlockStreams.{flat_map-more}

@@ -1,9 +1,9 @@
 use Rattle.std.proofs.Common.{◌≡◌, length, flat_map}
 use Rattle.std.specs.List.{range_with_len}
-use Rattle.sender_model.specs.Segmentation.{plan_of}
-use Rattle.sender_model.specs.CodeBlocks.{block}
-use Rattle.sender_model.specs.CodedStreams.{streams}
-use Rattle.sender_model.specs.Selection.{sent}
+use Rattle.model_sender.specs.Segmentation.{plan_of}
+use Rattle.model_sender.specs.CodeBlocks.{block}
+use Rattle.model_sender.specs.CodedStreams.{streams}
+use Rattle.model_sender.specs.Selection.{sent}
 use Rattle.rate_match.proofs.coded.Coded.codeword.Given as goal
 
 abbrev pub invariant-loop-r : goal.invariant-loop-r

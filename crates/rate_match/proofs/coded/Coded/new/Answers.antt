@@ -5,8 +5,8 @@ use Rattle.lte_bits.specs.declared.block.Streams.{Streams}
 use Rattle.segmentation.specs.Plans.{IsPlan}
 use Rattle.segmentation.specs.Shape.{AreBlocksOf}
 use Rattle.segmentation.proofs.OfPlans.{is_plan}
-use Rattle.sender_model.specs.Segmentation.{Plan, plan_of}
-use Rattle.sender_model.specs.CodedStreams.{streams}
+use Rattle.model_sender.specs.Segmentation.{Plan, plan_of}
+use Rattle.model_sender.specs.CodedStreams.{streams}
 use Rattle.rate_match.proofs.BlockNumbers.{block-numbers}
 use Rattle.rate_match.proofs.BlockStreams.{block-inside, shape-count}
 use Rattle.rate_match.proofs.coded.Coded.new.Goals as goal

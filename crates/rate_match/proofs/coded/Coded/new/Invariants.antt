@@ -1,5 +1,5 @@
 use Rattle.std.proofs.Common.{◌≡◌, map, take}
-use Rattle.sender_model.specs.CodedStreams.{streams}
+use Rattle.model_sender.specs.CodedStreams.{streams}
 use Rattle.rate_match.proofs.coded.Coded.new.Given as goal
 
 abbrev pub invariant-loop-block : goal.invariant-loop-block

@@ -1,7 +1,7 @@
 use Rattle.std.proofs.Common.{◌≡◌, ℕ, ◌+◌, ◌%◌, ◌<◌, sym, ap, ◌∙◌, arith}
 use Rattle.std.proofs.Math.Nat.{mod_self, mod-eq_of_lt}
-use Rattle.sender_model.specs.CircularBuffer.{rows_of}
-use Rattle.sender_model.proofs.SelectionLaws.{rows-bounds}
+use Rattle.model_sender.specs.CircularBuffer.{rows_of}
+use Rattle.model_sender.proofs.SelectionLaws.{rows-bounds}
 use Rattle.rate_match.specs.Cursor.{cursor_at}
 use Rattle.rate_match.proofs.CursorSteps.{begins, order-zero, order-begins}
 use Rattle.rate_match.proofs.cursor.Cursor.next.Goals as goal

@@ -1,5 +1,5 @@
 use Rattle.std.proofs.Common.{ℕ, ◌≡◌, ◌-◌, ◌*◌, ◌<◌, sym, ap, subst, ◌∙◌, arith}
-use Rattle.sender_model.specs.CircularBuffer.{rows_of}
+use Rattle.model_sender.specs.CircularBuffer.{rows_of}
 use Rattle.rate_match.specs.Cursor.{IsRun, cursor_at, order_of}
 use Rattle.rate_match.specs.declared.cursor.Cursor.{Cursor}
 use Rattle.rate_match.specs.declared.rings.Ring.{Ring}

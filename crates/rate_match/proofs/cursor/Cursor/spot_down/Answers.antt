@@ -1,5 +1,5 @@
 use Rattle.std.proofs.Common.{ℕ, ◌+◌, ap, ◌∙◌, arith}
-use Rattle.sender_model.specs.declared.spot.Spot.{Spot}
+use Rattle.model_sender.specs.declared.spot.Spot.{Spot}
 use Rattle.rate_match.specs.Cursor.{spot_down}
 use Rattle.rate_match.proofs.Runs.{run-inside, spot_down-first, spot_down-second}
 use Rattle.rate_match.proofs.cursor.Cursor.spot_down.Goals as goal

@@ -1,5 +1,5 @@
 use Rattle.std.proofs.Common.{◌≡◌, ℕ, zero, suc, ◌+◌, ◌*◌, ◌≤◌, arith}
-use Rattle.sender_model.proofs.RowLaws.{range-of_size}
+use Rattle.model_sender.proofs.RowLaws.{range-of_size}
 use Rattle.serial_decode.proofs.decoder.SerialDecoder.new.Goals as goal
 
 narrow : (m w k : ℕ) → m * w ≡ k → 40 ≤ k → k ≤ 6144 → w ≤ 6144

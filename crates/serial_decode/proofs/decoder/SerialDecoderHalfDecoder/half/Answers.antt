@@ -1,6 +1,6 @@
 use Rattle.std.proofs.Common.{◌≡◌, length, sym, ap, ◌∙◌}
 use Rattle.std.proofs.lemmas.List.FromFn.{length-map-range_with_len}
-use Rattle.receiver_model.specs.HalfIteration.{position_of, renewed}
+use Rattle.model_receiver.specs.HalfIteration.{position_of, renewed}
 use Rattle.serial_decode.specs.Runs.{start_of}
 use Rattle.serial_decode.proofs.Parts.{written}
 use Rattle.serial_decode.proofs.decoder.SerialDecoderHalfDecoder.half.Goals as goal

@@ -1,8 +1,8 @@
 use Rattle.std.proofs.Common.{◌≡◌, ℕ, ◌+◌, length, map, ap, ◌∙◌, arith}
 use Rattle.std.specs.List.{range_with_len}
-use Rattle.sender_model.specs.Interleaver.{place}
-use Rattle.sender_model.proofs.RowLaws.{range-of_size}
-use Rattle.receiver_model.specs.Borders.{at}
+use Rattle.model_sender.specs.Interleaver.{place}
+use Rattle.model_sender.proofs.RowLaws.{range-of_size}
+use Rattle.model_receiver.specs.Borders.{at}
 use Rattle.serial_decode.specs.Views.{by_position}
 use Rattle.serial_decode.proofs.ViewLists.{picks-below, picked-is}
 use Rattle.serial_decode.proofs.views.Views.new.Goals as goal

@@ -1,6 +1,6 @@
 use Rattle.std.proofs.Common.{◌≡◌, ℕ, ◌*◌, sym, ap, ◌∙◌, arith}
 use Rattle.std.specs.Prelude.{pos}
-use Rattle.receiver_model.specs.HalfIteration.{Shape, order, systematic_at, parity_at, window_width}
+use Rattle.model_receiver.specs.HalfIteration.{Shape, order, systematic_at, parity_at, window_width}
 use Rattle.serial_decode.specs.Views.{AreWhole}
 use Rattle.serial_decode.proofs.StripParts.{part-is, part-fits, length-part, places-below, places-apart}
 use Rattle.serial_decode.proofs.views.Views.strip.Goals as goal

@@ -1,5 +1,5 @@
 use Rattle.std.proofs.Common.{ℤ, List, ◌++◌, length, take, drop, subst, sym, ap, arith}
-use Rattle.receiver_model.specs.SoftCells.{Reception, reception}
+use Rattle.model_receiver.specs.SoftCells.{Reception, reception}
 use Rattle.soft_buffers.specs.Buffers.{Buffers, HaveTaken, Hold}
 use Rattle.soft_buffers.specs.Shown.{shown}
 use Rattle.soft_buffers.proofs.Codewords.{hold-more, taken-whole}

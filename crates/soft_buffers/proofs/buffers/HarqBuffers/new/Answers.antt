@@ -3,8 +3,8 @@ use Rattle.std.specs.List.{range_with_len}
 use Rattle.std.proofs.lemmas.List.{get_or-replicate, length-replicate}
 use Rattle.std.proofs.lemmas.List.FromFn.{length-map-range_with_len}
 use Rattle.lte_bits.proofs.Pushes.{pushed_next}
-use Rattle.sender_model.specs.Segmentation.{Plan, size}
-use Rattle.sender_model.specs.CircularBuffer.{FitsIn}
+use Rattle.model_sender.specs.Segmentation.{Plan, size}
+use Rattle.model_sender.specs.CircularBuffer.{FitsIn}
 use Rattle.segmentation.specs.Shown.{shown}
 use Rattle.rate_match.specs.Matching.{limit_of}
 use Rattle.rate_match.proofs.BlockNumbers.{block-numbers}

@@ -1,8 +1,8 @@
 use Rattle.std.proofs.Common.{◌≡◌, ℕ, ◌<◌, List, [], ℤ, ap, ◌∙◌, arith}
 use Rattle.std.proofs.lemmas.List.{get_or_read}
 use Rattle.std.proofs.lemmas.Result.{IfOk-weaker}
-use Rattle.sender_model.specs.Segmentation.{size, fill}
-use Rattle.receiver_model.specs.SoftCells.{soft_streams}
+use Rattle.model_sender.specs.Segmentation.{size, fill}
+use Rattle.model_receiver.specs.SoftCells.{soft_streams}
 use Rattle.rate_match.proofs.BlockNumbers.{block-numbers}
 use Rattle.soft_buffers.specs.Buffers.{Buffers, cells_of_block, streams_of_cells}
 use Rattle.soft_buffers.specs.Shown.{shown}

@@ -1,7 +1,7 @@
 use Rattle.std.proofs.Common.{ℤ, pos, negsuc, ◌-ℤ◌, ◌≤ℤ◌, Bool, true, false, arith}
 use Rattle.std.proofs.lemmas.Int.{ints}
-use Rattle.sender_model.specs.ConstituentCoder.{zero_state}
-use Rattle.receiver_model.specs.Paths.{same_state}
+use Rattle.model_sender.specs.ConstituentCoder.{zero_state}
+use Rattle.model_receiver.specs.Paths.{same_state}
 use Rattle.window_decode.proofs.EightStates.{border_from}
 use Rattle.window_decode.proofs.border.Border.known.Goals as goal
 

@@ -1,7 +1,7 @@
 use Rattle.std.proofs.Common.{◌≡◌, ℤ, ◌-ℤ◌, ap, sym, ◌∙◌, subst, FitsSigned, to_z, of_z, w16, rules}
 use Rattle.std.proofs.lemmas.Int.{to_z-of_z}
-use Rattle.sender_model.specs.ConstituentCoder.{State, zero_state}
-use Rattle.receiver_model.specs.Borders.{Border, number_for, IsBorder}
+use Rattle.model_sender.specs.ConstituentCoder.{State, zero_state}
+use Rattle.model_receiver.specs.Borders.{Border, number_for, IsBorder}
 use Rattle.window_decode.proofs.EightStates.{border_from, same_eight}
 use Rattle.window_decode.proofs.border.Border.relative.Goals as goal
 

@@ -3,7 +3,7 @@ use Rattle.std.proofs.lemmas.Int.{ints}
 use Rattle.lte_bits.specs.Softs.{IsWithin}
 use Rattle.lte_bits.specs.declared.bit.Bit.{Bit}
 use Rattle.lte_bits.specs.declared.bit.Bit.TheVariants.{Zero}
-use Rattle.receiver_model.specs.Borders.{if_zero, tail_step}
+use Rattle.model_receiver.specs.Borders.{if_zero, tail_step}
 use Rattle.window_decode.proofs.border.Tail.from_state.Goals as goal
 
 -- three elements that are read one by one

@@ -2,8 +2,8 @@ use Rattle.std.proofs.Common.{◌≡◌, ℕ, ℤ, ap, sym, ◌∙◌}
 use Rattle.lte_bits.specs.Softs.{IsWithin}
 use Rattle.lte_bits.specs.declared.bit.Bit.{Bit}
 use Rattle.lte_bits.specs.declared.bit.Bit.TheVariants.{Zero, One}
-use Rattle.sender_model.specs.ConstituentCoder.{State}
-use Rattle.receiver_model.specs.Borders.{state, tail_sum}
+use Rattle.model_sender.specs.ConstituentCoder.{State}
+use Rattle.model_receiver.specs.Borders.{state, tail_sum}
 use Rattle.window_decode.specs.Recursions.{IsBounded}
 use Rattle.window_decode.proofs.Within.{within-same}
 use Rattle.window_decode.proofs.border.Tail.numbers.Goals as goal

@@ -3,7 +3,7 @@ use Rattle.std.specs.Prelude.{int_div, int_lt}
 use Rattle.std.specs.Int.{int_max, int_min}
 use Rattle.std.proofs.lemmas.Int.{ints, clamps}
 use Rattle.lte_bits.specs.Softs.{IsWithin, clamped}
-use Rattle.receiver_model.specs.Windows.{Extrinsic, scaled}
+use Rattle.model_receiver.specs.Windows.{Extrinsic, scaled}
 use Rattle.window_decode.proofs.Within.{within-same}
 use Rattle.window_decode.proofs.Scaling.{quarters}
 use Rattle.window_decode.proofs.ext.Ext.from_extrinsic.Goals as goal

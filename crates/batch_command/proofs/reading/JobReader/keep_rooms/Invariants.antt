@@ -1,5 +1,0 @@
-use Rattle.std.proofs.Common.{◌≡◌}
-use Rattle.batch_command.proofs.reading.JobReader.keep_rooms.Given as goal
-
-abbrev pub invariant-loop-job : goal.invariant-loop-job
-invariant-loop-job l = (l.self.reader ≡ l.initial.self.reader) × (l.self.effort ≡ l.initial.self.effort)

@@ -1,0 +1,42 @@
+//! The decoding of one transport block, as a job.
+ghost use Rattle.std.specs.Prelude.{◌≡◌, ◌≤◌, length};
+ghost use Rattle.block_receive.specs.Receptions.{value_count};
+
+use block_receive::{Effort, receive_alone};
+use coded_stream::Header;
+use command_decode::Received;
+use lte_bits::List;
+use segmentation::plan;
+use std::alloc::Global;
+use stream_loop::softs_of;
+use tb_pipeline::Job;
+
+/// A block of a stream of soft values that is to be decoded: the bytes of its payload, and those of its
+/// transmissions, one transmission after the other.
+#[derive(Drop)]
+pub struct BlockJob {
+    pub alloc: Global,
+    pub effort: Effort,
+    pub header: Header,
+    pub payload: usize,
+    pub bytes: List<u8>,
+    pub ghost some: { 1 ≤ payload },
+    pub ghost few: { payload ≤ header.tb },
+    pub ghost values: { length bytes ≡ value_count header.sends },
+}
+
+impl Job for BlockJob {
+    ghost use Rattle.command_batch.specs.Jobs.{answers};
+
+    type Done = Received;
+
+    ghost answers = { answers };
+
+    fn run(&self) -> Received {
+        let plan = plan(self.payload).unwrap();
+        let softs = softs_of(self.alloc, self.bytes.as_slice())?;
+        let Effort { windows, limit } = self.effort;
+        let sends = &self.header.sends;
+        receive_alone(self.alloc, &plan, sends, windows, limit, softs.as_slice())
+    }
+}

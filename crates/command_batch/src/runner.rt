@@ -1,0 +1,59 @@
+//! Who does the jobs of a round.
+ghost use Rattle.std.specs.Prelude.{◌≡◌, ◌≤◌, ℕ, IfOk, length};
+ghost use Rattle.std.specs.List.{AllZip};
+ghost use Rattle.command_batch.specs.Jobs.{answers};
+
+use crate::job::BlockJob;
+use command_decode::Received;
+use lte_bits::{List, NoMemory};
+use std::alloc::Global;
+
+/// What the jobs of a round give, in their order, or that there was no memory.
+pub type Outcomes = Result<List<Received>, NoMemory>;
+
+/// Who does the jobs of a round, by up to so many pipes.
+pub trait Runner: Drop {
+    // What has to be known of it before it is handed jobs.
+    ghost able: { Self → Type 0 } = { λ _. Unit {0} };
+
+    // How many pipes it has.
+    ghost pipes: { Self → ℕ };
+
+    /// How many pipes it has.
+    fn pipes(&self) -> usize
+        ensures value { result ≡ pipes self.now }
+        ensures some { 1 ≤ result }
+        ensures few { result ≤ 8 };
+
+    /// An answer of each of 1 to 16 jobs, in their order.
+    fn run(&self, alloc: Global, jobs: &[BlockJob]) -> Outcomes
+        requires able { able self.now }
+        requires some { 1 ≤ length jobs.now }
+        requires few { length jobs.now ≤ 16 }
+        ensures { IfOk result (AllZip answers jobs.now) };
+}
+
+/// A closure that does jobs by so many pipes, 1 to 8.
+#[derive(Drop)]
+pub struct Pipes<'a, F: Fn(Global, &[BlockJob], usize) -> Outcomes> {
+    pub run: &'a F,
+    pub pipes: usize,
+    pub ghost some_pipes: { 1 ≤ pipes },
+    pub ghost few_pipes: { pipes ≤ 8 },
+}
+
+impl<'a, F: Fn(Global, &[BlockJob], usize) -> Outcomes> Runner for Pipes<'a, F> {
+    ghost use Rattle.command_batch.specs.Runners.{GivesAnswers, TakesJobs};
+
+    ghost able = { λ s. TakesJobs (F.pre s.run.now) × GivesAnswers (F.post s.run.now) };
+
+    ghost pipes = { λ s. s.pipes };
+
+    fn pipes(&self) -> usize {
+        self.pipes
+    }
+
+    fn run(&self, alloc: Global, jobs: &[BlockJob]) -> Outcomes {
+        (self.run)(alloc, jobs, self.pipes)
+    }
+}

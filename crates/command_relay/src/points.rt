@@ -1,0 +1,78 @@
+//! What `points` sends in place of a transmission.
+ghost use Rattle.std.specs.Prelude.{◌≡◌, IfOk, length};
+ghost use Rattle.qam_points.specs.Reception.{received};
+ghost use Rattle.command_relay.specs.Points.{terms_on};
+
+use crate::bits::bits_in;
+use crate::channel::Channel;
+use crate::receiving::receive;
+use crate::relay::{Transmitter, Turn};
+use coded_stream::{Header, Want};
+use lte_bits::{Bit, List, NoMemory, Soft};
+use qam_points::{demap, map};
+use rate_match::Match;
+use soft_channel::noise_terms;
+use std::alloc::Global;
+use stream_loop::push_bytes;
+
+/// A channel over which bits are sent as points.
+#[derive(Clone, Copy, Debug, Drop)]
+pub struct Points {
+    pub channel: Channel,
+}
+
+impl Points {
+    /// The soft values that are received of the bits of a transmission.
+    fn softs(
+        &self,
+        alloc: Global,
+        turn: Turn,
+        m: &Match,
+        bits: &[Bit],
+    ) -> Result<List<Soft>, NoMemory>
+        requires { length bits.now ≡ m.now.g }
+        ensures { IfOk result (λ softs. softs ≡ received m.now.qm self.now.channel.amp (terms_on (record {
+          strength = record { amp = self.now.channel.amp; noise = self.now.channel.noise };
+          seed = self.now.channel.seed;
+        }) turn.block turn.number m.now) bits.now) }
+    {
+        let Channel { amp, noise, seed } = self.channel;
+        let mut points = map(alloc, bits, m.qm())?;
+        let count = 2 * points.as_slice().len();
+        let block = turn.block as u32;
+        let terms = noise_terms(alloc, count, noise, seed, block, turn.number as u8)?;
+        receive(points.as_mut_slice(), amp, terms.as_slice());
+        demap(alloc, points.as_slice(), m.qm(), amp)
+    }
+}
+
+impl Transmitter for Points {
+    ghost use Rattle.command_relay.specs.Points.{sending_points};
+
+    ghost relaying = { λ s. sending_points (record {
+      strength = record { amp = s.channel.amp; noise = s.channel.noise };
+      seed = s.channel.seed;
+    }) };
+
+    fn want(&self) -> Want {
+        self.channel.want()
+    }
+
+    fn header(&self, header: &Header) -> Header {
+        self.channel.header(header)
+    }
+
+    fn push(
+        &self,
+        alloc: Global,
+        text: &mut Vec<u8>,
+        _header: &Header,
+        turn: Turn,
+        m: &Match,
+        bytes: &[u8],
+    ) -> Result<(), NoMemory> {
+        let bits = bits_in(alloc, m, bytes)?;
+        let softs = self.softs(alloc, turn, m, bits.as_slice())?;
+        push_bytes(text, softs.as_slice())
+    }
+}

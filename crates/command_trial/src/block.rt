@@ -1,0 +1,94 @@
+//! One block of a trial.
+ghost use Rattle.std.specs.Prelude.{◌≡◌, ◌≤◌, ◌<◌, ◌+◌, ◌++◌, IfOk, length};
+ghost use Rattle.model_sender.specs.Segmentation.{plan_of};
+ghost use Rattle.model_sender.specs.CircularBuffer.{Fits};
+ghost use Rattle.block_receive.specs.Receptions.{value_count};
+ghost use Rattle.command_trial.specs.Shown.{trial_of};
+ghost use Rattle.command_trial.specs.Trials.{block_outcome, payload, received, softs};
+
+use crate::trial::Trial;
+use block_receive::receive_alone;
+use lte_bits::{NoMemory, Soft};
+use model_receiver::TbOutcome;
+use rate_match::Coded;
+use rate_match::sends::Sending;
+use segmentation::plan;
+use soft_channel::noisy;
+use std::alloc::Global;
+
+impl Trial {
+    /// Appends what is received of a transmission of a block, both counted from 0.
+    #[tactic(auto, using(soft_channel::proofs::Lengths::length_noisy))]
+    fn push_received(
+        &self,
+        alloc: Global,
+        values: &mut Vec<Soft>,
+        sending: &Sending,
+        block: usize,
+        number: usize,
+        sent: &Coded,
+    ) -> Result<(), NoMemory>
+        requires block { block < 4096 }
+        requires number { number < 8 }
+        requires sent { sent.now ≡ payload (trial_of self.now) block }
+        requires long { length sent.now ≡ self.now.tb }
+        requires fits { Fits sending.now.m (plan_of self.now.tb) }
+        requires version { sending.now.rv ≤ 3 }
+        ensures values { IfOk result (λ _. values.new.items ≡ values.old.items
+            ++ received (trial_of self.now) block number sending.now) }
+        ensures count { IfOk result (λ _. length values.new.items
+            ≡ length values.old.items + sending.now.m.g) }
+    {
+        let bits = sent.codeword(alloc, &sending.m, sending.rv)?;
+        let block = block as u32;
+        let number = number as u8;
+        let softs = noisy(
+            alloc,
+            bits.as_slice(),
+            self.amp,
+            self.noise,
+            self.seed,
+            block,
+            number,
+        )?;
+        values.extend_from_slice(softs.as_slice())?;
+        Ok(())
+    }
+
+    /// The soft values that are received of all transmissions of a block, one transmission after the other.
+    fn softs(&self, alloc: Global, block: usize, sent: &[u8]) -> Result<Vec<Soft>, NoMemory>
+        requires block { block < 4096 }
+        requires sent { sent.now ≡ payload (trial_of self.now) block }
+        requires long { length sent.now ≡ self.now.tb }
+        ensures values { IfOk result (λ values. values.items ≡ softs (trial_of self.now) block) }
+        ensures count { IfOk result (λ values. length values.items ≡ value_count self.now.sends) }
+    {
+        let coded = Coded::new(alloc, sent)?;
+        let mut values = Vec::new(alloc);
+        for number in 0..self.sends.len() {
+            let (m, rv) = self.sends.at(number);
+            let sending = Sending { m, rv };
+            self.push_received(alloc, &mut values, &sending, block, number, &coded)?;
+        }
+        Ok(values)
+    }
+
+    /// What the reception of a block comes to, whose payload is `sent`.
+    pub fn outcome(&self, alloc: Global, block: usize, sent: &[u8]) -> Result<TbOutcome, NoMemory>
+        requires block { block < 4096 }
+        requires sent { sent.now ≡ payload (trial_of self.now) block }
+        requires long { length sent.now ≡ self.now.tb }
+        ensures { IfOk result (λ o. o ≡ block_outcome (trial_of self.now) block) }
+    {
+        let plan = plan(self.tb).unwrap();
+        let softs = self.softs(alloc, block, sent)?;
+        receive_alone(
+            alloc,
+            &plan,
+            &self.sends,
+            self.effort.windows,
+            self.effort.limit,
+            softs.as_slice(),
+        )
+    }
+}

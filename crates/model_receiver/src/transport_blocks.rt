@@ -1,0 +1,26 @@
+//! Laws of a transport block's reception. Each function computes nothing: its contract is the law.
+ghost use Rattle.std.specs.Prelude.{◌≡◌, ℕ, ◌*◌, ◌≤◌, List};
+ghost use Prim.Native.Nat.{◌∣◌};
+ghost use Rattle.model_sender.specs.Segmentation.{Plan};
+ghost use Rattle.model_receiver.specs.SoftCells.{Reception};
+ghost use Rattle.model_receiver.specs.TransportBlocks.{Effort, delivering_try, outcome, outcome_in, window_count};
+
+/// The number of windows is the one that divides the block, leaves each window 8 positions, isn't above
+/// the limit, and that none such exceeds.
+pub fn window_counts_are_the_greatest()
+    ensures { (k m d : ℕ) → 1 ≤ d → d ∣ k → 8 * d ≤ k → d ≤ m →
+        ((n : ℕ) → n ∣ k → 8 * n ≤ k → n ≤ m → n ≤ d) → window_count k m ≡ d }
+{}
+
+/// The outcome is that of the first try that delivers, by its number; where there is none, of the last.
+pub fn the_first_delivery_decides()
+    ensures { (plan : Plan) (e : Effort) (xs : List Reception) →
+        outcome plan e xs ≡ outcome_in plan e xs (delivering_try plan e xs) }
+{}
+
+/// Worked: blocks of 40, 3072 and 6144 bits, for at most 8, 8 and 64 windows.
+pub fn worked_window_counts()
+    ensures smallest { window_count 40 8 ≡ 5 }
+    ensures middle { window_count 3072 8 ≡ 8 }
+    ensures greatest { window_count 6144 64 ≡ 64 }
+{}

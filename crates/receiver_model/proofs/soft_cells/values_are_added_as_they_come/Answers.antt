@@ -1,5 +1,0 @@
-use Rattle.receiver_model.proofs.SoftSums.{cell-more}
-use Rattle.receiver_model.proofs.soft_cells.values_are_added_as_they_come.Goals as goal
-
-pub returns : goal.returns
-returns c = cell-more

@@ -1,5 +1,0 @@
-use Rattle.relay_commands.proofs.TwoBits.{same_text}
-use Rattle.relay_commands.proofs.laws.two_bits_a_point_are_sent_as_by_themselves.Goals as goal
-
-pub returns : goal.returns
-returns c n h block number m bytes some two is one = same_text n h block number m bytes some two is one

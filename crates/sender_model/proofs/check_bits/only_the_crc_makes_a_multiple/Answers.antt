@@ -1,9 +1,0 @@
-use Rattle.sender_model.specs.CheckBits.{crc24a, crc24b}
-use Rattle.sender_model.proofs.CheckBitLaws.{crc24a-monic, crc24b-monic, crc-is}
-use Rattle.sender_model.proofs.check_bits.only_the_crc_makes_a_multiple.Goals as goal
-
-pub returns-clause-a : goal.returns-clause-a
-returns-clause-a c = λ bits. (crc-is crc24a bits crc24a-monic).only
-
-pub returns-clause-b : goal.returns-clause-b
-returns-clause-b c = λ bits. (crc-is crc24b bits crc24b-monic).only

@@ -1,5 +1,0 @@
-use Rattle.sender_model.proofs.StreamNulls.{streams-nulls}
-use Rattle.sender_model.proofs.circular_buffer.streams_have_nulls_at_fillers.Goals as goal
-
-pub returns : goal.returns
-returns c = streams-nulls

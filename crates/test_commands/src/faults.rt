@@ -1,0 +1,131 @@
+//! Each read and each write of a run failing in turn: what stands then is a part of what the run
+//! without a fault wrote.
+use std::process::Abort;
+use std::test::Fail;
+use test_runs::{Edges, Ran, run_of, sound};
+use turbo_run::{SinkName, Status};
+
+/// A run, and of its text the bytes of the opening, of a block's input, and of a whole block.
+#[derive(Clone, Copy)]
+struct Case {
+    line: &'static str,
+    input: &'static [u8],
+    opening: usize,
+    size: usize,
+    text: usize,
+}
+
+const CASES: [Case; 3] = [
+    Case {
+        line: "codeword g=132 qm=2 rv=0",
+        input: &[0, 1],
+        opening: 0,
+        size: 3,
+        text: 17,
+    },
+    Case {
+        line: "encode tb=2 g=116 qm=2 rv=0",
+        input: &[0, 0, 1],
+        opening: 19,
+        size: 2,
+        text: 19,
+    },
+    Case {
+        line: "encode tb=1 g=132,8 qm=2,4 rv=0,2",
+        input: &[0, 1, 5],
+        opening: 26,
+        size: 1,
+        text: 22,
+    },
+];
+
+fn failing<'a>(reads: &'a [u64], outs: &'a [u64], reports: &'a [u64]) -> Edges<'a> {
+    Edges {
+        piece: 1,
+        reads,
+        outs,
+        reports,
+    }
+}
+
+/// How a run ended, and how much it wrote of what the run without a fault wrote.
+fn assert_ran(
+    rt: &(impl Abort + AllocGlobal),
+    ran: &Ran,
+    whole: &Ran,
+    want: (Status, usize, &str),
+) {
+    assert_eq!(rt; ran.status, want.0);
+    let all = whole.out.bytes();
+    assert_eq!(rt; ran.out.bytes(), &all[..want.1.min(all.len())]);
+    assert_eq!(rt; ran.report.bytes(), want.2.as_bytes());
+}
+
+#[test]
+fn each_read_fails_in_turn(rt: HostRuntime) -> Result<(), Fail> {
+    for case in CASES {
+        let whole = run_of(rt.alloc(), case.line, case.input, sound(1))?;
+        assert_eq!(rt; whole.status, Status::Done);
+        // A read takes one byte, and the last finds the end.
+        for n in 0..=case.input.len() {
+            let calls = [n as u64];
+            let edges = failing(&calls, &[], &[]);
+            let ran = run_of(rt.alloc(), case.line, case.input, edges)?;
+            let blocks = n / case.size.max(1);
+            let stands = case
+                .opening
+                .saturating_add(blocks.saturating_mul(case.text));
+            assert_ran(
+                &rt,
+                &ran,
+                &whole,
+                (Status::ReadFault, stands, "read fault\n"),
+            );
+        }
+    }
+    Ok(())
+}
+
+#[test]
+fn each_write_fails_in_turn(rt: HostRuntime) -> Result<(), Fail> {
+    let out = SinkName::Out;
+    let report = SinkName::Report;
+    for case in CASES {
+        let whole = run_of(rt.alloc(), case.line, case.input, sound(1))?;
+        for n in 0..whole.out.bytes().len() {
+            let calls = [n as u64];
+            let edges = failing(&[], &calls, &[]);
+            let ran = run_of(rt.alloc(), case.line, case.input, edges)?;
+            let fault = Status::WriteFault { sink: out };
+            assert_ran(&rt, &ran, &whole, (fault, n, "write fault out\n"));
+        }
+        for n in 0..whole.report.bytes().len() {
+            let calls = [n as u64];
+            let edges = failing(&[], &[], &calls);
+            let ran = run_of(rt.alloc(), case.line, case.input, edges)?;
+            assert_eq!(rt; ran.status, Status::WriteFault { sink: report });
+            assert_eq!(rt; ran.out.bytes(), whole.out.bytes());
+            let line = whole.report.bytes();
+            assert_eq!(rt; ran.report.bytes(), &line[..n.min(line.len())]);
+        }
+    }
+    Ok(())
+}
+
+#[test]
+fn the_line_of_a_fault_may_fail_itself(rt: HostRuntime) -> Result<(), Fail> {
+    let line = b"read fault\n";
+    for command in [
+        "codeword g=132 qm=2 rv=0",
+        "encode tb=2 g=132 qm=2 rv=0",
+        "decode",
+    ] {
+        for n in 0..line.len() {
+            let calls = [n as u64];
+            let ran = run_of(rt.alloc(), command, &[0, 1], failing(&[0], &[], &calls))?;
+            assert_eq!(rt; ran.status, Status::ReadFault);
+            assert_eq!(rt; ran.report.bytes(), &line[..n], "of {command}");
+        }
+    }
+    Ok(())
+}

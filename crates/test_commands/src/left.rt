@@ -1,0 +1,38 @@
+//! What runs leave of their input: nothing once they are done, what stands behind a refused unit, and all of
+//! it where nothing is to be read.
+use std::test::Fail;
+use test_runs::{END, LENGTH_2, SOFT, joined, run_of, sound};
+
+#[test]
+fn no_byte_behind_a_refused_unit_is_taken(rt: HostRuntime) -> Result<(), Fail> {
+    let stream = joined(rt.alloc(), &[&SOFT, &LENGTH_2, &[0; 132], &END])?;
+    let longer = joined(rt.alloc(), &[&stream, &[0; 5]])?;
+    let mut too_long = stream.clone()?;
+    if let Some(byte) = too_long.get_mut(22) {
+        *byte = 3;
+    }
+    let zeros = vec![in rt.alloc(); 0u8; 18_730]?;
+    let rows: [(&str, &[u8], usize); 10] = [
+        ("encode tb=2 g=132 qm=2 rv=0", &[0, 1], 0),
+        ("codeword g=132 qm=2 rv=0", &[0, 1], 0),
+        ("decode", &stream, 0),
+        ("decode", &longer, 4),
+        ("decode", &too_long, 136),
+        ("channel amp=40 noise=0 seed=1", &stream, 141),
+        ("codeword g=2 qm=2 rv=0", &zeros, 7),
+        ("encode tb=1 g=2 qm=2 rv=0", &zeros[..4100], 3),
+        ("encode tb=0", &[0, 1], 2),
+        (
+            "trial seed=1 blocks=1 tb=2 g=132 qm=2 rv=0 amp=40 noise=0",
+            b"left",
+            4,
+        ),
+    ];
+    for (line, input, left) in rows {
+        for piece in [1, 7] {
+            let ran = run_of(rt.alloc(), line, input, sound(piece))?;
+            assert_eq!(rt; ran.left, left, "of {line}");
+        }
+    }
+    Ok(())
+}
