@@ -5,8 +5,8 @@ use Rattle.std.proofs.lemmas.Int.{ints}
 use Rattle.lte_bits.specs.Softs.{IsWithin}
 use Rattle.lte_bits.specs.declared.bit.Bit.{Bit}
 use Rattle.lte_bits.specs.declared.bit.Bit.TheVariants.{Zero, One}
-use Rattle.model_sender.specs.ConstituentCoder.{State}
-use Rattle.model_receiver.specs.Borders.{state, state_number, number_for, at}
+use Rattle.model_sender.specs.ConstituentCoder.{State, state_number}
+use Rattle.model_receiver.specs.Borders.{state, number_for, at}
 use Rattle.window_decode.proofs.Within.{within-same}
 use Rattle.window_decode.proofs.EightStates.{by_eight}
 use Rattle.window_decode.proofs.LaneKernel.{relative-numbers}

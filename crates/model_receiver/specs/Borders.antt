@@ -1,17 +1,13 @@
 -- Borders between windows: a number for each state of the trellis, relative to that of state 0.
 use Rattle.std.specs.Prelude.{◌≡◌, ℕ, ◌+◌, ◌*◌, ℤ, pos, neg_ℤ, ◌+ℤ◌, ◌-ℤ◌, ◌≤ℤ◌, List, [], ◌∷◌, length, map, replicate, slice_index_or}
-use Rattle.lte_bits.specs.Bits.{digit}
 use Rattle.lte_bits.specs.declared.bit.Bit.{Bit}
 use Rattle.lte_bits.specs.declared.bit.Bit.TheVariants.{Zero, One}
-use Rattle.model_sender.specs.ConstituentCoder.{State, zero_state}
+use Rattle.model_sender.specs.ConstituentCoder.{State, zero_state, state_number}
 use Rattle.model_sender.specs.Tail.{tail_input, tail_parity}
 
 -- the state with three last values, the newest first
 abbrev pub state : Bit → Bit → Bit → State
 state a b c = record { a1 = a; a2 = b; a3 = c }
-
-abbrev pub state_number : State → ℕ
-state_number s = 4 * digit s.a1 + 2 * digit s.a2 + digit s.a3
 
 -- the eight states, in order of their numbers
 abbrev pub states : List State

@@ -1,5 +1,6 @@
 -- The constituent coder (36.212 5.1.3.2.1) and its tail (5.1.3.2.2).
-use Rattle.std.specs.Prelude.{◌≡◌, ℕ, suc, ◌<◌, List, [], ◌∷◌, length}
+use Rattle.std.specs.Prelude.{◌≡◌, ℕ, suc, ◌+◌, ◌*◌, ◌<◌, List, [], ◌∷◌, length}
+use Rattle.lte_bits.specs.Bits.{digit}
 use Rattle.lte_bits.specs.declared.bit.Bit.{Bit}
 use Rattle.lte_bits.specs.declared.bit.Bit.TheVariants.{Zero}
 use Rattle.model_sender.specs.Bits.{plus, at}
@@ -12,6 +13,10 @@ pub record State : Type 0 where
 
 abbrev pub zero_state : State
 zero_state = record { a1 = Zero; a2 = Zero; a3 = Zero }
+
+-- 4 a(k-1) + 2 a(k-2) + a(k-3)
+abbrev pub state_number : State → ℕ
+state_number s = 4 * digit s.a1 + 2 * digit s.a2 + digit s.a3
 
 -- place k of it is a(k - 3), where a goes on from a state
 abbrev pub past : State → List Bit → List Bit

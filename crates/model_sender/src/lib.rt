@@ -10,5 +10,5 @@ pub mod segmentation;
 pub mod selection;
 pub mod spot;
 
-pub use rows::{ROWS, Row};
+pub use rows::{ROWS, Row, table};
 pub use spot::Spot;

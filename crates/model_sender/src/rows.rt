@@ -1,4 +1,6 @@
 //! The table of the internal interleaver (36.212, table 5.1.3-3).
+ghost use Rattle.std.specs.Prelude.{◌≡◌, map};
+ghost use Rattle.model_sender.specs.Interleaver.{sizes};
 
 /// A row of the table: K, f1 and f2.
 #[derive(Clone, Copy, Debug, PartialEq, Eq)]
@@ -195,3 +197,11 @@ pub const ROWS: [Row; 188] = [
     Row(6080, 47, 190),
     Row(6144, 263, 480),
 ];
+
+/// The rows of the table, in order of K, and so the sizes of code blocks.
+pub fn table() -> &'static [Row]
+    ensures rows { result.now ≡ ROWS }
+    ensures sizes { map (λ row. row.0) result.now ≡ sizes }
+{
+    &ROWS
+}

@@ -9,14 +9,7 @@ use crate::groups::{
     fill_1952_to_3328, fill_3392_to_4864, fill_4928_to_6144,
 };
 use crate::interleaver::Qpp;
-use model_sender::{ROWS, Row};
-
-/// The rows of the table.
-fn rows() -> &'static [Row]
-    ensures { result.now ≡ ROWS }
-{
-    &ROWS
-}
+use model_sender::{Row, table};
 
 /// The first of some rows that has the size `k`.
 fn find_row(rows: &[Row], k: usize) -> Option<Row>
@@ -32,7 +25,7 @@ pub fn qpp(k: usize) -> Option<Qpp>
     ensures size { IfSome result (λ q. size_in q ≡ k) }
     ensures place { IfSome result (λ q. (i : ℕ) → value_at q i ≡ place k i) }
 {
-    match find_row(rows(), k) {
+    match find_row(table(), k) {
         Some(row) => Some(Qpp::of_row(row)),
         None => None,
     }

@@ -32,7 +32,7 @@ fn bit(is_one: bool) -> Bit
 
 impl State {
     ghost use Rattle.model_sender.specs.ConstituentCoder.{zero_state};
-    ghost use Rattle.rsc_trellis.specs.Number.{number_of};
+    ghost use Rattle.model_sender.specs.ConstituentCoder.{state_number};
 
     /// The state in which the coder starts and ends.
     pub const ZERO: State = State {
@@ -44,7 +44,7 @@ impl State {
     /// The state with a number, and `None` exactly above 7.
     pub fn new(s: u8) -> Option<State>
         ensures none { IsNone result ↔ (7 < s) }
-        ensures number { IfSome result (λ state. number_of state ≡ s) }
+        ensures number { IfSome result (λ state. state_number state ≡ s) }
     {
         if s > 7 {
             return None;
@@ -65,7 +65,7 @@ impl State {
 
     /// The state's number, 0 to 7.
     pub fn number(self) -> u8
-        ensures value { result ≡ number_of self }
+        ensures value { result ≡ state_number self }
         ensures small { result < 8 }
     {
         4 * u8::from(self.a1) + 2 * u8::from(self.a2) + u8::from(self.a3)

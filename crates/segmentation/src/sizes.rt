@@ -3,14 +3,7 @@ ghost use Rattle.std.specs.Prelude.{◌≡◌, ◌≤◌, ◌<◌, ◌*◌, ◌�
 ghost use Rattle.model_sender.specs.Interleaver.{sizes};
 ghost use Rattle.model_sender.specs.Segmentation.{larger_size, smaller_size};
 
-use model_sender::{ROWS, Row};
-
-/// The rows of the table, in order of K.
-fn rows() -> &'static [Row]
-    ensures { map (λ row. row.0) result.now ≡ sizes }
-{
-    &ROWS
-}
+use model_sender::{Row, table};
 
 /// The first size that is not below `low`.
 fn first_from(rows: &[Row], low: usize) -> Option<usize>
@@ -35,7 +28,7 @@ pub(crate) fn larger_size(c: usize, n: usize) -> usize
     requires room { n ≤ c * 6144 }
     ensures { result ≡ larger_size c n }
 {
-    first_from(rows(), n.div_ceil(c)).unwrap()
+    first_from(table(), n.div_ceil(c)).unwrap()
 }
 
 /// K-, the greatest size below K+, where there are several blocks.
@@ -46,6 +39,6 @@ pub(crate) fn smaller_size(c: usize, k_plus: usize) -> usize
     if c == 1 {
         0
     } else {
-        last_below(rows(), k_plus).unwrap()
+        last_below(table(), k_plus).unwrap()
     }
 }

@@ -9,12 +9,11 @@ use Rattle.lte_bits.specs.Bits.{cell_of, number}
 use Rattle.lte_bits.specs.declared.bit.Bit.{Bit}
 use Rattle.lte_bits.specs.declared.bit.Bit.TheVariants.{Zero, One}
 use Rattle.lte_bits.specs.declared.bit.Cell.{Cell}
-use Rattle.model_sender.specs.ConstituentCoder.{State, next, parity, parities_from, zero_state, parities}
+use Rattle.model_sender.specs.ConstituentCoder.{State, next, parity, parities_from, zero_state, parities, state_number}
 use Rattle.model_sender.specs.CodedStreams.{cells_of}
 use Rattle.model_sender.specs.Interleaver.{sizes}
 use Rattle.model_sender.proofs.BitNumbers.{digit-lt, same_number}
 use Rattle.model_sender.specs.Tail.{reached}
-use Rattle.rsc_trellis.specs.Number.{number_of}
 use Rattle.turbo_encode.specs.Tables.{entry}
 use Rattle.turbo_encode.specs.declared.fours.TheConstants.{PARITIES, NEXT, CELLS}
 
@@ -36,10 +35,10 @@ abbrev four : Bit → Bit → Bit → Bit → List Bit
 four a b c d = a ∷ b ∷ c ∷ d ∷ []
 
 abbrev next_test : Bit → Bit → Bit → Bit → Bit → Bit → Bit → Bool
-next_test x y z a b c d = number_of (reached (state_of x y z) (four a b c d)) == entry NEXT (number (four a b c d)) (number_of (state_of x y z))
+next_test x y z a b c d = state_number (reached (state_of x y z) (four a b c d)) == entry NEXT (number (four a b c d)) (state_number (state_of x y z))
 
 abbrev parity_test : Bit → Bit → Bit → Bit → Bit → Bit → Bit → Bool
-parity_test x y z a b c d = number (parities_from (state_of x y z) (four a b c d)) == entry PARITIES (number (four a b c d)) (number_of (state_of x y z))
+parity_test x y z a b c d = number (parities_from (state_of x y z) (four a b c d)) == entry PARITIES (number (four a b c d)) (state_number (state_of x y z))
 
 next_passed : all_bits (λ x. all_bits (λ y. all_bits (λ z. all_bits (λ a. all_bits (λ b. all_bits (λ c. all_bits (λ d. next_test x y z a b c d))))))) ≡ true
 next_passed = refl
@@ -68,23 +67,23 @@ parity-test x y z a b c d =
     (each-bit (λ x. all_bits (λ y. all_bits (λ z. all_bits (λ a. all_bits (λ b. all_bits (λ c. all_bits (λ d. parity_test x y z a b c d))))))) parity_passed x) y) z) a) b) c) d
 
 -- the state after four inputs, and the number of their parity bits
-pub next-entry : (s : State) (bits : List Bit) (n i : ℕ) → length bits ≡ 4 → number_of s ≡ n → i ≡ number bits → number_of (reached s bits) ≡ entry NEXT i n
+pub next-entry : (s : State) (bits : List Bit) (n i : ℕ) → length bits ≡ 4 → state_number s ≡ n → i ≡ number bits → state_number (reached s bits) ≡ entry NEXT i n
 next-entry s [] n i long at is = absurd (omega (arith, long))
 next-entry s (a ∷ []) n i long at is = absurd (omega (arith, long))
 next-entry s (a ∷ b ∷ []) n i long at is = absurd (omega (arith, long))
 next-entry s (a ∷ b ∷ c ∷ []) n i long at is = absurd (omega (arith, long))
 next-entry s (a ∷ b ∷ c ∷ d ∷ []) n i long at is =
-    eqb-true (number_of (reached s (four a b c d))) (entry NEXT (number (four a b c d)) (number_of s)) (next-test s.a1 s.a2 s.a3 a b c d)
+    eqb-true (state_number (reached s (four a b c d))) (entry NEXT (number (four a b c d)) (state_number s)) (next-test s.a1 s.a2 s.a3 a b c d)
     ∙ ap (entry NEXT (number (four a b c d))) at ∙ ap (λ m. entry NEXT m n) (sym is)
 next-entry s (a ∷ b ∷ c ∷ d ∷ e ∷ rest) n i long at is = absurd (omega (arith, long))
 
-pub parity-entry : (s : State) (bits : List Bit) (n i : ℕ) → length bits ≡ 4 → number_of s ≡ n → i ≡ number bits → number (parities_from s bits) ≡ entry PARITIES i n
+pub parity-entry : (s : State) (bits : List Bit) (n i : ℕ) → length bits ≡ 4 → state_number s ≡ n → i ≡ number bits → number (parities_from s bits) ≡ entry PARITIES i n
 parity-entry s [] n i long at is = absurd (omega (arith, long))
 parity-entry s (a ∷ []) n i long at is = absurd (omega (arith, long))
 parity-entry s (a ∷ b ∷ []) n i long at is = absurd (omega (arith, long))
 parity-entry s (a ∷ b ∷ c ∷ []) n i long at is = absurd (omega (arith, long))
 parity-entry s (a ∷ b ∷ c ∷ d ∷ []) n i long at is =
-    eqb-true (number (parities_from s (four a b c d))) (entry PARITIES (number (four a b c d)) (number_of s)) (parity-test s.a1 s.a2 s.a3 a b c d)
+    eqb-true (number (parities_from s (four a b c d))) (entry PARITIES (number (four a b c d)) (state_number s)) (parity-test s.a1 s.a2 s.a3 a b c d)
     ∙ ap (entry PARITIES (number (four a b c d))) at ∙ ap (λ m. entry PARITIES m n) (sym is)
 parity-entry s (a ∷ b ∷ c ∷ d ∷ e ∷ rest) n i long at is = absurd (omega (arith, long))
 
@@ -117,7 +116,7 @@ cells-entry (a ∷ b ∷ c ∷ d ∷ e ∷ rest) n long is = absurd (omega (arit
 
 -- ---- states and their numbers
 
-pub numbered : (n : ℕ) → n < 8 → (s : State) × (number_of s ≡ n)
+pub numbered : (n : ℕ) → n < 8 → (s : State) × (state_number s ≡ n)
 numbered n below = elim (cases_lt n 4) [
   | inl low ↦ elim (cases_lt n 2) [
     | inl lower ↦ elim (cases_lt n 1) [ inl h ↦ (state_of Zero Zero Zero, omega (arith, h)) | inr h ↦ (state_of Zero Zero One, omega (arith, h, lower)) ]
@@ -135,12 +134,12 @@ bits_of s = s.a1 ∷ s.a2 ∷ s.a3 ∷ []
 state_with : List Bit → State
 state_with bits = state_of (get_or bits 0 Zero) (get_or bits 1 Zero) (get_or bits 2 Zero)
 
-pub same_state : (s t : State) → number_of s ≡ number_of t → s ≡ t
+pub same_state : (s t : State) → state_number s ≡ state_number t → s ≡ t
 unfolding bits_of state_with
 same_state s t e = ap state_with (same_number (bits_of s) (bits_of t) refl (omega (arith, e)))
 
-pub number_of-small : (s : State) → number_of s < 8
-number_of-small s = omega (arith, digit-lt s.a1, digit-lt s.a2, digit-lt s.a3)
+pub state_number-small : (s : State) → state_number s < 8
+state_number-small s = omega (arith, digit-lt s.a1, digit-lt s.a2, digit-lt s.a3)
 
 -- ---- inputs after inputs
 
@@ -152,8 +151,8 @@ parities-append : (xs ys : List Bit) (s : State) → parities_from s (xs ++ ys) 
 parities-append [] ys s = refl
 parities-append (x ∷ xs) ys s = ap (λ zs. parity s x ∷ zs) (parities-append xs ys (next s x))
 
-pub reached_more : (xs ys four : List Bit) (n : ℕ) → ys ≡ xs ++ four → number_of (reached (reached zero_state xs) four) ≡ n → number_of (reached zero_state ys) ≡ n
-reached_more xs ys four n is at = ap (λ zs. number_of (reached zero_state zs)) is ∙ ap number_of (reached-append xs four zero_state) ∙ at
+pub reached_more : (xs ys four : List Bit) (n : ℕ) → ys ≡ xs ++ four → state_number (reached (reached zero_state xs) four) ≡ n → state_number (reached zero_state ys) ≡ n
+reached_more xs ys four n is at = ap (λ zs. state_number (reached zero_state zs)) is ∙ ap state_number (reached-append xs four zero_state) ∙ at
 
 pub cells_more : (xs ys four : List Bit) (old new cells : List Cell) → ys ≡ xs ++ four → old ≡ cells_of (parities xs) → new ≡ old ++ cells → cells ≡ cells_of (parities_from (reached zero_state xs) four) → new ≡ cells_of (parities ys)
 cells_more xs ys four old new cells is before push made =

@@ -2,10 +2,9 @@
 ghost use Rattle.std.specs.Prelude.{◌≡◌, ◌<◌, List, length};
 ghost use Rattle.lte_bits.specs.declared.bit.Bit.{Bit};
 ghost use Rattle.lte_bits.specs.Bits.{number};
-ghost use Rattle.model_sender.specs.ConstituentCoder.{State as Register, parities_from};
+ghost use Rattle.model_sender.specs.ConstituentCoder.{State as Register, parities_from, state_number};
 ghost use Rattle.model_sender.specs.CodedStreams.{cells_of};
 ghost use Rattle.model_sender.specs.Tail.{reached};
-ghost use Rattle.rsc_trellis.specs.Number.{number_of};
 ghost use Rattle.turbo_encode.specs.Tables.{entry};
 
 use lte_bits::{Bit, Cell};
@@ -115,8 +114,8 @@ fn cells(n: usize) -> [Cell; 4]
 /// Four steps from the state with a number.
 pub fn four_steps(state: usize, four: &[Bit; 4]) -> Steps
     requires { state < 8 }
-    ensures cells { (s : Register) → number_of s ≡ state → result.cells ≡ cells_of (parities_from s four.now) }
-    ensures next { (s : Register) → number_of s ≡ state → number_of (reached s four.now) ≡ result.next }
+    ensures cells { (s : Register) → state_number s ≡ state → result.cells ≡ cells_of (parities_from s four.now) }
+    ensures next { (s : Register) → state_number s ≡ state → state_number (reached s four.now) ≡ result.next }
     ensures small { result.next < 8 }
 {
     let inputs = number(four);

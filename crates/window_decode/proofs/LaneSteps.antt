@@ -11,8 +11,8 @@ use mir.Val.{to_z, of_z, SFits}
 use Rattle.lte_bits.specs.Softs.{IsWithin}
 use Rattle.lte_bits.specs.declared.bit.Bit.{Bit}
 use Rattle.lte_bits.specs.declared.bit.Bit.TheVariants.{Zero, One}
-use Rattle.model_sender.specs.ConstituentCoder.{State}
-use Rattle.model_receiver.specs.Borders.{state, states, state_number, number_for, border_of, if_zero}
+use Rattle.model_sender.specs.ConstituentCoder.{State, state_number}
+use Rattle.model_receiver.specs.Borders.{state, states, number_for, border_of, if_zero}
 use Rattle.window_decode.specs.Recursions.{IsBounded}
 use Rattle.window_decode.specs.Lanes.{IsLanes}
 use Rattle.window_decode.proofs.Within.{within-same}

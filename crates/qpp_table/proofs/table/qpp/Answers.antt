@@ -34,22 +34,22 @@ values_agree : (k : ℕ) (q r : Row) → q ≡ r → r ≡ row_of k → r.0 ≡ 
 values_agree k q r e own same i = ap (λ (s : Row). pi s.0 s.1 s.2 i) e ∙ (ap (λ (n : ℕ). pi n r.1 r.2 i) same ∙ ap (λ (s : Row). pi k s.1 s.2 i) own)
 
 pub of_row-requires : goal.of_row-requires
-of_row-requires c = (looked_up c.args.k c.find_row.ensures c.rows.ensures c.in-Some.is).kept
+of_row-requires c = (looked_up c.args.k c.find_row.ensures c.table.ensures.rows c.in-Some.is).kept
 
 pub returns-in-Some-clause-some : goal.returns-in-Some-clause-some
-returns-in-Some-clause-some c = ((λ _. (looked_up c.args.k c.find_row.ensures c.rows.ensures c.in-Some.is).size), (λ _. refl))
+returns-in-Some-clause-some c = ((λ _. (looked_up c.args.k c.find_row.ensures c.table.ensures.rows c.in-Some.is).size), (λ _. refl))
 
 pub returns-in-Some-clause-row : goal.returns-in-Some-clause-row
-returns-in-Some-clause-row c = c.of_row.ensures ∙ (looked_up c.args.k c.find_row.ensures c.rows.ensures c.in-Some.is).own
+returns-in-Some-clause-row c = c.of_row.ensures ∙ (looked_up c.args.k c.find_row.ensures c.table.ensures.rows c.in-Some.is).own
 
 pub returns-in-Some-clause-size : goal.returns-in-Some-clause-size
-returns-in-Some-clause-size c = ap (λ (r : Row). r.0) c.of_row.ensures ∙ (looked_up c.args.k c.find_row.ensures c.rows.ensures c.in-Some.is).same
+returns-in-Some-clause-size c = ap (λ (r : Row). r.0) c.of_row.ensures ∙ (looked_up c.args.k c.find_row.ensures c.table.ensures.rows c.in-Some.is).same
 
 pub returns-in-Some-clause-place : goal.returns-in-Some-clause-place
 returns-in-Some-clause-place c =
-    let found = looked_up c.args.k c.find_row.ensures c.rows.ensures c.in-Some.is in
+    let found = looked_up c.args.k c.find_row.ensures c.table.ensures.rows c.in-Some.is in
     values_agree c.args.k (row_in c.of_row.result) c.in-Some.row c.of_row.ensures found.own found.same
 
 pub returns-in-None-clause-some : goal.returns-in-None-clause-some
 returns-in-None-clause-some c =
-    ((λ h. absurd (cc)), (λ h. absurd (no_size-of_find c.args.k (in_table c.args.k c.find_row.ensures c.rows.ensures c.in-None.is) h)))
+    ((λ h. absurd (cc)), (λ h. absurd (no_size-of_find c.args.k (in_table c.args.k c.find_row.ensures c.table.ensures.rows c.in-None.is) h)))

@@ -11,10 +11,10 @@ among_sizes {rows = rows} c n low e q r = e ∙ (ap (λ (k : ℕ). find (λ size
 
 pub unwrap-requires : goal.unwrap-requires
 unwrap-requires c =
-    let e = among_sizes c.args.c c.args.n _ c.first_from.ensures c.div_ceil.ensures c.rows.ensures in
+    let e = among_sizes c.args.c c.args.n _ c.first_from.ensures c.div_ceil.ensures c.table.ensures.sizes in
     is_some c.first_from.result (λ none. larger-some c.args.c c.args.n c.requires.some c.requires.room (sym e ∙ none))
 
 pub returns : goal.returns
 returns c =
-    let e = among_sizes c.args.c c.args.n _ c.first_from.ensures c.div_ceil.ensures c.rows.ensures in
+    let e = among_sizes c.args.c c.args.n _ c.first_from.ensures c.div_ceil.ensures c.table.ensures.sizes in
     larger-found c.args.c c.args.n c.unwrap.result c.requires.some (sym e ∙ c.unwrap.ensures)

@@ -21,12 +21,12 @@ among_sizes rows limit e r = e ∙ ap (λ (xs : List ℕ). find (λ size. nat_lt
 
 pub unwrap-requires : goal.unwrap-requires
 unwrap-requires c =
-    let e = among_sizes c.rows.result.now c.args.k_plus c.last_below.ensures c.rows.ensures in
+    let e = among_sizes c.table.result.now c.args.k_plus c.last_below.ensures c.table.ensures.sizes in
     is_some c.last_below.result (λ none. smaller-some c.args.k_plus (c.requires c.if-c-eq1.false) (sym e ∙ none))
 
 pub returns-else-c-eq1 : goal.returns-else-c-eq1
 returns-else-c-eq1 c =
-    let e = among_sizes c.rows.result.now c.args.k_plus c.last_below.ensures c.rows.ensures in
+    let e = among_sizes c.table.result.now c.args.k_plus c.last_below.ensures c.table.ensures.sizes in
     let several : (c.args.c == 1) ≡ false = ne_eqb c.args.c 1 c.if-c-eq1.false in
     smaller-found c.args.k_plus c.unwrap.result (sym e ∙ c.unwrap.ensures)
     ∙ sym (ap (λ (t : Bool). cond t 0 (greatest (filter (λ k. nat_lt k c.args.k_plus) sizes))) several)

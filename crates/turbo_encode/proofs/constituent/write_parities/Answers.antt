@@ -4,10 +4,9 @@ use Rattle.std.proofs.lemmas.List.{take_all}
 use Rattle.lte_bits.specs.declared.bit.Bit.{Bit}
 use Rattle.lte_bits.specs.declared.bit.Cell.{Cell}
 use Rattle.lte_bits.proofs.Chunks.{take-chunk}
-use Rattle.model_sender.specs.ConstituentCoder.{zero_state, parities}
+use Rattle.model_sender.specs.ConstituentCoder.{zero_state, parities, state_number}
 use Rattle.model_sender.specs.CodedStreams.{cells_of}
 use Rattle.model_sender.specs.Tail.{reached}
-use Rattle.rsc_trellis.specs.Number.{number_of}
 use Rattle.turbo_encode.proofs.FourSteps.{cells_more, reached_more, same_state, size-whole}
 use Rattle.turbo_encode.proofs.FourWritten.{fours_more}
 use Rattle.turbo_encode.proofs.constituent.write_parities.Goals as goal
@@ -45,5 +44,5 @@ returns-clause-end c =
     let bits = c.args.bits.now in
     let loop = c.loop-i in
     let all : take (loop.i * 4) bits ≡ bits = take_all (loop.i * 4) bits (omega (arith, c.loop-i-test.false, c.as_chunks.ensures.front_len, size-whole (length bits) c.requires.size)) in
-    let number : number_of c.unwrap.result ≡ loop.state = subst (λ o. IfSome o (λ s. number_of s ≡ loop.state)) c.unwrap.ensures c.new.ensures.number in
-    same_state c.unwrap.result (reached zero_state bits) (number ∙ sym loop.invariant.state ∙ ap (λ zs. number_of (reached zero_state zs)) all)
+    let number : state_number c.unwrap.result ≡ loop.state = subst (λ o. IfSome o (λ s. state_number s ≡ loop.state)) c.unwrap.ensures c.new.ensures.number in
+    same_state c.unwrap.result (reached zero_state bits) (number ∙ sym loop.invariant.state ∙ ap (λ zs. state_number (reached zero_state zs)) all)

@@ -3,7 +3,7 @@ use Rattle.model_sender.specs.ConstituentCoder.{parities_from}
 use Rattle.model_sender.specs.Tail.{reached}
 use Rattle.model_sender.proofs.BitNumbers.{number-lt}
 use Rattle.model_sender.proofs.Coder.{made}
-use Rattle.turbo_encode.proofs.FourSteps.{next-entry, parity-entry, number_of-small, numbered}
+use Rattle.turbo_encode.proofs.FourSteps.{next-entry, parity-entry, state_number-small, numbered}
 use Rattle.turbo_encode.proofs.fours.four_steps.Goals as goal
 
 pub cells-requires : goal.cells-requires
@@ -24,4 +24,4 @@ pub returns-clause-next : goal.returns-clause-next
 returns-clause-next c = λ s at. next-entry s c.args.four.now c.args.state c.number-inputs.result (omega arith) at c.number-inputs.ensures.value ∙ sym c.next.ensures
 
 pub returns-clause-small : goal.returns-clause-small
-returns-clause-small c = let s = numbered c.args.state c.requires in omega (arith, returns-clause-next c s.0 s.1, number_of-small (reached s.0 c.args.four.now))
+returns-clause-small c = let s = numbered c.args.state c.requires in omega (arith, returns-clause-next c s.0 s.1, state_number-small (reached s.0 c.args.four.now))
