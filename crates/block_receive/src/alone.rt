@@ -10,8 +10,8 @@ use serial_decode::decode_block;
 use std::alloc::Global;
 use window_decode::Shape;
 
-/// Decodes a code block on one thread: 8, 16 or 32 windows in lock step, and any other number of them one after the
-/// other.
+/// Decodes a code block on one thread: 8, 16 or 32 windows in lock step, and any other number of them one
+/// after the other.
 pub fn decode_alone(alloc: Global, streams: &SoftStreams, shape: &Shape) -> Decoded
     requires { AreStreams streams.now shape.now }
     ensures { IfOk result (λ r. r ≡ code_result streams.now shape.now) }

@@ -93,14 +93,19 @@ opening shape = record {
   left_earlier = replicate shape.windows none_left;
 }
 
--- the borders with which window t starts and ends: those that its neighbours left two halves ago, in the
--- half of the same order
+-- the borders with which window t of some windows starts and ends, by those that each window left
+abbrev pub start_by : List Left → ℕ → Border
+start_by left t = if t == 0 then known else (left_by left (t - 1)).forward
+
+abbrev pub end_by : ℕ → List Left → Border → ℕ → Border
+end_by windows left tail t = if t + 1 == windows then tail else (left_by left (t + 1)).backward
+
+-- the same in a half: its neighbours left them two halves ago, in the half of the same order
 abbrev pub start_border : Before → ℕ → Border
-start_border b t = if t == 0 then known else (left_by b.left_earlier (t - 1)).forward
+start_border b t = start_by b.left_earlier t
 
 abbrev pub end_border : SoftStreams → Shape → ℕ → Before → ℕ → Border
-end_border soft shape h b t =
-    if t + 1 == shape.windows then tail_border soft shape.k h else (left_by b.left_earlier (t + 1)).backward
+end_border soft shape h b t = end_by shape.windows b.left_earlier (tail_border soft shape.k h) t
 
 -- the cells at the positions of window t
 abbrev pub cells_in : Shape → ℕ → Before → ℕ → List Extrinsic

@@ -8,7 +8,8 @@ use lte_bits::Bit;
 
 /// The generators have the powers of D that the standard gives.
 pub fn generators_have_their_powers()
-    ensures a { crc24a ≡ sum (map (λ k. 2 ^ k) (24 ∷ 23 ∷ 18 ∷ 17 ∷ 14 ∷ 11 ∷ 10 ∷ 7 ∷ 6 ∷ 5 ∷ 4 ∷ 3 ∷ 1 ∷ 0 ∷ [])) }
+    ensures a { crc24a
+        ≡ sum (map (λ k. 2 ^ k) (24 ∷ 23 ∷ 18 ∷ 17 ∷ 14 ∷ 11 ∷ 10 ∷ 7 ∷ 6 ∷ 5 ∷ 4 ∷ 3 ∷ 1 ∷ 0 ∷ [])) }
     ensures b { crc24b ≡ sum (map (λ k. 2 ^ k) (24 ∷ 23 ∷ 6 ∷ 5 ∷ 1 ∷ 0 ∷ [])) }
 {}
 

@@ -22,8 +22,10 @@ pub fn tail_ends_the_coder()
 
 /// The tail after a list is that of the state after it.
 pub fn tail_starts_at_the_state()
-    ensures input { (c : List Bit) (k : ℕ) → tail_x (values c) (length c + k) ≡ tail_input (reached zero_state c) k }
-    ensures parity { (c : List Bit) (k : ℕ) → tail_z (values c) (length c + k) ≡ tail_parity (reached zero_state c) k }
+    ensures input { (c : List Bit) (k : ℕ)
+        → tail_x (values c) (length c + k) ≡ tail_input (reached zero_state c) k }
+    ensures parity { (c : List Bit) (k : ℕ)
+        → tail_z (values c) (length c + k) ≡ tail_parity (reached zero_state c) k }
 {}
 
 /// The parity bits of 1 followed by ten zeros.

@@ -11,7 +11,8 @@ ghost use Rattle.qam_points.specs.declared.point.Point.{Point};
 /// The least squared distance to the points that have a bit at a place is that of one of them, none has a
 /// smaller one, and no other number is such.
 pub fn near_is_the_least()
-    ensures least { (qm amp : ℕ) (y : Point) (i : ℕ) (b : Bit) → i < qm → IsNear qm amp y i b (near qm amp y i b) }
+    ensures least { (qm amp : ℕ) (y : Point) (i : ℕ) (b : Bit)
+        → i < qm → IsNear qm amp y i b (near qm amp y i b) }
     ensures only { (qm amp : ℕ) (y : Point) (i : ℕ) (b : Bit) (m : ℤ) → i < qm → IsNear qm amp y i b m
         → m ≡ near qm amp y i b }
 {}

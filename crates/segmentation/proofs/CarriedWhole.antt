@@ -54,7 +54,8 @@ next_piece all b s f within inside =
         ∙ (ap (λ (xs : List Bit). take b (take (b + s) all) ++ xs) (sym (drop-take b s all))
         ∙ take-append-drop b (take (b + s) all))
 
-whole_made-more : (p : Plan) (payload : List ℕ) (i : ℕ) → whole p (map (block p payload) (range_with_len 0 (i + 1))) ≡ whole p (map (block p payload) (range_with_len 0 i)) ++ carried_by p (block p payload i)
+whole_made-more : (p : Plan) (payload : List ℕ) (i : ℕ) → whole p (map (block p payload) (range_with_len 0 (i + 1)))
+    ≡ whole p (map (block p payload) (range_with_len 0 i)) ++ carried_by p (block p payload i)
 whole_made-more p payload i =
     ap (λ (xs : List Block). whole p xs) (map-range_with_len_more (block p payload) 0 i i (omega arith))
     ∙ (flat_map-append (carried_by p) (map (block p payload) (range_with_len 0 i)) (block p payload i ∷ [])
@@ -81,8 +82,16 @@ whole_front payload some few (suc i) lt =
     let carried : carried_by p (block p payload (suc i)) ≡ piece = own ∙ ap (λ (n : ℕ). drop n piece) none in
     let so_far = whole_front payload some few i (omega (arith, lt)) in
     let next : i + 1 ≡ suc i = omega arith in
-    let front : whole p (map (block p payload) (range_with_len 0 (suc i))) ≡ drop p.f (take (before p (suc i)) all) = ap (λ (n : ℕ). whole p (map (block p payload) (range_with_len 0 n))) (sym next) ∙ (so_far ∙ ap (λ (n : ℕ). drop p.f (take (before p n) all)) next) in
-    let behind : p.f ≤ before p (suc i) = omega (arith, first, before-more p 0, before-le p 1 (suc i) (let le : 1 ≤ suc i = omega arith in le), ap (λ (n : ℕ). before p n) (let e : 0 + 1 ≡ 1 = omega arith in e)) in
+    let front : whole p (map (block p payload) (range_with_len 0 (suc i))) ≡ drop p.f (take (before p (suc i)) all) =
+    ap (λ (n : ℕ). whole p (map (block p payload) (range_with_len 0 n))) (sym next) ∙ (so_far ∙ ap (λ (n : ℕ). drop p.f (take (before p n) all)) next) in
+    let behind : p.f ≤ before p (suc i) = omega (
+      arith,
+      first,
+      before-more p 0,
+      before-le p 1 (suc i) (let le : 1 ≤ suc i = omega arith in le),
+      ap
+          (λ (n : ℕ). before p n) (let e : 0 + 1 ≡ 1 = omega arith in e),
+    ) in
     let inside : before p (suc i) ≤ length all = omega (arith, before-within payload (suc i) some few lt) in
     whole_made-more p payload (suc i)
     ∙ (ap (λ (xs : List Bit). xs ++ carried_by p (block p payload (suc i))) front

@@ -61,7 +61,8 @@ pub record IsSmall (bytes : ℕ) (p : Plan) : Type 0 where
 
 alone-none : (bytes : ℕ) → (plan_of bytes).c ≡ 1 → (plan_of bytes).k_minus ≡ 0
 unfolding plan_of
-alone-none bytes one = ap (λ (t : Bool). cond t 0 (greatest (filter (λ k. nat_lt k (larger_size (count_of (bits_of bytes)) (carried (bits_of bytes)))) sizes))) (eq-eqb (count_of (bits_of bytes)) 1 one)
+alone-none bytes one = ap (λ (t : Bool). cond t 0 (greatest (filter (λ k. nat_lt k (larger_size (count_of (bits_of bytes)) (carried (bits_of bytes)))) sizes)))
+    (eq-eqb (count_of (bits_of bytes)) 1 one)
 
 product-le : (a k : ℕ) → a ≤ 25 → k ≤ 6144 → a * k ≤ 153600
 product-le a k few size = let x : a * k ≤ a * 6144 = mul-le-mul_left a size in omega (arith, x, few)
@@ -102,7 +103,8 @@ pub record AreThePlan (bytes n c k j m : ℕ) (p : Plan) : Type 0 where
   pub room : n ≤ (c - m) * k + m * j
   pub fillers : (c - m) * k + m * j - n ≡ p.f
 
-pub are_the_plan : (bytes n c k j m : ℕ) → 1 ≤ bytes → bytes ≤ 18722 → n ≡ carried (bits_of bytes) → c ≡ (plan_of bytes).c → k ≡ (plan_of bytes).k_plus → j ≡ (plan_of bytes).k_minus → m ≡ (plan_of bytes).c_minus
+pub are_the_plan : (bytes n c k j m : ℕ) → 1 ≤ bytes → bytes ≤ 18722 → n ≡ carried (bits_of bytes) → c ≡ (plan_of bytes).c → k ≡ (plan_of bytes).k_plus
+    → j ≡ (plan_of bytes).k_minus → m ≡ (plan_of bytes).c_minus
     → AreThePlan bytes n c k j m (plan_of bytes)
 are_the_plan bytes n c k j m some few bits blocks larger smaller count =
     let p : Plan = plan_of bytes in

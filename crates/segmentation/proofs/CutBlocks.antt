@@ -21,7 +21,8 @@ rest_after p r s all rest back is own behind =
     behind ∙ (ap (λ (xs : List Bit). drop s xs) is ∙ (drop-drop s (before p r) all ∙ ap (λ (n : ℕ). drop n all) (let e : before p r + s ≡ before p (r + 1) = omega (arith, own, before-more p r) in e)))
 
 -- a block from its parts
-pub made_block : (p : Plan) (payload : List ℕ) (r f c s : ℕ) (bits front rest : List Bit) → f ≡ fill p r → bits ≡ checked c front → c ≡ p.c → front ≡ take s rest → s ≡ share p r → rest ≡ drop (before p r) (sequence p payload)
+pub made_block : (p : Plan) (payload : List ℕ) (r f c s : ℕ) (bits front rest : List Bit) → f ≡ fill p r → bits ≡ checked c front → c ≡ p.c
+    → front ≡ take s rest → s ≡ share p r → rest ≡ drop (before p r) (sequence p payload)
     → (let made : Block = record { fill = f; bits = bits } in made) ≡ block p payload r
 made_block p payload r f c s bits front rest fillers are blocks first own is =
     let piece : front ≡ take (share p r) (drop (before p r) (sequence p payload)) = first ∙ (ap (λ (n : ℕ). take n rest) own ∙ ap (λ (xs : List Bit). take (share p r) xs) is) in

@@ -91,7 +91,21 @@ length-whole_front p bs is shape = front
         let next : i + 1 ≡ suc i = omega arith in
         let same : length (whole p (take (i + 1) bs)) ≡ length (whole p (take (suc i) bs)) = ap (λ (n : ℕ). length (whole p (take n bs))) next in
         let taken : before p (i + 1) ≡ before p (suc i) = ap (λ (n : ℕ). before p n) next in
-        omega (arith, ap length more, length-append (whole p (take (suc i) bs)) (carried_by p (get_or bs (suc i) no_block)), own, at.size, at.fillers, fit, before-more p (suc i), so_far, same, taken, fill-later p i)
+        omega (
+          arith,
+          ap length more,
+          length-append (whole p (take (suc i) bs))
+              (carried_by p (get_or bs (suc i) no_block)),
+          own,
+          at.size,
+          at.fillers,
+          fit,
+          before-more p (suc i),
+          so_far,
+          same,
+          taken,
+          fill-later p i,
+        )
 
 -- all blocks carry the payload's bits and 24 more
 pub length-whole : (p : Plan) (bs : List Block) → IsPlan p → AreBlocksOf p bs → length (whole p bs) ≡ 8 * p.bytes + 24

@@ -1,28 +1,12 @@
 //! Half an iteration.
-ghost use Rattle.std.specs.Prelude.{◌≡◌, ◌+◌, ◌<◌, ◌≤◌, [], length};
-ghost use Rattle.model_receiver.specs.HalfIteration.{window_width, after, end_border};
+ghost use Rattle.std.specs.Prelude.{◌≡◌, ◌≤◌, length};
+ghost use Rattle.model_receiver.specs.HalfIteration.{window_width, after};
 ghost use Rattle.serial_decode.specs.Runs.{start_of};
-ghost use Rattle.serial_decode.specs.Views.{AreWhole};
 
-use crate::left::Left;
+use crate::left::{Left, end_of};
 use crate::views::Views;
 use crate::window::decode_window;
 use window_decode::{Border, Ext, Work};
-
-/// The border with which window `t` of half `h` ends: that after the last position, or the one that the
-/// next window left.
-fn end_of(views: &Views<'_>, h: usize, t: usize, left: &[Left]) -> Border
-    requires window { t < views.now.shape.windows }
-    requires left { length left.now ≡ views.now.shape.windows }
-    ensures { result ≡ end_border views.now.streams.now views.now.shape h (start_of [] left.now) t }
-{
-    if t + 1 == views.windows() {
-        views.tail(h)
-    } else {
-        let next = left[t + 1];
-        next.backward
-    }
-}
 
 /// Decodes half `h` of a code block, window after window, and gives the new cells. `left` has the
 /// borders that each window left two halves ago, and is given those that they leave now.
@@ -42,11 +26,13 @@ pub fn decode_half(
     ensures left { left.new
         ≡ (after views.now.streams.now views.now.shape h (start_of cells.items left.old)).left }
 {
+    let windows = views.windows();
+    let tail = views.tail(h);
     let mut cells = cells;
     let mut start = Border::known();
-    for t in 0..views.windows() {
+    for t in 0..windows {
         let earlier = left[t];
-        let end = end_of(views, h, t, left);
+        let end = end_of(windows, left, tail, t);
         let (new_cells, leaves) = decode_window(work, views, h, t, &start, &end, cells);
         cells = new_cells;
         left[t] = leaves;

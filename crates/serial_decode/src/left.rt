@@ -1,6 +1,6 @@
 //! The borders that a window leaves to its neighbours.
-ghost use Rattle.std.specs.Prelude.{◌≡◌};
-ghost use Rattle.model_receiver.specs.HalfIteration.{none_left};
+ghost use Rattle.std.specs.Prelude.{◌≡◌, ◌<◌, length};
+ghost use Rattle.model_receiver.specs.HalfIteration.{none_left, end_by};
 
 use std::marker::Model;
 use window_decode::Border;
@@ -32,5 +32,20 @@ impl Left {
             forward: Border::unknown(),
             backward: Border::unknown(),
         }
+    }
+}
+
+/// The border with which window `t` of so many ends: that after the last position, or the one that the
+/// next window left.
+pub fn end_of(windows: usize, left: &[Left], tail: Border, t: usize) -> Border
+    requires window { t < windows }
+    requires left { length left.now ≡ windows }
+    ensures { result ≡ end_by windows left.now tail t }
+{
+    if t + 1 == windows {
+        tail
+    } else {
+        let next = left[t + 1];
+        next.backward
     }
 }

@@ -51,7 +51,8 @@ pub fn add_values(cells: &mut [Soft], ring: Ring, start: usize, values: &[Soft])
     requires some { 0 < length (bits_from (holds_bit ring.k ring.fill) start ring.size) }
     ensures cells { (s : Bit) → IsBit ring.k s → cell_of ring.k cells.new s
         ≡ fold added (cell_of ring.k cells.old s) (values_where (has_bit ring.k ring.fill s)
-        (zip (repeated (bits_from (holds_bit ring.k ring.fill) start ring.size) (length values.now)) values.now)) }
+        (zip (repeated (bits_from (holds_bit ring.k ring.fill) start ring.size) (length values.now))
+        values.now)) }
     ensures long { length cells.new ≡ length cells.old }
 {
     let mut cursor = Cursor::at(ring, start % ring.size);

@@ -1,5 +1,5 @@
 //! Soft values of bytes, and back.
-ghost use Rattle.std.specs.Prelude.{◌≡◌, ◌++◌, IfOk};
+ghost use Rattle.std.specs.Prelude.{◌≡◌, ◌++◌, IfOk, length};
 ghost use Rattle.stream_loop.specs.SoftBytes.{soft_of, softs_of, byte_of, bytes_of};
 
 use lte_bits::{List, NoMemory, Soft};
@@ -9,10 +9,16 @@ use std::alloc::Global;
 fn soft_of(byte: u8) -> Soft
     ensures { result ≡ soft_of byte }
 {
-    if byte < 128 {
-        Soft::from_i8(byte as i8)
-    } else {
-        Soft::from_i8((i16::from(byte) - 256) as i8)
+    Soft::from_i8(byte.cast_signed())
+}
+
+/// Leaves the soft values of bytes. Its loop has no branch but its end, so that several bytes are read at once.
+fn read_softs(bytes: &[u8], softs: &mut [Soft])
+    requires { length softs.old ≡ length bytes.now }
+    ensures { softs.new ≡ softs_of bytes.now }
+{
+    for (i, soft) in softs.iter_mut().enumerate() {
+        *soft = soft_of(bytes[i]);
     }
 }
 
@@ -20,10 +26,8 @@ fn soft_of(byte: u8) -> Soft
 pub fn softs_of(alloc: Global, bytes: &[u8]) -> Result<List<Soft>, NoMemory>
     ensures { IfOk result (λ softs. softs ≡ softs_of bytes.now) }
 {
-    let mut softs = Vec::with_capacity(alloc, bytes.len())?;
-    for byte in bytes {
-        softs.push(soft_of(*byte))?;
-    }
+    let mut softs = vec![in alloc; Soft::ZERO; bytes.len()]?;
+    read_softs(bytes, softs.as_mut_slice());
     Ok(List::from_vec(softs))
 }
 
@@ -31,12 +35,7 @@ pub fn softs_of(alloc: Global, bytes: &[u8]) -> Result<List<Soft>, NoMemory>
 fn byte_of(soft: Soft) -> u8
     ensures { result ≡ byte_of soft }
 {
-    let value = soft.value();
-    if value < 0 {
-        (256 + i16::from(value)) as u8
-    } else {
-        value as u8
-    }
+    soft.value().cast_unsigned()
 }
 
 /// Appends the bytes of soft values, in two's complement.

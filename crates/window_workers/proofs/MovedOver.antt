@@ -6,9 +6,8 @@ use Rattle.std.proofs.lemmas.List.{append_assoc, map-append, reverse-append}
 use Rattle.serial_decode.proofs.Orders.{not-equal}
 use Rattle.window_workers.proofs.Somes.{some-same}
 use Rattle.model_receiver.specs.Borders.{Border, known}
-use Rattle.model_receiver.specs.HalfIteration.{Left, left_by}
+use Rattle.model_receiver.specs.HalfIteration.{Left, left_by, start_by, end_by}
 use Rattle.window_workers.specs.declared.piece.WindowPiece.{WindowPiece}
-use Rattle.window_workers.specs.HalfEnds.{start_by, end_by}
 
 pub reverse-pushed : {X : Type 0} (xs : List X) (x : X) → reverse (xs ++ x ∷ []) ≡ x ∷ reverse xs
 reverse-pushed xs x = reverse-append xs (x ∷ [])

@@ -4,7 +4,7 @@ use Rattle.std.specs.List.{range_with_len}
 use Rattle.lte_bits.specs.declared.block.SoftStreams.{SoftStreams}
 use Rattle.model_receiver.specs.Borders.{Border, at, tail}
 use Rattle.model_receiver.specs.Windows.{Extrinsic}
-use Rattle.model_receiver.specs.HalfIteration.{Left, tail_border, cells_in, left_after}
+use Rattle.model_receiver.specs.HalfIteration.{Left, tail_border, cells_in, left_after, start_by, end_by}
 use Rattle.cell_shares.specs.declared.order.Order.{Order}
 use Rattle.cell_shares.specs.declared.share.Share.{Share}
 use Rattle.cell_shares.specs.Names.{Name}
@@ -17,7 +17,7 @@ use Rattle.window_workers.specs.declared.piece.WindowPiece.{WindowPiece}
 use Rattle.window_workers.specs.Orders.{row_for, IsOrderIn}
 use Rattle.window_workers.specs.Jobs.{IsJob, before_half}
 use Rattle.window_workers.specs.Pieces.{share_of, tools_of, left_of_piece, AreTools}
-use Rattle.window_workers.specs.HalfEnds.{AreBordered, AreAllReady, start_by, end_by}
+use Rattle.window_workers.specs.HalfEnds.{AreBordered, AreAllReady}
 use Rattle.window_workers.proofs.HalfCells.{cells-long, left-is}
 use Rattle.window_workers.proofs.DonePieces.{label, dealt-is, mapped, told, to_mapped}
 

@@ -2,8 +2,8 @@
 use Rattle.std.specs.Prelude.{◌≡◌, ℕ, suc, ◌+◌, ◌-◌, ◌==◌, if◌then◌else◌, List, [], length, reverse}
 use mathlib.Core.Option.{some}
 use lib.ListN.{get_elem?}
-use Rattle.model_receiver.specs.Borders.{Border, known}
-use Rattle.model_receiver.specs.HalfIteration.{Left, left_by, left_after}
+use Rattle.model_receiver.specs.Borders.{Border}
+use Rattle.model_receiver.specs.HalfIteration.{Left, left_after, start_by, end_by}
 use Rattle.phase_board.specs.Slots.{AllPieces}
 use Rattle.window_workers.specs.declared.job.DecodingJob.{DecodingJob}
 use Rattle.window_workers.specs.declared.piece.Tools.{Tools}
@@ -13,13 +13,6 @@ use Rattle.window_workers.specs.declared.common.Stage.TheVariants.{Running, Deci
 use Rattle.window_workers.specs.Jobs.{before_half}
 use Rattle.window_workers.specs.Pieces.{AreTools, IsReady, IsDone}
 use Rattle.window_workers.specs.Commons.{IsRunning, IsResultAt}
-
--- the borders with which window t of some windows starts and ends, by those that each left two halves ago
-abbrev pub start_by : List Left → ℕ → Border
-start_by left t = if t == 0 then known else (left_by left (t - 1)).forward
-
-abbrev pub end_by : ℕ → List Left → Border → ℕ → Border
-end_by windows left tail t = if t + 1 == windows then tail else (left_by left (t + 1)).backward
 
 -- each piece has the borders of its window
 abbrev pub AreBordered : List Left → Border → List WindowPiece → Type 0

@@ -1,13 +1,13 @@
 //! Pieces are taken apart, and put together again.
-ghost use Rattle.std.specs.Prelude.{◌≡◌, ◌+◌, ◌<◌, ◌≤◌, [], length, map, reverse, vec_capacity};
+ghost use Rattle.std.specs.Prelude.{◌≡◌, ◌≤◌, [], length, map, reverse, vec_capacity};
 ghost use Rattle.window_workers.specs.Commons.{HasRooms};
 ghost use Rattle.window_workers.specs.Pieces.{share_of, tools_of, left_of_piece};
-ghost use Rattle.window_workers.specs.HalfEnds.{AreBordered, end_by};
+ghost use Rattle.window_workers.specs.HalfEnds.{AreBordered};
 
 use crate::common::Rooms;
 use crate::piece::{Tools, WindowPiece};
 use cell_shares::Share;
-use serial_decode::left::Left;
+use serial_decode::left::{Left, end_of};
 use window_decode::{Border, Ext};
 
 /// The shares of pieces, in order, and their tools, from last to first.
@@ -34,21 +34,6 @@ pub(crate) fn gather(pieces: &mut Vec<WindowPiece>, rooms: Rooms) -> (Vec<Share<
     }
     shares.reverse();
     (shares, tools)
-}
-
-/// The border with which window `t` of so many ends: that after the last position, or the one that the
-/// next window left.
-fn end_of(windows: usize, left: &[Left], tail: Border, t: usize) -> Border
-    requires window { t < windows }
-    requires left { length left.now ≡ windows }
-    ensures { result ≡ end_by windows left.now tail t }
-{
-    if t + 1 == windows {
-        tail
-    } else {
-        let next = left[t + 1];
-        next.backward
-    }
 }
 
 /// Puts pieces together, of shares in order and of tools from last to first, and gives the emptied

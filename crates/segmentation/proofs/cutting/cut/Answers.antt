@@ -20,7 +20,8 @@ sequence-requires-clause-few c =
     omega (arith, ap (λ (p : Plan). p.f) c.plan.view_is, fillers-few plan is, (block-size plan 0 is).most)
 
 -- the next share stands in what is left
-share_within : (p : Plan) (r s : ℕ) (payload : List ℕ) (rest : List Bit) → IsPlan p → p.bytes ≡ length payload → r < p.c → s ≡ share p r → rest ≡ drop (before p r) (sequence p payload) → s ≤ length rest
+share_within : (p : Plan) (r s : ℕ) (payload : List ℕ) (rest : List Bit) → IsPlan p → p.bytes ≡ length payload → r < p.c → s ≡ share p r
+    → rest ≡ drop (before p r) (sequence p payload) → s ≤ length rest
 share_within p r s payload rest is same below own at =
     let within = of_length (λ q. r < q.c → before q r + share q r ≤ length (sequence q payload)) p (length payload) is same (before-within payload r) below in
     omega (arith, own, within, ap length at, length-drop (before p r) (sequence p payload))
@@ -28,7 +29,8 @@ share_within p r s payload rest is same below own at =
 pub split_at-requires : goal.split_at-requires
 split_at-requires c =
     let count = ap (λ (p : Plan). p.c) c.plan.view_is in
-    share_within c.args.plan.now c.loop-r.r c.share.result c.args.payload.now c.loop-r.rest.now (subst IsPlan c.plan.view_is c.plan.invariant) c.requires (omega (arith, c.loop-r-test.true, count)) c.share.ensures c.loop-r.invariant.rest
+    share_within c.args.plan.now c.loop-r.r c.share.result c.args.payload.now c.loop-r.rest.now (subst IsPlan c.plan.view_is c.plan.invariant) c.requires
+    (omega (arith, c.loop-r-test.true, count)) c.share.ensures c.loop-r.invariant.rest
 
 pub checked-requires : goal.checked-requires
 checked-requires c =
@@ -54,4 +56,5 @@ all_made p r payload bs is same all made =
 pub returns-clause-shape : goal.returns-clause-shape
 returns-clause-shape c =
     let count = ap (λ (p : Plan). p.c) c.plan.view_is in
-    all_made c.args.plan.now c.loop-r.r c.args.payload.now c.from_vec.result (subst IsPlan c.plan.view_is c.plan.invariant) c.requires (omega (arith, c.loop-r-test.false, count)) (c.from_vec.ensures ∙ c.loop-r.invariant.made)
+    all_made c.args.plan.now c.loop-r.r c.args.payload.now c.from_vec.result (subst IsPlan c.plan.view_is c.plan.invariant) c.requires
+    (omega (arith, c.loop-r-test.false, count)) (c.from_vec.ensures ∙ c.loop-r.invariant.made)

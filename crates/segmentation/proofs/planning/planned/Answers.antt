@@ -24,7 +24,8 @@ smaller_count-c_minus-requires c =
     let bits = carried-is bytes c.block_count-c.result c.check_length.result c.block_count-c.ensures c.check_length.ensures in
     let larger = larger-is bytes c.block_count-c.result _ c.larger_size-k_plus.result c.block_count-c.ensures bits c.larger_size-k_plus.ensures in
     let smaller = smaller-is bytes c.block_count-c.result c.larger_size-k_plus.result c.smaller_size-k_minus.result c.block_count-c.ensures larger c.smaller_size-k_minus.ensures in
-    let product : c.block_count-c.result * c.larger_size-k_plus.result ≡ (plan_of bytes).c * (plan_of bytes).k_plus = ap (λ (x : ℕ). x * c.larger_size-k_plus.result) blocks ∙ ap (λ (x : ℕ). (plan_of bytes).c * x) larger in
+    let product : c.block_count-c.result * c.larger_size-k_plus.result ≡ (plan_of bytes).c * (plan_of bytes).k_plus =
+    ap (λ (x : ℕ). x * c.larger_size-k_plus.result) blocks ∙ ap (λ (x : ℕ). (plan_of bytes).c * x) larger in
     record {
       few = omega (arith, blocks, sound.few);
       size = omega (arith, larger, small.size);
@@ -33,7 +34,8 @@ smaller_count-c_minus-requires c =
     }
 
 -- the numbers from those of the steps
-from_steps : (bytes c l k j m : ℕ) → 1 ≤ bytes → bytes ≤ 18722 → c ≡ count_of (8 * bytes + 24) → l ≡ check_length c → k ≡ larger_size c (8 * bytes + 24 + c * l) → j ≡ smaller_size c k → m ≡ count_at c (8 * bytes + 24 + c * l) k j
+from_steps : (bytes c l k j m : ℕ) → 1 ≤ bytes → bytes ≤ 18722 → c ≡ count_of (8 * bytes + 24) → l ≡ check_length c
+    → k ≡ larger_size c (8 * bytes + 24 + c * l) → j ≡ smaller_size c k → m ≡ count_at c (8 * bytes + 24 + c * l) k j
     → AreThePlan bytes (8 * bytes + 24 + c * l) c k j m (plan_of bytes)
 from_steps bytes c l k j m some few blocks own larger smaller count =
     let bits = carried-is bytes c l blocks own in
@@ -41,7 +43,8 @@ from_steps bytes c l k j m some few blocks own larger smaller count =
     let second = smaller-is bytes c k j blocks first smaller in
     are_the_plan bytes (8 * bytes + 24 + c * l) c k j m some few bits (count-is bytes c blocks) first second (smaller_count-is bytes c (8 * bytes + 24 + c * l) k j m blocks bits first second count)
 
-the_plan : (c : goal.After-smaller_count-c_minus) → AreThePlan c.args.bytes (8 * c.args.bytes + 24 + c.block_count-c.result * c.check_length.result) c.block_count-c.result c.larger_size-k_plus.result c.smaller_size-k_minus.result c.smaller_count-c_minus.result (plan_of c.args.bytes)
+the_plan : (c : goal.After-smaller_count-c_minus) → AreThePlan c.args.bytes
+    (8 * c.args.bytes + 24 + c.block_count-c.result * c.check_length.result) c.block_count-c.result c.larger_size-k_plus.result c.smaller_size-k_minus.result c.smaller_count-c_minus.result (plan_of c.args.bytes)
 the_plan c =
     from_steps c.args.bytes c.block_count-c.result c.check_length.result c.larger_size-k_plus.result c.smaller_size-k_minus.result c.smaller_count-c_minus.result
     c.requires.some c.requires.few c.block_count-c.ensures c.check_length.ensures c.larger_size-k_plus.ensures c.smaller_size-k_minus.ensures c.smaller_count-c_minus.ensures

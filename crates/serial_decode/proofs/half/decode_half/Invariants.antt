@@ -4,7 +4,7 @@ use Rattle.serial_decode.proofs.half.decode_half.Given as goal
 
 abbrev pub invariant-loop-t : goal.invariant-loop-t
 invariant-loop-t l = record {
-  windows : l.t-end ≡ l.views.shape.windows;
+  windows : l.windows ≡ l.views.shape.windows;
   room : l.work ≡ l.fn.work;
   part : IsPartDone l.views.streams.now l.views.shape l.h (start_of l.fn.cells.items l.fn.left) l.t l.cells.items l.left l.start;
 }

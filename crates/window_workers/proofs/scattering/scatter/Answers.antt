@@ -1,8 +1,7 @@
 use Rattle.std.proofs.Common.{◌≡◌, ◌+◌, ◌++◌, [], ◌∷◌, length, map, reverse, ℕ, sym, ap, ◌∙◌, subst, refl, arith, length-append}
 use Rattle.std.proofs.lemmas.List.{get_or_default}
-use Rattle.model_receiver.specs.HalfIteration.{Left, none_left}
+use Rattle.model_receiver.specs.HalfIteration.{Left, none_left, start_by, end_by}
 use Rattle.window_workers.specs.Pieces.{share_of, tools_of}
-use Rattle.window_workers.specs.HalfEnds.{start_by, end_by}
 use Rattle.window_workers.proofs.MovedOver.{over, one_more_bordered, AreBorderedOf, start-more}
 use Rattle.window_workers.proofs.scattering.scatter.Goals as goal
 

@@ -1,6 +1,6 @@
 use Rattle.std.proofs.Common.{◌≡◌, ◌+◌, ◌≤◌, ◌++◌, length, map, reverse, vec_capacity}
+use Rattle.model_receiver.specs.HalfIteration.{start_by}
 use Rattle.window_workers.specs.Pieces.{share_of, tools_of}
-use Rattle.window_workers.specs.HalfEnds.{start_by}
 use Rattle.window_workers.proofs.MovedOver.{AreBorderedOf}
 use Rattle.window_workers.proofs.scattering.scatter.Given as goal
 
