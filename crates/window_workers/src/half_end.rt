@@ -8,11 +8,11 @@ ghost use Rattle.window_workers.specs.Commons.{IsCommonOf, IsProgress, IsResultA
 ghost use Rattle.window_workers.specs.HalfEnds.{AreAllDone, AreAllReady, AreAllTools, HaveLeft, IsAfter};
 ghost use Rattle.window_workers.specs.Pieces.{job_of_piece};
 
+use crate::assembly::{put_together, take_apart, take_left};
 use crate::bits::decide;
 use crate::common::{Progress, Rooms, Stage, WindowCommon};
 use crate::order::order_of;
 use crate::piece::{Tools, WindowPiece};
-use crate::scattering::{gather, scatter, take_left};
 use cell_shares::{Cells, join};
 use phase_board::{Board, Idle, Turning};
 use serial_decode::bits::holds;
@@ -24,16 +24,16 @@ use window_decode::{CodeResult, Ext};
 /// second half of an iteration, and the check holds or the iteration is the last. Else the progress
 /// comes back.
 fn decided(
-    _about: &Snapshot<WindowPiece>,
+    about: &Snapshot<WindowPiece>,
     progress: Progress,
     cells: &Cells<Ext>,
     half: u32,
 ) -> Result<CodeResult, Progress>
-    requires job { IsJob (job_of_piece _about.now.value) }
-    requires progress { IsProgress (job_of_piece _about.now.value) half half progress }
-    requires cells { cell_values cells.now ≡ (before_half (job_of_piece _about.now.value) (suc half)).cells }
-    ensures result { IfOk result (λ r. IsResultAt (job_of_piece _about.now.value) half r) }
-    ensures undecided { IfErr result (λ p. IsProgress (job_of_piece _about.now.value) half (suc half) p) }
+    requires job { IsJob (job_of_piece about.now.value) }
+    requires progress { IsProgress (job_of_piece about.now.value) half half progress }
+    requires cells { cell_values cells.now ≡ (before_half (job_of_piece about.now.value) (suc half)).cells }
+    ensures result { IfOk result (λ r. IsResultAt (job_of_piece about.now.value) half r) }
+    ensures undecided { IfErr result (λ p. IsProgress (job_of_piece about.now.value) half (suc half) p) }
 {
     if half % 2 == 0 {
         return Err(progress);
@@ -53,7 +53,7 @@ fn decided(
 
 /// Puts together the pieces of the half after `half`, which left these cells.
 fn next_half(
-    _about: &Snapshot<WindowPiece>,
+    about: &Snapshot<WindowPiece>,
     pieces: &mut Vec<WindowPiece>,
     cells: Cells<Ext>,
     tools: Vec<Tools>,
@@ -61,20 +61,20 @@ fn next_half(
     half: u32,
 ) -> Rooms
     requires none { pieces.old.items ≡ [] }
-    requires room { (job_of_piece _about.now.value).shape.windows ≤ vec_capacity pieces.old }
-    requires job { IsJob (job_of_piece _about.now.value) }
-    requires name { name_of cells ≡ (job_of_piece _about.now.value).name }
-    requires cells { cell_values cells ≡ (before_half (job_of_piece _about.now.value) (suc half)).cells }
-    requires tools { AreAllTools (job_of_piece _about.now.value) tools.items }
-    requires left { HaveLeft (job_of_piece _about.now.value) half tools.items }
-    requires progress { IsProgress (job_of_piece _about.now.value) half (suc half) progress.old }
-    ensures pieces { AreAllReady (job_of_piece _about.now.value) (suc half) pieces.new.items }
-    ensures progress { IsProgress (job_of_piece _about.now.value) (suc half) (suc half) progress.new }
-    ensures rooms { HasRooms (job_of_piece _about.now.value).shape.windows result }
+    requires room { (job_of_piece about.now.value).shape.windows ≤ vec_capacity pieces.old }
+    requires job { IsJob (job_of_piece about.now.value) }
+    requires name { name_of cells ≡ (job_of_piece about.now.value).name }
+    requires cells { cell_values cells ≡ (before_half (job_of_piece about.now.value) (suc half)).cells }
+    requires tools { AreAllTools (job_of_piece about.now.value) tools.items }
+    requires left { HaveLeft (job_of_piece about.now.value) half tools.items }
+    requires progress { IsProgress (job_of_piece about.now.value) half (suc half) progress.old }
+    ensures pieces { AreAllReady (job_of_piece about.now.value) (suc half) pieces.new.items }
+    ensures progress { IsProgress (job_of_piece about.now.value) (suc half) (suc half) progress.new }
+    ensures rooms { HasRooms (job_of_piece about.now.value).shape.windows result }
 {
     let shares = cells.split(order_of(progress.interleaver, half + 1));
     let tail = progress.tail(half + 1);
-    let rooms = scatter(pieces, shares, tools, progress.left.as_slice(), tail);
+    let rooms = put_together(pieces, shares, tools, progress.left.as_slice(), tail);
     take_left(pieces.as_slice(), progress.left.as_mut_slice());
     rooms
 }
@@ -93,7 +93,7 @@ fn after_half(
     requires rooms { HasRooms (job_of_piece about.now.value).shape.windows rooms }
     ensures { IsAfter (job_of_piece about.now.value) half pieces.new.items result }
 {
-    let (shares, tools) = gather(pieces, rooms);
+    let (shares, tools) = take_apart(pieces, rooms);
     let cells = join(shares);
     match decided(about, progress, &cells, half) {
         Ok(result) => Stage::Decided(result),

@@ -2,6 +2,7 @@
 //! halves.
 #![tactic(auto)]
 
+mod assembly;
 mod bits;
 pub mod common;
 pub mod gate;
@@ -11,13 +12,12 @@ mod making;
 mod opening;
 mod order;
 pub mod piece;
-mod running;
-mod scattering;
 mod serving;
 mod shared;
 mod strip;
 mod taking;
 mod view;
+mod window;
 
 pub use common::WindowCommon;
 pub use gate::{Gate, NoGate};

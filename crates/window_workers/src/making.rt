@@ -12,10 +12,10 @@ ghost use Rattle.window_workers.specs.HalfEnds.{AreAllTools};
 ghost use Rattle.window_workers.specs.Openings.{AreFirst};
 ghost use Rattle.window_workers.specs.Pieces.{AreTools};
 
+use crate::assembly::put_together;
 use crate::common::{Progress, Stage, WindowCommon};
 use crate::order::order_of;
 use crate::piece::{Tools, WindowPiece};
-use crate::scattering::scatter;
 use crate::view::WindowView;
 use cell_shares::Cells;
 use lte_bits::{Bit, List, NoMemory, SoftStreams};
@@ -103,7 +103,7 @@ pub(crate) fn first_pieces(
     let mut pieces = Vec::with_capacity(alloc, shape.windows())?;
     let shares = cells.split(order_of(progress.interleaver, 0));
     let left = progress.left.as_slice();
-    let rooms = scatter(&mut pieces, shares, tools, left, progress.tail(0));
+    let rooms = put_together(&mut pieces, shares, tools, left, progress.tail(0));
     let stage = Stage::Running(progress, rooms);
     Ok((pieces, WindowCommon { stage }))
 }

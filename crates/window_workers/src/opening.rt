@@ -8,10 +8,10 @@ ghost use Rattle.window_workers.specs.Commons.{IsCommonOf};
 ghost use Rattle.window_workers.specs.HalfEnds.{AreAllReady};
 ghost use Rattle.window_workers.specs.Pieces.{job_of_piece};
 
+use crate::assembly::take_apart;
 use crate::common::{Stage, WindowCommon};
 use crate::making::first_pieces;
 use crate::piece::WindowPiece;
-use crate::scattering::gather;
 use cell_shares::join;
 use lte_bits::{NoMemory, SoftStreams};
 use phase_board::{Board, Idle, NewRefused};
@@ -20,10 +20,10 @@ use std::snapshot::Snapshot;
 use window_decode::Shape;
 
 /// Lets go of the pieces of a board that wasn't made.
-fn discard(_about: &Snapshot<WindowPiece>, refused: NewRefused<WindowPiece>)
-    requires pieces { AreAllReady (job_of_piece _about.now.value) 0 refused.pieces.items }
-    requires common { IsCommonOf (job_of_piece _about.now.value) 0 refused.common }
-    requires windows { 0 < (job_of_piece _about.now.value).shape.windows }
+fn discard(about: &Snapshot<WindowPiece>, refused: NewRefused<WindowPiece>)
+    requires pieces { AreAllReady (job_of_piece about.now.value) 0 refused.pieces.items }
+    requires common { IsCommonOf (job_of_piece about.now.value) 0 refused.common }
+    requires windows { 0 < (job_of_piece about.now.value).shape.windows }
 {
     let NewRefused { pieces, common } = refused;
     let WindowCommon { stage } = common;
@@ -31,7 +31,7 @@ fn discard(_about: &Snapshot<WindowPiece>, refused: NewRefused<WindowPiece>)
         unreachable!()
     };
     let mut pieces = pieces;
-    let (shares, _tools) = gather(&mut pieces, rooms);
+    let (shares, _tools) = take_apart(&mut pieces, rooms);
     pieces.destroy_empty();
     drop(join(shares));
 }

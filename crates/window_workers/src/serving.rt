@@ -9,7 +9,7 @@ ghost use Rattle.window_workers.specs.Served.{GrewAlike};
 use crate::gate::Gate;
 use crate::half_end::half_ended;
 use crate::piece::WindowPiece;
-use crate::running::run_piece;
+use crate::window::run_piece;
 use phase_board::{Board, Claim, Finish, Idle, Working};
 use std::sync::Wait;
 use std::thread;

@@ -16,7 +16,7 @@ use Rattle.window_workers.proofs.half_end.decided.Goals.{else-not-passed-via-the
 
 pub decide-requires-clause-fill : goal.decide-requires-clause-fill
 decide-requires-clause-fill c =
-    let job = job_of_piece c.args._about.now.value in
+    let job = job_of_piece c.args.about.now.value in
     let long : length (cell_values c.args.cells.now) ≡ job.shape.k = ap length c.requires.cells ∙ cells-long job.streams job.shape (suc c.args.half) in
     let fill = c.f-fill.ensures.value ∙ ap (λ s. s.f) c.requires.progress.shape in
     let filled = c.requires.job.shape.filled in
@@ -24,12 +24,12 @@ decide-requires-clause-fill c =
 
 pub decide-requires-clause-long : goal.decide-requires-clause-long
 decide-requires-clause-long c =
-    let job = job_of_piece c.args._about.now.value in
+    let job = job_of_piece c.args.about.now.value in
     ap length c.as_mut_slice.ensures.value ∙ (c.requires.progress.bits ∙ sym (ap length c.requires.cells ∙ cells-long job.streams job.shape (suc c.args.half)))
 
 pub returns-then-iteration-limit-clause-undecided : goal.returns-then-iteration-limit-clause-undecided
 returns-then-iteration-limit-clause-undecided c =
-    let job = job_of_piece c.args._about.now.value in let was = c.requires.progress in let h : ℕ = c.args.half in let n : ℕ = (h + 1) / 2 in
+    let job = job_of_piece c.args.about.now.value in let was = c.requires.progress in let h : ℕ = c.args.half in let n : ℕ = (h + 1) / 2 in
     let odd : h % 2 ≡ 1 = (let no = c.if-half-eq0.false in omega (arith, no)) in
     let eh : h ≡ 2 * n - 1 = odd-half h n odd refl in let one : 1 ≤ n = some-iteration h n odd refl in
     let limit = c.limit.ensures.value ∙ ap (λ s. s.limit) was.shape in
@@ -51,7 +51,7 @@ returns-then-iteration-limit-clause-undecided c =
 
 pub returns-clause-result : goal.returns-clause-result
 returns-clause-result c =
-    let job = job_of_piece c.args._about.now.value in let was = c.requires.progress in let h : ℕ = c.args.half in let n : ℕ = (h + 1) / 2 in
+    let job = job_of_piece c.args.about.now.value in let was = c.requires.progress in let h : ℕ = c.args.half in let n : ℕ = (h + 1) / 2 in
     let odd : h % 2 ≡ 1 = (let no = c.if-half-eq0.false in omega (arith, no)) in
     let eh : h ≡ 2 * n - 1 = odd-half h n odd refl in let one : 1 ≤ n = some-iteration h n odd refl in
     let long = c.decide.auto.bits ∙ ap length c.as_mut_slice.ensures.value in

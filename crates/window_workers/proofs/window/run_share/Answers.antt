@@ -1,7 +1,7 @@
 use Rattle.std.proofs.Common.{length, ap, ◌∙◌}
 use Rattle.cell_shares.specs.Shares.{share_number, share_order, share_values}
 use Rattle.window_workers.proofs.SharePlaces.{long-places}
-use Rattle.window_workers.proofs.running.run_share.Goals as goal
+use Rattle.window_workers.proofs.window.run_share.Goals as goal
 
 pub invariant_of-strip-clause-in_place : goal.invariant_of-strip-clause-in_place
 invariant_of-strip-clause-in_place c = c.as_slice-3.ensures.value ∙ c.requires.places

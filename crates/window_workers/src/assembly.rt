@@ -11,7 +11,10 @@ use serial_decode::left::{Left, end_of};
 use window_decode::{Border, Ext};
 
 /// The shares of pieces, in order, and their tools, from last to first.
-pub(crate) fn gather(pieces: &mut Vec<WindowPiece>, rooms: Rooms) -> (Vec<Share<Ext>>, Vec<Tools>)
+pub(crate) fn take_apart(
+    pieces: &mut Vec<WindowPiece>,
+    rooms: Rooms,
+) -> (Vec<Share<Ext>>, Vec<Tools>)
     requires rooms { HasRooms (length pieces.old.items) rooms }
     ensures pieces { pieces.new.items ≡ [] }
     ensures room { length pieces.old.items ≤ vec_capacity pieces.new }
@@ -39,7 +42,7 @@ pub(crate) fn gather(pieces: &mut Vec<WindowPiece>, rooms: Rooms) -> (Vec<Share<
 /// Puts pieces together, of shares in order and of tools from last to first, and gives the emptied
 /// vectors. `left` has the borders that each window left two halves ago, and `tail` is the border after
 /// the last position.
-pub(crate) fn scatter(
+pub(crate) fn put_together(
     pieces: &mut Vec<WindowPiece>,
     shares: Vec<Share<Ext>>,
     tools: Vec<Tools>,

@@ -2,7 +2,7 @@ use Rattle.std.proofs.Common.{◌≡◌, ◌+◌, ◌≤◌, ◌++◌, length, m
 use Rattle.model_receiver.specs.HalfIteration.{start_by}
 use Rattle.window_workers.specs.Pieces.{share_of, tools_of}
 use Rattle.window_workers.proofs.MovedOver.{AreBorderedOf}
-use Rattle.window_workers.proofs.scattering.scatter.Given as goal
+use Rattle.window_workers.proofs.assembly.put_together.Given as goal
 
 abbrev pub invariant-loop-t : goal.invariant-loop-t
 invariant-loop-t l =

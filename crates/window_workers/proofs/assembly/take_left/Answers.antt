@@ -2,7 +2,7 @@ use Rattle.std.proofs.Common.{◌≡◌, length, sym, ◌∙◌, arith}
 use Rattle.std.proofs.lemmas.List.{ext_get_or, length-map}
 use Rattle.model_receiver.specs.HalfIteration.{none_left}
 use Rattle.window_workers.specs.Pieces.{left_of_piece}
-use Rattle.window_workers.proofs.scattering.take_left.Goals as goal
+use Rattle.window_workers.proofs.assembly.take_left.Goals as goal
 
 pub returns : goal.returns
 returns c =

@@ -1,6 +1,6 @@
 use Rattle.std.proofs.Common.{◌≡◌, ◌+◌, ◌≤◌, ◌++◌, length, map, reverse, vec_capacity}
 use Rattle.window_workers.specs.Pieces.{share_of, tools_of}
-use Rattle.window_workers.proofs.scattering.gather.Given as goal
+use Rattle.window_workers.proofs.assembly.take_apart.Given as goal
 
 abbrev pub invariant-loop-piece : goal.invariant-loop-piece
 invariant-loop-piece l =

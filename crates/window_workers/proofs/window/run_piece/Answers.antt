@@ -6,7 +6,7 @@ use Rattle.window_workers.specs.Orders.{IsOrderIn}
 use Rattle.window_workers.specs.Pieces.{job_of_piece}
 use Rattle.window_workers.proofs.HalfCells.{cells-left}
 use Rattle.window_workers.proofs.ReadyWindows.{whole, share-long, systematic-long, parity-long, places-are, window-is}
-use Rattle.window_workers.proofs.running.run_piece.Goals as goal
+use Rattle.window_workers.proofs.window.run_piece.Goals as goal
 
 pub run_share-share-requires-clause-least : goal.run_share-share-requires-clause-least
 run_share-share-requires-clause-least c =

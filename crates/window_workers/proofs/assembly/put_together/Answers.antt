@@ -3,7 +3,7 @@ use Rattle.std.proofs.lemmas.List.{get_or_default}
 use Rattle.model_receiver.specs.HalfIteration.{Left, none_left, start_by, end_by}
 use Rattle.window_workers.specs.Pieces.{share_of, tools_of}
 use Rattle.window_workers.proofs.MovedOver.{over, one_more_bordered, AreBorderedOf, start-more}
-use Rattle.window_workers.proofs.scattering.scatter.Goals as goal
+use Rattle.window_workers.proofs.assembly.put_together.Goals as goal
 
 pub loop-t-preserved : goal.loop-t-preserved
 loop-t-preserved c =
