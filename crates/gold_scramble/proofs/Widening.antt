@@ -100,7 +100,8 @@ pub x1_fresh : (x count : ℕ) → count ≤ 28 → (n j : ℕ) → n + j + 1 �
 x1_fresh x count few n j e =
     let d : binary_digit (x / 2 ^ (28 - count)) j ≡ at (highest_first 31 x) (n + 3) = tap x count 3 n j (n + 3) few (omega arith) e refl in
     let a : binary_digit (x / 2 ^ (31 - count)) j ≡ at (highest_first 31 x) n = tap x count 0 n j n few (omega arith) e (omega arith) in
-    digit_xor (x / 2 ^ (28 - count)) (x / 2 ^ (31 - count)) j ∙ (let f : plus (binary_digit (x / 2 ^ (28 - count)) j) (binary_digit (x / 2 ^ (31 - count)) j) ≡ plus (at (highest_first 31 x) (n + 3)) (at (highest_first 31 x) n) = cc in f)
+    digit_xor (x / 2 ^ (28 - count)) (x / 2 ^ (31 - count)) j ∙ (let f : plus (binary_digit (x / 2 ^ (28 - count)) j) (binary_digit (x / 2 ^ (31 - count)) j)
+    ≡ plus (at (highest_first 31 x) (n + 3)) (at (highest_first 31 x) n) = cc in f)
 
 abbrev pub x2_behind : (x count : ℕ) → ℕ
 x2_behind x count = bit_xor (bit_xor (bit_xor (x / 2 ^ (28 - count)) (x / 2 ^ (29 - count))) (x / 2 ^ (30 - count))) (x / 2 ^ (31 - count))

@@ -18,7 +18,8 @@ resized-whole xs n x long =
     ∙ take_all n xs (omega (arith, long))
 
 -- a byte of eight bits
-pub whole-byte : (bits d : List Bit) (chunks : List (List Bit)) (n i byte : ℕ) → n ≡ length bits / 8 → i < n → chunks ≡ first_chunks 8 n bits → byte ≡ number (get_or chunks i d) → byte ≡ byte_at bits i
+pub whole-byte : (bits d : List Bit) (chunks : List (List Bit)) (n i byte : ℕ) → n ≡ length bits / 8 → i < n → chunks ≡ first_chunks 8 n bits
+    → byte ≡ number (get_or chunks i d) → byte ≡ byte_at bits i
 whole-byte bits d chunks n i byte many below are is =
     let e : get_or chunks i d ≡ take 8 (drop (8 * i) bits) = ap (λ cs. get_or cs i d) are ∙ chunk-at 8 n i bits d below ∙ ap (λ m. take 8 (drop m bits)) (let f : i * 8 ≡ 8 * i = omega arith in f) in
     let long : length (take 8 (drop (8 * i) bits)) ≡ 8 = omega (arith, length-take 8 (drop (8 * i) bits), length-drop (8 * i) bits, many, below) in

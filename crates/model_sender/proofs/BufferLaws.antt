@@ -42,10 +42,12 @@ spot-behind k fill m =
     ∙ ap (behind_first k fill) (let e : n - 32 * r ≡ m = omega arith in e)
 
 even : (j : ℕ) → (2 * j % 2 ≡ 0) × (2 * j / 2 ≡ j)
-even j = let whole : 2 * (2 * j / 2) + 2 * j % 2 ≡ 2 * j = div-add-mod (2 * j) 2 in let rest : 2 * j % 2 < 2 = mod_below (2 * j) 2 (omega arith) in (omega (arith, whole, rest), omega (arith, whole, rest))
+even j = let whole : 2 * (2 * j / 2) + 2 * j % 2 ≡ 2 * j = div-add-mod (2 * j) 2 in let rest : 2 * j % 2 < 2 = mod_below (2 * j) 2 (omega arith) in
+    (omega (arith, whole, rest), omega (arith, whole, rest))
 
 odd : (j : ℕ) → ((2 * j + 1) % 2 ≡ 1) × ((2 * j + 1) / 2 ≡ j)
-odd j = let whole : 2 * ((2 * j + 1) / 2) + (2 * j + 1) % 2 ≡ 2 * j + 1 = div-add-mod (2 * j + 1) 2 in let rest : (2 * j + 1) % 2 < 2 = mod_below (2 * j + 1) 2 (omega arith) in (omega (arith, whole, rest), omega (arith, whole, rest))
+odd j = let whole : 2 * ((2 * j + 1) / 2) + (2 * j + 1) % 2 ≡ 2 * j + 1 = div-add-mod (2 * j + 1) 2 in let rest : (2 * j + 1) % 2 < 2 =
+    mod_below (2 * j + 1) 2 (omega arith) in (omega (arith, whole, rest), omega (arith, whole, rest))
 
 pub spot-second : (k fill j : ℕ) → spot k fill (32 * rows_of k + 2 * j) ≡ padded (d1 k fill) (read_place (rows_of k) j)
 spot-second k fill j =

@@ -18,11 +18,13 @@ made s (u ∷ us) =
       z_is = λ k h. z_at s u us rest k h;
     }
   where
-    a_at : (s : State) (u : Bit) (us : List Bit) → IsMadeFrom (next s u) us → (k : ℕ) → k < length (u ∷ us) → at (values_from s (u ∷ us)) k ≡ plus (plus (at (u ∷ us) k) (at (past s (values_from s (u ∷ us))) (suc k))) (at (past s (values_from s (u ∷ us))) k)
+    a_at : (s : State) (u : Bit) (us : List Bit) → IsMadeFrom (next s u) us → (k : ℕ) → k < length (u ∷ us)
+        → at (values_from s (u ∷ us)) k ≡ plus (plus (at (u ∷ us) k) (at (past s (values_from s (u ∷ us))) (suc k))) (at (past s (values_from s (u ∷ us))) k)
     a_at s u us rest zero h = refl
     a_at s u us rest (suc k) h = rest.a_is k (omega (arith, h))
 
-    z_at : (s : State) (u : Bit) (us : List Bit) → IsMadeFrom (next s u) us → (k : ℕ) → k < length (u ∷ us) → at (parities_from s (u ∷ us)) k ≡ plus (plus (at (values_from s (u ∷ us)) k) (at (past s (values_from s (u ∷ us))) (suc (suc k)))) (at (past s (values_from s (u ∷ us))) k)
+    z_at : (s : State) (u : Bit) (us : List Bit) → IsMadeFrom (next s u) us → (k : ℕ) → k < length (u ∷ us)
+        → at (parities_from s (u ∷ us)) k ≡ plus (plus (at (values_from s (u ∷ us)) k) (at (past s (values_from s (u ∷ us))) (suc (suc k)))) (at (past s (values_from s (u ∷ us))) k)
     z_at s u us rest zero h = refl
     z_at s u us rest (suc k) h = rest.z_is k (omega (arith, h))
 

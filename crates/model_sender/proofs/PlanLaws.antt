@@ -140,7 +140,11 @@ sound bytes c n some few bits room several = by_count (c == 1) refl
     by_count false e =
         let two : 1 < c = let other : c ≡ 1 → ⊥ = eqb-false c 1 e in omega (arith, some, other) in
         let k : ℕ = larger_size c n in
-        let large : 240 ≤ k = elim (cases_lt k 240) [ inr h ↦ h | inl h ↦ absurd (let le : c * k ≤ c * 240 = mul-le-mul_left c (let l : k ≤ 240 = omega (arith, h) in l) in omega (arith, le, enough, few, several two)) ] in
+        let large : 240 ≤ k = elim (cases_lt k 240) [
+          | inr h ↦ h
+          | inl h ↦ absurd
+              (let le : c * k ≤ c * 240 = mul-le-mul_left c (let l : k ≤ 240 = omega (arith, h) in l) in omega (arith, le, enough, few, several two))
+        ] in
         let near = size-lower k largest.inside (omega (arith, large)) in
         let second = greatest-passes (λ j. nat_lt j k) sizes near.0 near.1 (lt-ltb near.0 k near.2) in
         several_blocks k (greatest (filter (λ j. nat_lt j k) sizes)) two largest second large
@@ -154,7 +158,8 @@ sound bytes c n some few bits room several = by_count (c == 1) refl
             let above : c * j < n = elim (cases_lt (c * j) n) [ inl h ↦ h | inr h ↦ absurd (let le : k ≤ j = first.least j second.inside (le-leb n (c * j) h) in omega (arith, le, below)) ] in
             let d : ℕ = k - j in
             let sum : j + d ≡ k = omega (arith, below) in
-            let parts : IsSplit c n k j ((c * k - n) / (k - j)) = subst (λ (m : ℕ). IsSplit c n m j ((c * m - n) / (m - j))) sum (split c n j d (omega (arith, below)) (subst (λ (m : ℕ). n ≤ c * m) (sym sum) room) above) in
+            let parts : IsSplit c n k j ((c * k - n) / (k - j)) = subst (λ (m : ℕ). IsSplit c n m j ((c * m - n) / (m - j))) sum
+            (split c n j d (omega (arith, below)) (subst (λ (m : ℕ). n ≤ c * m) (sym sum) room) above) in
             record {
               some = some;
               few = few;

@@ -33,7 +33,8 @@ sum_by-two_values p m t x y before after = second t
     second (suc t) =
         let next : m + suc t ≡ m + t + 1 = omega arith in
         let here : cond (p (m + t)) x y ≡ y = ap (λ (b : Bool). cond b x y) (after (m + t) (omega arith)) in
-        let more : sum_by (λ r. cond (p r) x y) (range_with_len 0 (m + t + 1)) ≡ sum_by (λ r. cond (p r) x y) (range_with_len 0 (m + t)) + cond (p (m + t)) x y = sum_by-range_more (λ r. cond (p r) x y) (m + t) in
+        let more : sum_by (λ r. cond (p r) x y) (range_with_len 0 (m + t + 1)) ≡ sum_by (λ r. cond (p r) x y) (range_with_len 0 (m + t))
+        + cond (p (m + t)) x y = sum_by-range_more (λ r. cond (p r) x y) (m + t) in
         let so_far = second t in
         ap (λ (k : ℕ). sum_by (λ r. cond (p r) x y) (range_with_len 0 k)) next ∙ omega (arith, here, more, so_far)
 

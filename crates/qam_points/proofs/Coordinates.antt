@@ -173,12 +173,14 @@ same_second p q m l k e f = omega (arith, ints)
 pub soft_value-first : (n amp : ℕ) (y : Point) (j : ℕ) → j < n → soft_value (2 * n) amp y (2 * j) ≡ clamped 127 (coordinate_value n amp y.i j)
 unfolding soft_value coordinate_value
 soft_value-first n amp y j h =
-    ap (λ (z : ℤ). clamped 127 (int_div z (pos (4 * amp)))) (same_first _ _ (coordinate_near n amp y.i j One) (coordinate_near n amp y.i j Zero) (other_near n amp y.q) (near_first n amp y j One h) (near_first n amp y j Zero h))
+    ap (λ (z : ℤ). clamped 127 (int_div z (pos (4 * amp)))) (same_first _ _ (coordinate_near n amp y.i j One) (coordinate_near n amp y.i j Zero)
+    (other_near n amp y.q) (near_first n amp y j One h) (near_first n amp y j Zero h))
 
 pub soft_value-second : (n amp : ℕ) (y : Point) (j : ℕ) → j < n → soft_value (2 * n) amp y (2 * j + 1) ≡ clamped 127 (coordinate_value n amp y.q j)
 unfolding soft_value coordinate_value
 soft_value-second n amp y j h =
-    ap (λ (z : ℤ). clamped 127 (int_div z (pos (4 * amp)))) (same_second _ _ (coordinate_near n amp y.q j One) (coordinate_near n amp y.q j Zero) (other_near n amp y.i) (near_second n amp y j One h) (near_second n amp y j Zero h))
+    ap (λ (z : ℤ). clamped 127 (int_div z (pos (4 * amp)))) (same_second _ _ (coordinate_near n amp y.q j One) (coordinate_near n amp y.q j Zero)
+    (other_near n amp y.i) (near_second n amp y j One h) (near_second n amp y j Zero h))
 
 -- a soft value as the code has it, of a value v of the coordinate t
 pub first_value : (n amp : ℕ) (y : Point) (j : ℕ) (r v t : ℤ) → j < n → r ≡ clamped 127 (to_z w32 (of_z w32 v)) → to_z w32 (of_z w32 v) ≡ v

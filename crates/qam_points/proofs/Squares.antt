@@ -67,7 +67,8 @@ whole_quotient k n h = ap (λ (m : ℕ). m / k) (let e : k * n ≡ n * k + 0 = o
 
 -- a quotient of a negative number
 down : (m k : ℕ) → 0 < k → int_div (neg_ℤ (pos m)) (pos k) ≡ neg_ℤ (pos (m / k))
-down zero k h = ap (λ (n : ℕ). pos n) (let e : 0 / k ≡ 0 = ap (λ (n : ℕ). n / k) (let z : 0 ≡ k * 0 = omega arith in z) ∙ whole_quotient k 0 h in e) ∙ ap (λ (n : ℕ). neg_ℤ (pos n)) (sym (let e : 0 / k ≡ 0 = ap (λ (n : ℕ). n / k) (let z : 0 ≡ k * 0 = omega arith in z) ∙ whole_quotient k 0 h in e))
+down zero k h = ap (λ (n : ℕ). pos n) (let e : 0 / k ≡ 0 = ap (λ (n : ℕ). n / k) (let z : 0 ≡ k * 0 = omega arith in z) ∙ whole_quotient k 0 h in e)
+    ∙ ap (λ (n : ℕ). neg_ℤ (pos n)) (sym (let e : 0 / k ≡ 0 = ap (λ (n : ℕ). n / k) (let z : 0 ≡ k * 0 = omega arith in z) ∙ whole_quotient k 0 h in e))
 down (suc m) k h = refl
 
 -- p and q are as far from 0 as y - s and y + s

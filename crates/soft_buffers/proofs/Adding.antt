@@ -128,7 +128,8 @@ adding_kept w had steps taken next has more p b d is at bit inside_b long left o
         ∙ ap (λ (c : ℤ). added c v) (ap (cell_of w.k has) (sym same) ∙ is.sums s inside)
         ∙ sym (sum-hit (has_bit w.k w.fill s) (zip (met w steps) w.values) (cell_of w.k had s) p v (ap (is_bit s) bit ∙ e))
     by_test v s inside false e =
-        let apart : cell_index w.k s ≢ cell_index w.k b = λ same. absurd (let q : s ≡ b = index-tells w.k s b inside inside_b same in let yes : is_bit s (Some b) ≡ true = ap (λ (t : Spot). is_bit s (Some t)) (sym q) ∙ is_bit-self s in cc) in
+        let apart : cell_index w.k s ≢ cell_index w.k b = λ same. absurd (let q : s ≡ b = index-tells w.k s b inside inside_b same in
+        let yes : is_bit s (Some b) ≡ true = ap (λ (t : Spot). is_bit s (Some t)) (sym q) ∙ is_bit-self s in cc) in
         get_or-set_other has (cell_index w.k b) (cell_index w.k s) (added (cell_of w.k has b) v) (pos 0) apart
         ∙ is.sums s inside
         ∙ sym (sum-miss (has_bit w.k w.fill s) (zip (met w steps) w.values) (cell_of w.k had s) p v (ap (is_bit s) bit ∙ e))
@@ -165,14 +166,17 @@ adding_run w had steps taken has p zero bits part is at within bit inside long f
 }
 adding_run w had steps taken has p (suc m) bits part is at within bit inside long few from =
     let before : IsAdding w had (steps + m) (taken + m) (with_values w.k bits part m has) =
-    adding_run w had steps taken has p m bits part is at (omega (arith, within)) (λ i h. bit i (omega (arith, h))) (λ i h. inside i (omega (arith, h))) long (omega (arith, few)) (λ i h. from i (omega (arith, h))) in
+    adding_run w had steps taken has p m bits part is at (omega (arith, within)) (λ i h. bit i (omega (arith, h))) (λ i h. inside i (omega (arith, h))) long
+    (omega (arith, few)) (λ i h. from i (omega (arith, h))) in
     let last : m < suc m = omega arith in
     let here : p + m ≡ (w.start + (steps + m)) % w.n = place_within w.start steps w.n p m at (omega (arith, within)) in
     let old : List ℤ = with_values w.k bits part m has in
-    let more = adding_kept w had (steps + m) (taken + m) (taken + m + 1) old (with_values w.k bits part (suc m) has) (p + m) (bits m) (pos 0) before here (bit m last) (inside m last) long (omega (arith, few)) refl
+    let more = adding_kept w had (steps + m) (taken + m) (taken + m + 1) old (with_values w.k bits part (suc m) has) (p + m) (bits m) (pos 0) before here
+    (bit m last) (inside m last) long (omega (arith, few)) refl
     (ap (λ (v : ℤ). set old (cell_index w.k (bits m)) (added (cell_of w.k old (bits m)) v)) (from m last)) in
     let P : ℕ → ℕ → Type 0 = λ a b. IsAdding w had a b (with_values w.k bits part (suc m) has) in
-    subst (λ (a : ℕ). P a (taken + suc m)) (let e : steps + m + 1 ≡ steps + suc m = omega arith in e) (subst (λ (b : ℕ). P (steps + m + 1) b) (let e : taken + m + 1 ≡ taken + suc m = omega arith in e) more)
+    subst (λ (a : ℕ). P a (taken + suc m)) (let e : steps + m + 1 ≡ steps + suc m = omega arith in e)
+    (subst (λ (b : ℕ). P (steps + m + 1) b) (let e : taken + m + 1 ≡ taken + suc m = omega arith in e) more)
 
 -- ---- a walk that leaps over runs
 

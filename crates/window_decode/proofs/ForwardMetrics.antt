@@ -45,7 +45,8 @@ from_start-push first g s us u j h =
     let f : g (0 + j) (reached s us) u ≡ g j (reached s us) u = ap (λ n. g n (reached s us) u) (let e : 0 + j ≡ j = omega arith in e) in
     omega (arith, ints, a, f)
 
-more_attained : (first : State → ℤ) (g : Gain) (j : ℕ) (m : State → ℤ) (s t : State) (u : Bit) (p : Path) → length p.bits ≡ j → end_state p ≡ t → first p.start +ℤ earned g 0 p.start p.bits ≡ m t → next t u ≡ s
+more_attained : (first : State → ℤ) (g : Gain) (j : ℕ) (m : State → ℤ) (s t : State) (u : Bit) (p : Path) → length p.bits ≡ j → end_state p ≡ t
+    → first p.start +ℤ earned g 0 p.start p.bits ≡ m t → next t u ≡ s
     → (x : Path) × ((length x.bits ≡ suc j) × (end_state x ≡ s)) × (first x.start +ℤ earned g 0 x.start x.bits ≡ m t +ℤ g j t u)
 more_attained first g j m s t u p long ends is e = (
   path p.start (p.bits ++ u ∷ []),

@@ -22,9 +22,11 @@ score-split : (w : Window) (j : ℕ) (s : State) (front : List Bit) (b : Bit) (r
     +ℤ (earned (gain w) (suc j) (next (reached s front) b) rest +ℤ number_for w.end (reached (next (reached s front) b) rest))
 score-split w j s front b rest h =
     let t : State = reached s front in
-    let a : earned (gain w) 0 s (front ++ b ∷ rest) ≡ earned (gain w) 0 s front +ℤ (gain w (0 + j) t b +ℤ earned (gain w) (suc (0 + j)) (next t b) rest) = earned-append (gain w) 0 s front (b ∷ rest) j h in
+    let a : earned (gain w) 0 s (front ++ b ∷ rest) ≡ earned (gain w) 0 s front +ℤ (gain w (0 + j) t b +ℤ earned (gain w) (suc (0 + j)) (next t b) rest) =
+    earned-append (gain w) 0 s front (b ∷ rest) j h in
     let z : 0 + j ≡ j = omega arith in
-    let e : gain w (0 + j) t b +ℤ earned (gain w) (suc (0 + j)) (next t b) rest ≡ gain w j t b +ℤ earned (gain w) (suc j) (next t b) rest = ap (λ i. gain w i t b +ℤ earned (gain w) (suc i) (next t b) rest) z in
+    let e : gain w (0 + j) t b +ℤ earned (gain w) (suc (0 + j)) (next t b) rest ≡ gain w j t b +ℤ earned (gain w) (suc j) (next t b) rest =
+    ap (λ i. gain w i t b +ℤ earned (gain w) (suc i) (next t b) rest) z in
     let l : number_for w.end (reached s (front ++ b ∷ rest)) ≡ number_for w.end (reached (next t b) rest) = ap (number_for w.end) (reached-append s front (b ∷ rest)) in
     let o : own_gain w j (bits.at (front ++ b ∷ rest) j) ≡ own_gain w j b = ap (own_gain w j) (at-middle front rest b j h) in
     by_sum (number_for w.start s) (earned (gain w) 0 s front) (own_gain w j b) (if_zero (parity t b) (at w.par j)) (earned (gain w) (suc j) (next t b) rest)
@@ -55,7 +57,8 @@ joined-is w j n b m k long h g = record {
       let x = (h t).bound (path p.start v.front) (v.front_long, refl) in
       let y = (g (next t b)).bound v.rest v.rest_long in
       let z = states-bound (joined m k (at w.par j) b) t in
-      subst (λ us. score_without w j (path p.start us) ≤ℤ greatest (border_of (joined m k (at w.par j) b))) (sym v.is) (by_sum _ (number_for w.start p.start +ℤ earned (gain w) 0 p.start v.front) (m t) (if_zero (parity t b) (at w.par j))
+      subst (λ us. score_without w j (path p.start us) ≤ℤ greatest (border_of (joined m k (at w.par j) b))) (sym v.is)
+      (by_sum _ (number_for w.start p.start +ℤ earned (gain w) 0 p.start v.front) (m t) (if_zero (parity t b) (at w.par j))
       (earned (gain w) (suc j) (next t b) v.rest +ℤ number_for w.end (reached (next t b) v.rest)) (k (next t b)) _ a x y z);
 }
   where

@@ -149,7 +149,8 @@ out_by_one m x p s = assoc (if_zero (parity s One) p) (number_for m (next s One)
 -- ---- less the number of state 0
 
 pub above_zero-fits : (n : ℕ) (f : State → ℤ) (xs : List ℤ) → n + n ≤ 32767 → AreNumbers n f xs → IsBounded 32767 (λ s. number_for (passed xs) s -ℤ number_for (passed xs) zero_state)
-above_zero-fits n f xs le h s = differ _ _ (f s) (f zero_state) (number_passed n f xs (omega (arith, le)) h s) (number_passed n f xs (omega (arith, le)) h zero_state) (h.bounded s) (h.bounded zero_state)
+above_zero-fits n f xs le h s = differ _ _ (f s) (f zero_state) (number_passed n f xs (omega (arith, le)) h s)
+    (number_passed n f xs (omega (arith, le)) h zero_state) (h.bounded s) (h.bounded zero_state)
   where
     differ : (a b x y : ℤ) → a ≡ x → b ≡ y → IsWithin n x → IsWithin n y → IsWithin 32767 (a -ℤ b)
     differ a b x y e f p q = (omega (arith, ints, le), omega (arith, ints, le))

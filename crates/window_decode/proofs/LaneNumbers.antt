@@ -60,7 +60,8 @@ sum-numbers m n f g xs ys r le h k e = record {
     same : (a b x y : ℤ) → a ≡ x → b ≡ y → a +ℤ b ≡ x +ℤ y
     same a b x y e f = omega (arith, ints)
 
-pub larger-numbers : (n : ℕ) (f g : State → ℤ) (xs ys r : List ℤ) → n ≤ 32767 → AreNumbers n f xs → AreNumbers n g ys → r ≡ border_of (λ s. int_max (number_for (passed xs) s) (number_for (passed ys) s))
+pub larger-numbers : (n : ℕ) (f g : State → ℤ) (xs ys r : List ℤ) → n ≤ 32767 → AreNumbers n f xs → AreNumbers n g ys
+    → r ≡ border_of (λ s. int_max (number_for (passed xs) s) (number_for (passed ys) s))
     → AreNumbers n (λ s. int_max (f s) (g s)) r
 larger-numbers n f g xs ys r le h k e = record {
   is =

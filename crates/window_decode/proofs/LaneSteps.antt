@@ -30,8 +30,16 @@ pub each_lane : (R : ℤ → ℤ → Type 0) (xs ys : List ℤ) → length xs �
 each_lane R xs ys lx ly =
     by_eight (λ us. ((s : State) → R (number_for us s) (number_for ys s)) → Each2 R us ys)
     (λ a b c d e g h i. by_eight (λ vs. ((s : State) → R (number_for (a ∷ b ∷ c ∷ d ∷ e ∷ g ∷ h ∷ i ∷ []) s) (number_for vs s)) → Each2 R (a ∷ b ∷ c ∷ d ∷ e ∷ g ∷ h ∷ i ∷ []) vs)
-    (λ a' b' c' d' e' g' h' i' r.
-    (r (state Zero Zero Zero), (r (state Zero Zero One), (r (state Zero One Zero), (r (state Zero One One), (r (state One Zero Zero), (r (state One Zero One), (r (state One One Zero), (r (state One One One), tt))))))))) ys ly) xs lx
+    (λ a' b' c' d' e' g' h' i' r. (
+      r (state Zero Zero Zero),
+      (
+        r (state Zero Zero One),
+        (
+          r (state Zero One Zero),
+          (r (state Zero One One), (r (state One Zero Zero), (r (state One Zero One), (r (state One One Zero), (r (state One One One), tt))))),
+        ),
+      ),
+    )) ys ly) xs lx
 
 pub fits-within : (x : ℤ) → IsWithin 32767 x → SFits w16 x
 fits-within x h = search (arith, ints)
@@ -67,10 +75,12 @@ picked-border m f h =
     m h.eight h.bounded
   where
     lane : (a b c d e g i j : ℤ) → IsBounded 32767 (number_for (a ∷ b ∷ c ∷ d ∷ e ∷ g ∷ i ∷ j ∷ [])) → (s : State)
-        → to_z w16 (get_or (map (of_z w16) (a ∷ b ∷ c ∷ d ∷ e ∷ g ∷ i ∷ j ∷ []) ++ map (of_z w16) (a ∷ b ∷ c ∷ d ∷ e ∷ g ∷ i ∷ j ∷ [])) (state_number s) 0) ≡ number_for (a ∷ b ∷ c ∷ d ∷ e ∷ g ∷ i ∷ j ∷ []) s
+        → to_z w16 (get_or (map (of_z w16) (a ∷ b ∷ c ∷ d ∷ e ∷ g ∷ i ∷ j ∷ []) ++ map (of_z w16) (a ∷ b ∷ c ∷ d ∷ e ∷ g ∷ i ∷ j ∷ [])) (state_number s) 0)
+        ≡ number_for (a ∷ b ∷ c ∷ d ∷ e ∷ g ∷ i ∷ j ∷ []) s
     lane a b c d e g i j bounded s = at s.a1 s.a2 s.a3
       where
-        at : (x y z : Bit) → to_z w16 (get_or (map (of_z w16) (a ∷ b ∷ c ∷ d ∷ e ∷ g ∷ i ∷ j ∷ []) ++ map (of_z w16) (a ∷ b ∷ c ∷ d ∷ e ∷ g ∷ i ∷ j ∷ [])) (state_number (state x y z)) 0) ≡ number_for (a ∷ b ∷ c ∷ d ∷ e ∷ g ∷ i ∷ j ∷ []) (state x y z)
+        at : (x y z : Bit) → to_z w16 (get_or (map (of_z w16) (a ∷ b ∷ c ∷ d ∷ e ∷ g ∷ i ∷ j ∷ []) ++ map (of_z w16) (a ∷ b ∷ c ∷ d ∷ e ∷ g ∷ i ∷ j ∷ []))
+            (state_number (state x y z)) 0) ≡ number_for (a ∷ b ∷ c ∷ d ∷ e ∷ g ∷ i ∷ j ∷ []) (state x y z)
         at Zero Zero Zero = stored a (bounded (state Zero Zero Zero))
         at Zero Zero One = stored b (bounded (state Zero Zero One))
         at Zero One Zero = stored c (bounded (state Zero One Zero))
@@ -113,7 +123,8 @@ differences_fit [] ys h = tt
 differences_fit (x ∷ xs) [] h = tt
 differences_fit (x ∷ xs) (y ∷ ys) h = (let a = h.0.first in let b = h.0.second in let c = h.0.difference in search (arith, ints), differences_fit xs ys h.1)
 
-pub differences_stored : (xs ys : List ℤ) → Each2 IsDifference xs ys → map (to_z w16) (zip2 (act2 (sub signed) (s_int w16) (s_int w16) (s_int w16)) (map (of_z w16) xs) (map (of_z w16) ys)) ≡ zip2 ◌-ℤ◌ xs ys
+pub differences_stored : (xs ys : List ℤ) → Each2 IsDifference xs ys → map (to_z w16)
+    (zip2 (act2 (sub signed) (s_int w16) (s_int w16) (s_int w16)) (map (of_z w16) xs) (map (of_z w16) ys)) ≡ zip2 ◌-ℤ◌ xs ys
 differences_stored [] ys h = refl
 differences_stored (x ∷ xs) [] h = refl
 differences_stored (x ∷ xs) (y ∷ ys) h = next_lane _ _ _ _ (let a = h.0.first in let b = h.0.second in let c = h.0.difference in omega (arith, ints)) (differences_stored xs ys h.1)
@@ -136,7 +147,8 @@ larger_lane x y fx fy =
     larger_case x y _ fx fy (cc)
 
 pub larger_stored : (xs ys : List ℤ) → Each2 AreStored xs ys
-    → map (to_z w16) (sel_l (map (top 15) (zip2 (act2 (mask (lt signed)) (s_int w16) (s_int w16) (s_int w16)) (map (of_z w16) xs) (map (of_z w16) ys))) (map (of_z w16) ys) (map (of_z w16) xs)) ≡ zip2 int_max xs ys
+    → map (to_z w16) (sel_l (map (top 15) (zip2 (act2 (mask (lt signed)) (s_int w16) (s_int w16) (s_int w16)) (map (of_z w16) xs) (map (of_z w16) ys)))
+    (map (of_z w16) ys) (map (of_z w16) xs)) ≡ zip2 int_max xs ys
 larger_stored [] ys h = refl
 larger_stored (x ∷ xs) [] h = refl
 larger_stored (x ∷ xs) (y ∷ ys) h = next_lane _ _ _ _ (larger_lane x y h.0.first h.0.second) (larger_stored xs ys h.1)

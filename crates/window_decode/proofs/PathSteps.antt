@@ -18,7 +18,8 @@ earned-append g j s [] vs n h =
     omega (arith, ints, f)
 earned-append g j s (u ∷ us) vs zero h = absurd (omega (arith, h))
 earned-append g j s (u ∷ us) vs (suc n) h =
-    let i : earned g (suc j) (next s u) (us ++ vs) ≡ earned g (suc j) (next s u) us +ℤ earned g (suc j + n) (reached (next s u) us) vs = earned-append g (suc j) (next s u) us vs n (omega (arith, h)) in
+    let i : earned g (suc j) (next s u) (us ++ vs) ≡ earned g (suc j) (next s u) us +ℤ earned g (suc j + n) (reached (next s u) us) vs =
+    earned-append g (suc j) (next s u) us vs n (omega (arith, h)) in
     let e : suc j + n ≡ j + suc n = omega arith in
     let f : earned g (suc j + n) (reached (next s u) us) vs ≡ earned g (j + suc n) (reached (next s u) us) vs = ap (λ i. earned g i (reached (next s u) us) vs) e in
     omega (arith, ints, i, f)

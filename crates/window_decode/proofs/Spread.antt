@@ -86,7 +86,8 @@ forward-near first g j m narrow h s t =
     let u : State = reached p.0.start w.front in
     let ws = three_inputs u t in
     let here : first p.0.start +ℤ earned g 0 p.0.start p.0.bits ≡ (first p.0.start +ℤ earned g 0 p.0.start w.front) +ℤ earned g j u w.rest =
-    ap (λ us. first p.0.start +ℤ earned g 0 p.0.start us) w.is ∙ assoc (first p.0.start) _ (earned g 0 p.0.start w.front) (earned g j u w.rest) (earned-from_zero g p.0.start w.front w.rest j w.front_long) in
+    ap (λ us. first p.0.start +ℤ earned g 0 p.0.start us) w.is ∙ assoc (first p.0.start) _ (earned g 0 p.0.start w.front) (earned g j u w.rest)
+    (earned-from_zero g p.0.start w.front w.rest j w.front_long) in
     let there : first p.0.start +ℤ earned g 0 p.0.start (w.front ++ ws.0) ≡ (first p.0.start +ℤ earned g 0 p.0.start w.front) +ℤ earned g j u ws.0 =
     assoc (first p.0.start) _ (earned g 0 p.0.start w.front) (earned g j u ws.0) (earned-from_zero g p.0.start w.front ws.0 j w.front_long) in
     let long : length (w.front ++ ws.0) ≡ j + 3 = length-append w.front ws.0 ∙ (let l : length w.front + length ws.0 ≡ j + 3 = omega (arith, w.front_long, ws.1) in l) in
@@ -111,7 +112,8 @@ backward-near last g j n m narrow h s t =
     let after : ℤ = earned g (j + 3) v w.rest +ℤ last (reached v w.rest) in
     let here : earned g j s p.0 +ℤ last (reached s p.0) ≡ earned g j s w.front +ℤ after =
     ap (λ us. earned g j s us +ℤ last (reached s us)) w.is
-    ∙ (ap (λ z. earned g j s (w.front ++ w.rest) +ℤ last z) (reached-append s w.front w.rest) ∙ assoc _ (earned g j s w.front) (earned g (j + 3) v w.rest) (last (reached v w.rest)) (earned-append g j s w.front w.rest 3 w.front_long)) in
+    ∙ (ap (λ z. earned g j s (w.front ++ w.rest) +ℤ last z) (reached-append s w.front w.rest)
+    ∙ assoc _ (earned g j s w.front) (earned g (j + 3) v w.rest) (last (reached v w.rest)) (earned-append g j s w.front w.rest 3 w.front_long)) in
     let back : reached t ws.0 ≡ v = ws.2 in
     let there : earned g j t (ws.0 ++ w.rest) +ℤ last (reached t (ws.0 ++ w.rest)) ≡ earned g j t ws.0 +ℤ after =
     ap (λ z. earned g j t (ws.0 ++ w.rest) +ℤ last z) (reached-append t ws.0 w.rest ∙ ap (λ z. reached z w.rest) back)

@@ -101,7 +101,8 @@ back-less f m g h c s e k =
     less : (a b x y p q u v : ℤ) → a ≡ x -ℤ c → b ≡ y -ℤ c → u ≡ p → v ≡ q → int_max (p +ℤ a) (q +ℤ b) ≡ int_max (u +ℤ x) (v +ℤ y) -ℤ c
     less a b x y p q u v e f h k = omega (arith, ints, clamps)
 
-pub forward-row : (start : Border) (g : Gain) (j : ℕ) (m k : List ℤ) (x p : ℤ) → IsForwardRow start g j m → Earns g j x p → k ≡ relative (forward (number_for m) (step_gain x p)) → IsForwardRow start g (j + 1) k
+pub forward-row : (start : Border) (g : Gain) (j : ℕ) (m k : List ℤ) (x p : ℤ) → IsForwardRow start g j m → Earns g j x p
+    → k ≡ relative (forward (number_for m) (step_gain x p)) → IsForwardRow start g (j + 1) k
 forward-row start g j m k x p h a e = record {
   metrics = forward h.metrics (g j);
   greatest = subst (λ n. IsForward (number_for start) g n (forward h.metrics (g j))) (let n : suc j ≡ j + 1 = omega arith in n) (forward_more (number_for start) g j h.metrics h.greatest);
@@ -121,7 +122,8 @@ forward_passed start g j m b narrow h = subst (λ (row : List ℤ). IsForwardRow
 pub backward_first : (end : Border) (g : Gain) (n : ℕ) (m : List ℤ) → m ≡ end → IsBorder end → IsBackwardRow end g n 0 m
 backward_first end g n m e h = record { metrics = number_for end; greatest = backward_none (number_for end) g n; is = e ∙ border-relative end h }
 
-pub backward-row : (end : Border) (g : Gain) (j n : ℕ) (m k : List ℤ) (x p : ℤ) → IsBackwardRow end g (suc j) n m → Earns g j x p → k ≡ relative (backward (number_for m) (step_gain x p)) → IsBackwardRow end g j (n + 1) k
+pub backward-row : (end : Border) (g : Gain) (j n : ℕ) (m k : List ℤ) (x p : ℤ) → IsBackwardRow end g (suc j) n m → Earns g j x p
+    → k ≡ relative (backward (number_for m) (step_gain x p)) → IsBackwardRow end g j (n + 1) k
 backward-row end g j n m k x p h a e = record {
   metrics = backward h.metrics (g j);
   greatest = subst (λ i. IsBackward (number_for end) g j i (backward h.metrics (g j))) (let i : suc n ≡ n + 1 = omega arith in i) (backward_more (number_for end) g j n h.metrics h.greatest);
@@ -168,7 +170,8 @@ cell-best w j n before after long h k =
     cancel a b x y c e f = omega (arith, ints)
 
 pub cell-joined : (start end : Border) (sys par : List ℤ) (cells : List Extrinsic) (j n : ℕ) (before after : List ℤ)
-    → length (values cells) ≡ j + suc n → IsForwardRow start (gain (window_between start end sys par cells)) j before → IsBackwardRow end (gain (window_between start end sys par cells)) (suc j) n after
+    → length (values cells) ≡ j + suc n → IsForwardRow start (gain (window_between start end sys par cells)) j before
+    → IsBackwardRow end (gain (window_between start end sys par cells)) (suc j) n after
     → cell_through before after (at sys j) (at par j) (cell_at cells j).value ≡ new_cell (window_between start end sys par cells) j
 cell-joined start end sys par cells j n before after long h k =
     ap (λ z. cell_through before after (at sys j) (at par j) z) (sym (at-values cells j)) ∙ cell-best (window_between start end sys par cells) j n before after long h k

@@ -50,7 +50,8 @@ renewed-more w old cells i j v place h e = record {
   renewed = λ k le lt.
       elim (cases_lt j k) [
         | inl after ↦ get_or-set_other cells j k v zero_cell (beyond k after) ∙ h.renewed k (omega (arith, after, place)) lt
-        | inr upto ↦ (let s : j ≡ k = omega (arith, upto, le, place) in subst (λ n. cell_at (set cells j v) n ≡ new_cell w n) s (get_or-set_same cells j v zero_cell (omega (arith, place, h.long)) ∙ e))
+        | inr upto ↦ (let s : j ≡ k = omega (arith, upto, le, place) in subst (λ n. cell_at (set cells j v) n ≡ new_cell w n) s
+            (get_or-set_same cells j v zero_cell (omega (arith, place, h.long)) ∙ e))
       ];
 }
   where
@@ -60,11 +61,13 @@ renewed-more w old cells i j v place h e = record {
     beyond : (k : ℕ) → j < k → k ≢ j
     beyond k lt e = omega (arith, lt, e)
 
-pub renewed_set : (w : Window) (old cells next : List Extrinsic) (i j : ℕ) (v : Extrinsic) → next ≡ set cells j v → j + suc i ≡ length old → Renewed w old cells i → v ≡ new_cell w j → Renewed w old next (i + 1)
+pub renewed_set : (w : Window) (old cells next : List Extrinsic) (i j : ℕ) (v : Extrinsic) → next ≡ set cells j v → j + suc i ≡ length old
+    → Renewed w old cells i → v ≡ new_cell w j → Renewed w old next (i + 1)
 renewed_set w old cells next i j v is place h e = subst (λ cells. Renewed w old cells (i + 1)) (sym is) (renewed-more w old cells i j v place h e)
 
 -- a row that was read
-pub row_read : (start : Border) (g : Gain) (rows : List (List ℤ)) (j : ℕ) (row : List ℤ) → j < length rows → row ≡ get_or rows j row → IsForwardRow start g j (row_at rows j) → IsForwardRow start g j row
+pub row_read : (start : Border) (g : Gain) (rows : List (List ℤ)) (j : ℕ) (row : List ℤ) → j < length rows → row ≡ get_or rows j row
+    → IsForwardRow start g j (row_at rows j) → IsForwardRow start g j row
 row_read start g rows j row inside is h = subst (λ m. IsForwardRow start g j m) (sym (get_or_read rows j row inside is [])) h
 
 pub renewed_all : (w : Window) (old cells : List Extrinsic) (i : ℕ) → width w ≡ length old → length old ≤ i → Renewed w old cells i → cells ≡ new_cells w
@@ -111,12 +114,14 @@ border_from_near row m e near = subst (λ (b : Border). IsBorder b) (sym e) (bor
 pub forward_row-border : (start : Border) (g : Gain) (n : ℕ) (row : List ℤ) → 8 ≤ n → ((i : ℕ) → i < n → IsNarrow g i) → IsForwardRow start g n row → IsBorder row
 forward_row-border start g n row le narrow h =
     let e : n ≡ (n - 3) + 3 = omega (arith, le) in
-    border_from_near row h.metrics h.is (forward-near (number_for start) g (n - 3) h.metrics (λ i lt. narrow i (omega (arith, lt, le))) (subst (λ m. IsForward (number_for start) g m h.metrics) e h.greatest))
+    border_from_near row h.metrics h.is (forward-near (number_for start) g (n - 3) h.metrics (λ i lt. narrow i (omega (arith, lt, le)))
+    (subst (λ m. IsForward (number_for start) g m h.metrics) e h.greatest))
 
 pub backward_row-border : (end : Border) (g : Gain) (n : ℕ) (row : List ℤ) → 8 ≤ n → ((i : ℕ) → i < n → IsNarrow g i) → IsBackwardRow end g 0 n row → IsBorder row
 backward_row-border end g n row le narrow h =
     let e : n ≡ 3 + (n - 3) = omega (arith, le) in
-    border_from_near row h.metrics h.is (backward-near (number_for end) g 0 (n - 3) h.metrics (λ i lt. narrow i (omega (arith, lt, le))) (subst (λ m. IsBackward (number_for end) g 0 m h.metrics) e h.greatest))
+    border_from_near row h.metrics h.is (backward-near (number_for end) g 0 (n - 3) h.metrics (λ i lt. narrow i (omega (arith, lt, le)))
+    (subst (λ m. IsBackward (number_for end) g 0 m h.metrics) e h.greatest))
 
 pub forward_row-left : (start end : Border) (sys par : List ℤ) (cells : List Extrinsic) (row : List ℤ) → IsForwardRow start (gain (window_between start end sys par cells)) (length cells) row
     → row ≡ forward_left (window_between start end sys par cells)

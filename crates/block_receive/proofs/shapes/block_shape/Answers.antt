@@ -9,7 +9,8 @@ use Rattle.block_receive.proofs.LawfulShapes.{IsCount, lawful, shape-is}
 use Rattle.block_receive.proofs.shapes.block_shape.Goals as goal
 
 pub win-windows-requires-clause-size : goal.win-windows-requires-clause-size
-win-windows-requires-clause-size c = let block = block-numbers c.args.task.now.plan c.args.r c.size-k.ensures.lawful c.requires in subst (λ (k : ℕ). Contains sizes k) (sym c.size-k.ensures.value) block.inside
+win-windows-requires-clause-size c = let block = block-numbers c.args.task.now.plan c.args.r c.size-k.ensures.lawful c.requires in
+    subst (λ (k : ℕ). Contains sizes k) (sym c.size-k.ensures.value) block.inside
 
 pub unwrap-requires : goal.unwrap-requires
 unwrap-requires c =

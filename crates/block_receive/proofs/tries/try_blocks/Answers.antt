@@ -34,7 +34,8 @@ loop-r-preserved g c =
     ] in
     record {
       left = step.1;
-      tried = λ xs hold. pushed_next (tried_block p e xs held) c.loop-r.results.items c.push.new.self.items r c.match-flatten.result (c.loop-r.invariant.tried xs hold) c.in_ok-push.ensures.items (is xs hold);
+      tried = λ xs hold. pushed_next (tried_block p e xs held) c.loop-r.results.items c.push.new.self.items r c.match-flatten.result
+          (c.loop-r.invariant.tried xs hold) c.in_ok-push.ensures.items (is xs hold);
     }
 
 pub returns-clause-results : goal.returns-clause-results

@@ -13,7 +13,8 @@ loop-i-init c = none_written (λ k v. turned_value (at (highest_first 32 c.args.
 pub loop-i-preserved : goal.loop-i-preserved
 loop-i-preserved c =
     one_more_written (λ k v. turned_value (at (highest_first 32 c.args.word) k) v) (pos 0) c.args.softs.now c.loop-i.i c.loop-i.softs c.turn.result (omega arith) c.loop-i.invariant
-    (c.turn.ensures ∙ ap (turned_value c.digit.result) (get_or_read c.loop-i.softs c.loop-i.i c.index-softs-i.result (omega arith) c.index-softs-i.is (pos 0)) ∙ ap (λ b. turned_value b (get_or c.loop-i.softs c.loop-i.i (pos 0))) (c.digit.ensures ∙ sym (at-highest_first 32 c.args.word c.loop-i.i (31 - c.loop-i.i) (omega arith))))
+    (c.turn.ensures ∙ ap (turned_value c.digit.result) (get_or_read c.loop-i.softs c.loop-i.i c.index-softs-i.result (omega arith) c.index-softs-i.is (pos 0))
+    ∙ ap (λ b. turned_value b (get_or c.loop-i.softs c.loop-i.i (pos 0))) (c.digit.ensures ∙ sym (at-highest_first 32 c.args.word c.loop-i.i (31 - c.loop-i.i) (omega arith))))
 
 pub returns : goal.returns
 unfolding turned_by

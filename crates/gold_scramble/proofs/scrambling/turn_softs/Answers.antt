@@ -18,7 +18,8 @@ loop-i-preserved c =
     let from = 32 * c.loop-i.i in
     record {
       gold = one_word_on c.args.init c.loop-i.i c.loop-i.gold c.next_word.new.self c.loop-i.invariant.gold c.next_word.ensures.moved;
-      softs = word_taken (λ v b. turned_value b v) (pos 0) c.args.init from (c.min-to.result - from) (32 * (c.loop-i.i + 1)) c.next_word.result c.loop-i.gold c.args.softs.now c.loop-i.softs c.turn_by_word.new.softs
+      softs = word_taken (λ v b. turned_value b v) (pos 0) c.args.init from (c.min-to.result - from)
+          (32 * (c.loop-i.i + 1)) c.next_word.result c.loop-i.gold c.args.softs.now c.loop-i.softs c.turn_by_word.new.softs
           c.loop-i.invariant.gold c.next_word.ensures.bits (omega arith) (omega arith) c.turn_by_word.ensures c.loop-i.invariant.softs (omega arith) (λ k h l. omega arith);
     }
 

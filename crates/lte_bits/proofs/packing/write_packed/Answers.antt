@@ -32,7 +32,8 @@ returns-then-not-is_empty c =
       | inl below ↦ let ne : k ≢ n = omega (arith, below) in rw get_or-set_other (c.loop-i.invariant k (omega (arith, c.loop-i-test.false, below)))
       | inr above ↦
           let e : k ≡ n = omega (arith, above, h, count) in
-          let last = short-byte bits c.as_chunks.result.1.now n byte many (c.as_chunks.ensures.back ∙ ap (λ m. drop (m * 8) bits) (sym many)) (c.byte_of-then-not-is_empty.ensures ∙ ap number c.filled_up.ensures) in
+          let last = short-byte bits c.as_chunks.result.1.now n byte many (c.as_chunks.ensures.back ∙ ap (λ m. drop (m * 8) bits) (sym many))
+          (c.byte_of-then-not-is_empty.ensures ∙ ap number c.filled_up.ensures) in
           ap (λ j. get_or (set c.loop-i.bytes n byte) j 0) e ∙ get_or-set_same c.loop-i.bytes n byte 0 fits ∙ last ∙ ap (byte_at bits) (sym e)
     ])
 

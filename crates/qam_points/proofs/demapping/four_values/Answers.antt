@@ -10,11 +10,15 @@ returns c =
     let y = c.args.y in
     let amp = c.args.amp in
     let ar = c.first_of_two.ensures.range in
-    let a : c.soft.result ≡ soft_value 4 amp y 0 = first_value 2 amp y 0 c.soft.result c.first_of_two.result (to_z w32 (of_z w32 y.i)) (omega arith) c.soft.ensures (omega (arith, ints)) (c.first_of_two.ensures.value) (omega (arith, ints)) in
+    let a : c.soft.result ≡ soft_value 4 amp y 0 = first_value 2 amp y 0 c.soft.result c.first_of_two.result (to_z w32 (of_z w32 y.i))
+    (omega arith) c.soft.ensures (omega (arith, ints)) (c.first_of_two.ensures.value) (omega (arith, ints)) in
     let br = c.first_of_two-2.ensures.range in
-    let b : c.soft-2.result ≡ soft_value 4 amp y 1 = second_value 2 amp y 0 c.soft-2.result c.first_of_two-2.result (to_z w32 (of_z w32 y.q)) (omega arith) c.soft-2.ensures (omega (arith, ints)) (c.first_of_two-2.ensures.value) (omega (arith, ints)) in
+    let b : c.soft-2.result ≡ soft_value 4 amp y 1 = second_value 2 amp y 0 c.soft-2.result c.first_of_two-2.result (to_z w32 (of_z w32 y.q))
+    (omega arith) c.soft-2.ensures (omega (arith, ints)) (c.first_of_two-2.ensures.value) (omega (arith, ints)) in
     let dr = c.second_of_two.ensures.range in
-    let d : c.soft-3.result ≡ soft_value 4 amp y 2 = first_value 2 amp y 1 c.soft-3.result c.second_of_two.result (to_z w32 (of_z w32 y.i)) (omega arith) c.soft-3.ensures (omega (arith, ints)) (c.second_of_two.ensures.value) (omega (arith, ints)) in
+    let d : c.soft-3.result ≡ soft_value 4 amp y 2 = first_value 2 amp y 1 c.soft-3.result c.second_of_two.result (to_z w32 (of_z w32 y.i))
+    (omega arith) c.soft-3.ensures (omega (arith, ints)) (c.second_of_two.ensures.value) (omega (arith, ints)) in
     let er = c.second_of_two-2.ensures.range in
-    let e : c.soft-4.result ≡ soft_value 4 amp y 3 = second_value 2 amp y 1 c.soft-4.result c.second_of_two-2.result (to_z w32 (of_z w32 y.q)) (omega arith) c.soft-4.ensures (omega (arith, ints)) (c.second_of_two-2.ensures.value) (omega (arith, ints)) in
+    let e : c.soft-4.result ≡ soft_value 4 amp y 3 = second_value 2 amp y 1 c.soft-4.result c.second_of_two-2.result (to_z w32 (of_z w32 y.q))
+    (omega arith) c.soft-4.ensures (omega (arith, ints)) (c.second_of_two-2.ensures.value) (omega (arith, ints)) in
     cc

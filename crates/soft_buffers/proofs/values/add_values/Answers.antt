@@ -22,7 +22,8 @@ add_run-requires-clause-run c =
     let step = c.loop-step in
     let values = c.args.values.now in
     let run : ℕ = c.run-run.result in
-    subst (λ (n : ℕ). IsRun ring.rows ring.k ring.fill step.cursor n) (sym (part-long step.taken run values (omega (arith, c.run-run.ensures.most, step.invariant.adding.within)))) c.run-run.ensures.run
+    subst (λ (n : ℕ). IsRun ring.rows ring.k ring.fill step.cursor n) (sym (part-long step.taken run values
+    (omega (arith, c.run-run.ensures.most, step.invariant.adding.within)))) c.run-run.ensures.run
 
 pub returns-then-taken-values-clause-cells : goal.returns-then-taken-values-clause-cells
 returns-then-taken-values-clause-cells c =
@@ -68,7 +69,8 @@ loop-step-preserved c =
           let end : c.if-run-gt0.cursor.n ≡ n + (run - 1) = ap (λ (c : Cursor). c.n) (v.cursor-is ∙ v.down-cursor.ensures) in
           let is : c.if-run-gt0.cells ≡ with_values ring.k bits part run step.cells = v.cells-is ∙ v.add_run.ensures ∙ ap (λ (m : ℕ). with_values ring.k bits part m step.cells) long in
           let all = adding_run w c.args.cells.now gone step.taken step.cells n run bits part step.invariant.adding here c.run-run.ensures.within (λ i h. c.run-run.ensures.run.bits i h)
-          (λ i h. let t = run-inside ring.k ring.fill (n + i) ring.size (bits i) (bits i) (omega (arith, h, c.run-run.ensures.within)) ring.within (c.run-run.ensures.run.bits i h) refl in record { stream = t.0; index = t.1 })
+          (λ i h. let t = run-inside ring.k ring.fill (n + i) ring.size (bits i) (bits i) (omega (arith, h, c.run-run.ensures.within)) ring.within
+          (c.run-run.ensures.run.bits i h) refl in record { stream = t.0; index = t.1 })
           c.requires.cells fits (part-from values step.taken run fits) in
           record {
             gone = gone + run;
@@ -85,7 +87,8 @@ loop-step-preserved c =
             adding = adding_kept w c.args.cells.now gone step.taken c.if-run-gt0.taken step.cells c.if-run-gt0.cells n v.in-Some.spot v.index-values-taken.result
                 step.invariant.adding here (sym v.in-Some.ensures.spot) (record { stream = v.in-Some.ensures.inside.0; index = v.in-Some.ensures.inside.1 })
                 c.requires.cells (omega (arith, c.if-taken-values.false, step.invariant.adding.within)) v.taken-is
-                (v.cells-is ∙ changed ring.k v.in-Some.spot step.cells v.cell_index-n.result v.index-cells-n.result v.index-values-taken.result (get_or values step.taken v.index-values-taken.result) v.added.result
+                (v.cells-is ∙ changed ring.k v.in-Some.spot step.cells v.cell_index-n.result v.index-cells-n.result v.index-values-taken.result
+                (get_or values step.taken v.index-values-taken.result) v.added.result
                 (omega (arith, v.cell_index-n.ensures.within, c.requires.cells, step.invariant.adding.long)) v.cell_index-n.ensures.value v.index-cells-n.is v.index-values-taken.is v.added.ensures);
           }
       | else-run-gt0+in_default v ↦

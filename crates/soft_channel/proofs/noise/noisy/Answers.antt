@@ -19,7 +19,8 @@ loop-bit-preserved c =
     let w = word_drawn (noise_draw t) c.loop-bit.bit-index _ _ _ c.loop-bit.invariant.0 c.next_word.ensures in (
       one_more_drawn (noise_draw t) c.loop-bit.bit-index _ _ _ (search rules) c.loop-bit.invariant.0 c.next_word.ensures,
       pushed_next (noisy_value s t c.args.bits.now) c.loop-bit.values.items c.push.new.self.items c.loop-bit.bit-index _ c.loop-bit.invariant.1 c.in_ok-push.ensures.items
-          (c.received.ensures ∙ ap (received c.args.amp (slice_index_or c.args.bits.now c.loop-bit.bit-index Zero)) (cast c.term.result c.term.ensures.range ∙ c.term.ensures.value ∙ ap (term c.args.noise) w)),
+          (c.received.ensures ∙ ap (received c.args.amp (slice_index_or c.args.bits.now c.loop-bit.bit-index Zero))
+          (cast c.term.result c.term.ensures.range ∙ c.term.ensures.value ∙ ap (term c.args.noise) w)),
     )
 
 pub returns : goal.returns

@@ -7,10 +7,12 @@ use Rattle.window_decode.proofs.border.above_zero.Goals as goal
 fits : (a b u v : ℤ) → a ≡ u → b ≡ v → IsWithin 10000000 u → IsWithin 10000000 v → FitsSigned w64 (to_z w64 (of_z w64 a) -ℤ to_z w64 (of_z w64 b))
 fits a b u v e f h k = search (arith, ints)
 
-short : (a b u v : ℤ) → a ≡ u → b ≡ v → IsWithin 10000000 u → IsWithin 10000000 v → (u -ℤ v) ≤ℤ pos 4096 → (v -ℤ u) ≤ℤ pos 4096 → FitsSigned w16 (to_z w64 (of_z w64 (to_z w64 (of_z w64 a) -ℤ to_z w64 (of_z w64 b))))
+short : (a b u v : ℤ) → a ≡ u → b ≡ v → IsWithin 10000000 u → IsWithin 10000000 v → (u -ℤ v) ≤ℤ pos 4096 → (v -ℤ u) ≤ℤ pos 4096
+    → FitsSigned w16 (to_z w64 (of_z w64 (to_z w64 (of_z w64 a) -ℤ to_z w64 (of_z w64 b))))
 short a b u v e f h k p q = search (arith, ints)
 
-value : (a b u v : ℤ) → a ≡ u → b ≡ v → IsWithin 10000000 u → IsWithin 10000000 v → (u -ℤ v) ≤ℤ pos 4096 → (v -ℤ u) ≤ℤ pos 4096 → to_z w16 (of_z w16 (to_z w64 (of_z w64 (to_z w64 (of_z w64 a) -ℤ to_z w64 (of_z w64 b))))) ≡ u -ℤ v
+value : (a b u v : ℤ) → a ≡ u → b ≡ v → IsWithin 10000000 u → IsWithin 10000000 v → (u -ℤ v) ≤ℤ pos 4096 → (v -ℤ u) ≤ℤ pos 4096
+    → to_z w16 (of_z w16 (to_z w64 (of_z w64 (to_z w64 (of_z w64 a) -ℤ to_z w64 (of_z w64 b))))) ≡ u -ℤ v
 value a b u v e f h k p q = omega (arith, ints)
 
 pub overflow_sub-result : goal.overflow_sub-result

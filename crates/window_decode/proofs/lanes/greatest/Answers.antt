@@ -41,11 +41,13 @@ larger-of_two-requires-clause-second c =
 
 pub middle_turned-requires : goal.middle_turned-requires
 middle_turned-requires c =
-    lanes_passed 32767 _ _ least (halves (number_for c.args.a) newest c.args.a c.newest_turned.result c.larger-of_two.result (lanes-own c.args.a c.requires) c.newest_turned.ensures c.larger-of_two.ensures)
+    lanes_passed 32767 _ _ least (halves (number_for c.args.a) newest c.args.a c.newest_turned.result c.larger-of_two.result
+    (lanes-own c.args.a c.requires) c.newest_turned.ensures c.larger-of_two.ensures)
 
 pub larger-of_four-requires-clause-first : goal.larger-of_four-requires-clause-first
 larger-of_four-requires-clause-first c =
-    lanes_passed 32767 _ _ least (halves (number_for c.args.a) newest c.args.a c.newest_turned.result c.larger-of_two.result (lanes-own c.args.a c.requires) c.newest_turned.ensures c.larger-of_two.ensures)
+    lanes_passed 32767 _ _ least (halves (number_for c.args.a) newest c.args.a c.newest_turned.result c.larger-of_two.result
+    (lanes-own c.args.a c.requires) c.newest_turned.ensures c.larger-of_two.ensures)
 
 pub larger-of_four-requires-clause-second : goal.larger-of_four-requires-clause-second
 larger-of_four-requires-clause-second c =

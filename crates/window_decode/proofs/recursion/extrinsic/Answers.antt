@@ -46,7 +46,8 @@ record IsThrough (before after : List ℤ) (p : ℤ) (u : Bit) (r : ℤ) : Type 
   value : r ≡ through before after p u
   range : IsWithin 12909 r
 
-by_bit : (u : Bit) (before after : List ℤ) (p : ℤ) (o s : List ℤ) (r : ℤ) → IsRelative before → AreNumbers 6518 (onward after p u) o → s ≡ border_of (λ t. number_for (passed before) t +ℤ number_for (passed o) t) → r ≡ greatest (passed s)
+by_bit : (u : Bit) (before after : List ℤ) (p : ℤ) (o s : List ℤ) (r : ℤ) → IsRelative before → AreNumbers 6518 (onward after p u) o
+    → s ≡ border_of (λ t. number_for (passed before) t +ℤ number_for (passed o) t) → r ≡ greatest (passed s)
     → IsThrough before after p u r
 by_bit u before after p o s r h g e f =
     let w = joined-numbers u before after p o s h g e in

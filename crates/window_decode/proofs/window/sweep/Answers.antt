@@ -25,7 +25,8 @@ forward-before-requires g c =
 pub loop-j-preserved : goal.loop-j-preserved
 loop-j-preserved g c =
     let S = g.S.Strip in let strip = c.args.strip.now in let j = c.loop-j.j in let step = c.step_at-step in
-    let a = earns c.args.from.now c.args.to.now (S.systematic strip) (S.parity strip) (S.cells strip) j step.result.input step.result.parity step.ensures.input step.ensures.parity step.result.input_bound step.result.parity_bound in
+    let a = earns c.args.from.now c.args.to.now (S.systematic strip) (S.parity strip)
+    (S.cells strip) j step.result.input step.result.parity step.ensures.input step.ensures.parity step.result.input_bound step.result.parity_bound in
     let h = c.loop-j.invariant in
     let inside : j < length c.loop-j.rows.items = omega (arith, c.loop-j-test.true, c.width-width.ensures, c.requires.room, h.room) in
     let narrow_next = narrow-more _ j h.narrow (narrow _ j step.result.input step.result.parity a) in
@@ -88,7 +89,8 @@ loop-i-preserved g c =
     let inside : j < length c.loop-j.rows.items = omega (arith, place, c.requires.room, c.loop-j.invariant.room) in
     let before = forward_passed _ _ j c.index.result.now c.loop-j.invariant.border (λ k lt. c.loop-j.invariant.narrow k (omega (arith, lt, place, c.loop-j-test.false, c.width-width.ensures)))
     (row_read _ _ c.loop-j.rows.items j c.index.result.now inside c.index.ensures (c.loop-j.invariant.rows j (omega (arith, place, c.loop-j-test.false, c.width-width.ensures)))) in
-    let made : c.new_cell-cell.result ≡ cell_through (passed c.index.result.now) (map (to_z w16) c.loop-i.after) (at (S.systematic c.loop-i.strip) j) (at (S.parity c.loop-i.strip) j) (cell_at (S.cells c.loop-i.strip) j).value =
+    let made : c.new_cell-cell.result ≡ cell_through (passed c.index.result.now) (map (to_z w16) c.loop-i.after) (at (S.systematic c.loop-i.strip) j)
+    (at (S.parity c.loop-i.strip) j) (cell_at (S.cells c.loop-i.strip) j).value =
     c.new_cell-cell.ensures (at (S.systematic c.loop-i.strip) j) (cell_at (S.cells c.loop-i.strip) j).value step.ensures.input
     ∙ ap (λ p. cell_through (passed c.index.result.now) (map (to_z w16) c.loop-i.after) (at (S.systematic c.loop-i.strip) j) p (cell_at (S.cells c.loop-i.strip) j).value) step.ensures.parity in
     let v = cell_still c.args.from.now c.args.to.now (S.systematic strip) (S.parity strip) (S.cells strip) (S.systematic c.loop-i.strip) (S.parity c.loop-i.strip) (S.cells c.loop-i.strip) i j
@@ -107,7 +109,8 @@ loop-i-preserved g c =
 
 pub returns-clause-cells : goal.returns-clause-cells
 returns-clause-cells g c =
-    renewed_all _ _ _ c.loop-i.i (width-between c.args.from.now c.args.to.now (g.S.Strip.systematic c.args.strip.now) (g.S.Strip.parity c.args.strip.now) (g.S.Strip.cells c.args.strip.now)) (omega (arith, c.loop-i-test.false, c.width-width.ensures)) c.loop-i.invariant.cells
+    renewed_all _ _ _ c.loop-i.i (width-between c.args.from.now c.args.to.now (g.S.Strip.systematic c.args.strip.now) (g.S.Strip.parity c.args.strip.now)
+    (g.S.Strip.cells c.args.strip.now)) (omega (arith, c.loop-i-test.false, c.width-width.ensures)) c.loop-i.invariant.cells
 
 pub returns-clause-forward : goal.returns-clause-forward
 returns-clause-forward g c =
@@ -119,7 +122,8 @@ pub returns-clause-backward : goal.returns-clause-backward
 returns-clause-backward g c =
     let S = g.S.Strip in let strip = c.args.strip.now in
     backward_row-left c.args.from.now c.args.to.now (S.systematic strip) (S.parity strip) (S.cells strip) (map (to_z w16) c.loop-i.after)
-    (backward_at _ _ _ 0 c.loop-i.i _ _ (omega (arith, c.loop-i-test.false, c.width-width.ensures)) (omega (arith, c.loop-i-test.false, c.loop-i.auto.i-end, c.width-width.ensures)) c.loop-i.invariant.row)
+    (backward_at _ _ _ 0 c.loop-i.i _ _ (omega (arith, c.loop-i-test.false, c.width-width.ensures))
+    (omega (arith, c.loop-i-test.false, c.loop-i.auto.i-end, c.width-width.ensures)) c.loop-i.invariant.row)
 
 pub returns-clause-borders : goal.returns-clause-borders
 returns-clause-borders g c =
@@ -127,5 +131,6 @@ returns-clause-borders g c =
       forward_row-border _ _ _ (map (to_z w16) c.loop-j.before) c.requires.least (λ i lt. narrow i (omega (arith, lt, c.loop-j-test.false, c.width-width.ensures)))
           (forward_at _ _ c.loop-j.j _ _ (omega (arith, c.loop-j-test.false, c.loop-j.auto.j-end, c.width-width.ensures)) c.loop-j.invariant.row),
       backward_row-border _ _ _ (map (to_z w16) c.loop-i.after) c.requires.least (λ i lt. narrow i (omega (arith, lt, c.loop-j-test.false, c.width-width.ensures)))
-          (backward_at _ _ _ 0 c.loop-i.i _ _ (omega (arith, c.loop-i-test.false, c.width-width.ensures)) (omega (arith, c.loop-i-test.false, c.loop-i.auto.i-end, c.width-width.ensures)) c.loop-i.invariant.row),
+          (backward_at _ _ _ 0 c.loop-i.i _ _ (omega (arith, c.loop-i-test.false, c.width-width.ensures))
+          (omega (arith, c.loop-i-test.false, c.loop-i.auto.i-end, c.width-width.ensures)) c.loop-i.invariant.row),
     )

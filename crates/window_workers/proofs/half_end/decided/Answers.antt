@@ -60,7 +60,8 @@ returns-clause-result c =
     let bits = checked-bits job h n c.f-fill.result (cell_values c.args.cells.now) c.decide.new.bits fill eh c.requires.cells c.decide.ensures in
     let kind = c.kind.ensures.value ∙ ap (λ s. s.kind) was.shape in
     let last : IsFalse c.holds-passed.result → job.shape.limit ≤ n = λ no. elim c.else-not-passed.branch [
-      | else-not-passed-via-then-not-passed+else-iteration-limit w ↦ (let limit = w.limit.ensures.value ∙ ap (λ s. s.limit) was.shape in let most = w.if-iteration-limit.false in omega (arith, limit, most))
+      | else-not-passed-via-then-not-passed+else-iteration-limit w ↦ (let limit = w.limit.ensures.value ∙ ap (λ s. s.limit) was.shape in let most =
+          w.if-iteration-limit.false in omega (arith, limit, most))
       | else-not-passed-via-else-not-passed w ↦ (let yes = w.if-not-passed.false in absurd (cc))
     ] in
     let check : IsTrue c.holds-passed.result ↔ IsMultiple (generator job.shape.kind) c.decide.new.bits =

@@ -47,7 +47,8 @@ pub take_left-requires : goal.take_left-requires
 take_left-requires c =
     let job = job_of_piece c.args.about.now.value in
     let long = long-of_job job (name_of c.args.cells) c.order_of.result c.split-shares.result.items c.requires.job c.requires.name c.split-shares.ensures.shares in
-    let pieces : length c.put_together-rooms.new.pieces.items ≡ job.shape.windows = sym (long-map share_of c.put_together-rooms.new.pieces.items) ∙ (ap length c.put_together-rooms.ensures.shares ∙ long) in
+    let pieces : length c.put_together-rooms.new.pieces.items ≡ job.shape.windows = sym (long-map share_of c.put_together-rooms.new.pieces.items)
+    ∙ (ap length c.put_together-rooms.ensures.shares ∙ long) in
     ap length (c.as_mut_slice.ensures.value ∙ c.requires.progress.left) ∙ (left-long job.streams job.shape c.args.half ∙ (sym pieces ∙ ap length (sym c.as_slice-2.ensures.value)))
 
 pub returns-clause-pieces : goal.returns-clause-pieces

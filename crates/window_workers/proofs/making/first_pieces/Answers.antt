@@ -57,7 +57,8 @@ returns c =
       shape = refl;
       lawful = lawful;
       ready = first-ready job order cells c.split-shares.result.items c.in_ok-tools.tools.items c.put_together-rooms.new.pieces.items c.as_slice-left.result.now c.tail.result
-          c.in_ok-progress.progress lawful is refl made.values c.split-shares.ensures.shares c.split-shares.ensures.values e.shares e.tools (c.in_ok-tools.ensures job (sym seen.streams) (sym seen.shape)) e.borders
+          c.in_ok-progress.progress lawful is refl made.values c.split-shares.ensures.shares c.split-shares.ensures.values e.shares e.tools
+          (c.in_ok-tools.ensures job (sym seen.streams) (sym seen.shape)) e.borders
           c.as_slice-left.ensures.value was c.tail.ensures;
       running = (was, subst (λ (n : ℕ). HasRooms n c.put_together-rooms.result) long e.rooms);
     }

@@ -14,7 +14,8 @@ returns-clause-progress c = λ job es ek.
       even_tail = c.tail.ensures ∙ (λ i. tail_border (sym es i) (sym ek i).k 0);
       odd_tail = c.tail-2.ensures ∙ (λ i. tail_border (sym es i) (sym ek i).k 1);
       bits = (let e : length c.in_ok-vec-2.field-0.items ≡ c.k-2.result = search rules in e ∙ (c.k-2.ensures.value ∙ sym (ap (λ (s : Shape). s.k) ek)));
-      left = (let e : c.in_ok-vec.field-0.items ≡ replicate c.windows.result none_left = search rules in e ∙ (ap (λ (n : ℕ). replicate n none_left) (c.windows.ensures.value ∙ sym (ap (λ (s : Shape). s.windows) ek))
+      left = (let e : c.in_ok-vec.field-0.items ≡ replicate c.windows.result none_left = search rules in e
+          ∙ (ap (λ (n : ℕ). replicate n none_left) (c.windows.ensures.value ∙ sym (ap (λ (s : Shape). s.windows) ek))
           ∙ sym (ap (λ (b : Before). b.left) (before-none job.streams job.shape))));
       within = (let a = c.k.ensures.lawful.some_iterations in let e : job.shape.limit ≡ c.args.views.now.shape.limit = ap (λ (s : Shape). s.limit) ek in omega (arith, a, e));
       none_checked = λ m some lt. absurd (omega (arith, lt));

@@ -39,20 +39,23 @@ returns-in-Ok-clause-job c =
 pub discard-requires-clause-pieces : goal.discard-requires-clause-pieces
 discard-requires-clause-pieces c =
     let first = c.in_ok-pieces.ensures in
-    let ready = first.ready.1 0 c.index.result.now (first-of c.in_ok-pieces.pieces.items c.index.result.now (let a = first.ready.0 in let b = first.lawful.shape.some_windows in omega (arith, a, b)) c.index.ensures) in
+    let ready = first.ready.1 0 c.index.result.now (first-of c.in_ok-pieces.pieces.items c.index.result.now
+    (let a = first.ready.0 in let b = first.lawful.shape.some_windows in omega (arith, a, b)) c.index.ensures) in
     let own = ap job_of_piece c.of-about.ensures ∙ job-of_held first.job 0 0 c.index.result.now ready.held in
     subst (λ (j : DecodingJob). AreAllReady j 0 c.in-Err.refused.pieces.items) (sym own) (subst (AreAllReady first.job 0) (sym c.in-Err.ensures.refused.0) first.ready)
 
 pub discard-requires-clause-common : goal.discard-requires-clause-common
 discard-requires-clause-common c =
     let first = c.in_ok-pieces.ensures in
-    let ready = first.ready.1 0 c.index.result.now (first-of c.in_ok-pieces.pieces.items c.index.result.now (let a = first.ready.0 in let b = first.lawful.shape.some_windows in omega (arith, a, b)) c.index.ensures) in
+    let ready = first.ready.1 0 c.index.result.now (first-of c.in_ok-pieces.pieces.items c.index.result.now
+    (let a = first.ready.0 in let b = first.lawful.shape.some_windows in omega (arith, a, b)) c.index.ensures) in
     let own = ap job_of_piece c.of-about.ensures ∙ job-of_held first.job 0 0 c.index.result.now ready.held in
     subst (λ (j : DecodingJob). IsCommonOf j 0 c.in-Err.refused.common) (sym own) (subst (IsCommonOf first.job 0) (sym c.in-Err.ensures.refused.1) first.running)
 
 pub discard-requires-clause-windows : goal.discard-requires-clause-windows
 discard-requires-clause-windows c =
     let first = c.in_ok-pieces.ensures in
-    let ready = first.ready.1 0 c.index.result.now (first-of c.in_ok-pieces.pieces.items c.index.result.now (let a = first.ready.0 in let b = first.lawful.shape.some_windows in omega (arith, a, b)) c.index.ensures) in
+    let ready = first.ready.1 0 c.index.result.now (first-of c.in_ok-pieces.pieces.items c.index.result.now
+    (let a = first.ready.0 in let b = first.lawful.shape.some_windows in omega (arith, a, b)) c.index.ensures) in
     let own = ap job_of_piece c.of-about.ensures ∙ job-of_held first.job 0 0 c.index.result.now ready.held in
     subst (λ (j : DecodingJob). 0 < j.shape.windows) (sym own) (let b = first.lawful.shape.some_windows in omega (arith, b))

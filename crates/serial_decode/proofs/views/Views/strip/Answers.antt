@@ -10,11 +10,13 @@ covers {shape} e whole = ap (λ (n : ℕ). shape.windows * n) e ∙ whole.whole
 
 pub part-requires : goal.part-requires
 part-requires c = let v = c.args.self.now in
-    part-fits (systematic_at v.streams.now v.shape.k c.args.h) v.shape c.args.t c.width-width.result c.systematic.result.now (covers c.width-width.ensures.value c.width-width.ensures.whole) c.requires.window c.systematic.ensures
+    part-fits (systematic_at v.streams.now v.shape.k c.args.h) v.shape c.args.t c.width-width.result c.systematic.result.now
+    (covers c.width-width.ensures.value c.width-width.ensures.whole) c.requires.window c.systematic.ensures
 
 pub part-requires-2 : goal.part-requires-2
 part-requires-2 c = let v = c.args.self.now in
-    part-fits (parity_at v.streams.now c.args.h) v.shape c.args.t c.width-width.result c.parity.result.now (covers c.width-width.ensures.value c.width-width.ensures.whole) c.requires.window c.parity.ensures
+    part-fits (parity_at v.streams.now c.args.h) v.shape c.args.t c.width-width.result c.parity.result.now
+    (covers c.width-width.ensures.value c.width-width.ensures.whole) c.requires.window c.parity.ensures
 
 pub part-requires-3 : goal.part-requires-3
 part-requires-3 c = let v = c.args.self.now in

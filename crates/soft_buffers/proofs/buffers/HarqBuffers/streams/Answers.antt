@@ -32,9 +32,11 @@ returns-clause-cells c =
     let v : Buffers = c.args.self.now in
     let r : ℕ = c.args.r in
     let below : r < b.plan.c = in_plan b v r c.self.view_is c.requires in
-    let read : c.as_slice.result.now ≡ cells_of_block b.blocks.items r = c.as_slice.ensures ∙ get_or_read b.blocks.items r c.index.result.now (omega (arith, below, c.self.invariant.count)) c.index.ensures [] in
+    let read : c.as_slice.result.now ≡ cells_of_block b.blocks.items r = c.as_slice.ensures
+    ∙ get_or_read b.blocks.items r c.index.result.now (omega (arith, below, c.self.invariant.count)) c.index.ensures [] in
     let same : streams_of_cells c.size.result c.fill.result c.as_slice.result.now ≡ streams_of_cells (size v.plan r) (fill v.plan r) (cells_of_block v.cells r) =
-    same_cells (c.size.ensures.value ∙ ap (λ (w : Buffers). size w.plan r) c.self.view_is) (c.fill.ensures ∙ ap (λ (w : Buffers). fill w.plan r) c.self.view_is) (read ∙ ap (λ (w : Buffers). cells_of_block w.cells r) c.self.view_is) in
+    same_cells (c.size.ensures.value ∙ ap (λ (w : Buffers). size w.plan r) c.self.view_is)
+    (c.fill.ensures ∙ ap (λ (w : Buffers). fill w.plan r) c.self.view_is) (read ∙ ap (λ (w : Buffers). cells_of_block w.cells r) c.self.view_is) in
     IfOk-weaker c.streams_of.result (λ s. s ≡ streams_of_cells c.size.result c.fill.result c.as_slice.result.now) (λ s. s ≡ streams_of_cells (size v.plan r) (fill v.plan r) (cells_of_block v.cells r))
     (λ s is. is ∙ same) c.streams_of.ensures
 
