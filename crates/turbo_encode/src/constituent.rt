@@ -2,7 +2,8 @@
 ghost use Rattle.std.specs.Prelude.{◌≡◌, ◌+◌, ◌<◌, ◌≤◌, ℕ, ◌++◌, Contains, length, map, slice_index, take};
 ghost use Rattle.std.specs.List.{range_with_len};
 ghost use Rattle.model_sender.specs.Bits.{at};
-ghost use Rattle.model_sender.specs.ConstituentCoder.{State as Register, zero_state, parities, parities_from, state_number};
+ghost use Rattle.model_sender.specs.ConstituentCoder.{State as Register, zero_state, state_number};
+ghost use Rattle.model_sender.specs.ConstituentCoder.{parities, parities_from};
 ghost use Rattle.model_sender.specs.CodedStreams.{cells_of, interleaved, null_filled};
 ghost use Rattle.model_sender.specs.Interleaver.{place, sizes};
 ghost use Rattle.model_sender.specs.Tail.{reached};
