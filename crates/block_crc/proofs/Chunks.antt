@@ -7,7 +7,7 @@ use Rattle.lte_bits.specs.Bits.{digit}
 use Rattle.lte_bits.specs.declared.bit.Bit.{Bit}
 use Rattle.model_sender.specs.CheckBits.{reduced, remainder}
 
-remainder-append : (g : ℕ) (xs ys : List Bit) (r : ℕ) → remainder g r (xs ++ ys) ≡ remainder g (remainder g r xs) ys
+pub remainder-append : (g : ℕ) (xs ys : List Bit) (r : ℕ) → remainder g r (xs ++ ys) ≡ remainder g (remainder g r xs) ys
 remainder-append g [] ys r = refl
 remainder-append g (x ∷ xs) ys r = remainder-append g xs ys (reduced g (2 * r + digit x))
 

@@ -1,9 +1,10 @@
 -- Remainders of sums, by which eight bits are divided at once.
-use Rattle.std.proofs.Common.{◌≡◌, ℕ, zero, suc, ◌+◌, ◌*◌, ◌/◌, ◌%◌, ◌^◌, ◌<◌, ◌≤◌, Bool, List, [], ◌∷◌, length, refl, sym, ap, ◌∙◌, inl, inr, arith, bit_xor, cond, eqb, get_or}
+use Rattle.std.proofs.Common.{◌≡◌, ℕ, zero, suc, ◌+◌, ◌*◌, ◌/◌, ◌%◌, ◌^◌, ◌<◌, ◌≤◌, Bool, List, [], ◌∷◌, ◌++◌, length, refl, sym, ap, ◌∙◌, inl, inr, arith, bit_xor, cond, eqb, get_or}
 use Rattle.std.specs.Prelude.{replicate, IsTrue}
 use Rattle.std.specs.Int.Bits.{xor_zero_l, xor_assoc, xor_shifted}
 use Rattle.std.proofs.lemmas.Bool.{lt-ltb, le-ltb, cases_lt, eqb-true, and_parts}
 use Rattle.std.proofs.lemmas.Nat.{xor_comm, xor_lt, xor_block, pow_pos}
+use Rattle.std.proofs.lemmas.List.{length-append}
 use Rattle.std.proofs.Math.Nat.{pow-suc, mul-le-mul_left}
 use Rattle.lte_bits.specs.Bits.{digit, number}
 use Rattle.lte_bits.specs.declared.bit.Bit.{Bit}
@@ -12,6 +13,7 @@ use Rattle.model_sender.specs.CheckBits.{IsMonic, reduced, remainder}
 use Rattle.model_sender.proofs.BitNumbers.{digit-lt}
 use Rattle.model_sender.proofs.Division.{xor-cancel, falls}
 use Rattle.model_sender.proofs.CheckBitLaws.{reduced-small}
+use Rattle.block_crc.proofs.Chunks.{remainder-append}
 use Rattle.block_crc.specs.Table.{top_remainder, is_table_from, is_table}
 
 -- a polynomial of degree 24 keeps that degree when a lower one is added
@@ -85,42 +87,36 @@ remainder-low g r (d ∷ bits) low =
     ap (λ u. remainder g u bits) (small g t (omega (arith, low, e, most)))
     ∙ (remainder-low g t bits (omega (arith, low, e)) ∙ e)
 
--- eight bits after a remainder
-pub remainder-byte : (g r : ℕ) (bits : List Bit) → IsMonic g → r < 2 ^ 24 → length bits ≡ 8 → number bits < 256
-    → remainder g r bits ≡ bit_xor (remainder g (r / 2 ^ 16 * 2 ^ 16) (replicate 8 Zero)) (r % 2 ^ 16 * 256 + number bits)
-remainder-byte g r bits monic h long few =
+-- ---- the tables
+
+entry-from : (g n t i : ℕ) (rs : List ℕ) → IsTrue (is_table_from g n t rs) → t + i < 256 → get_or rs i 0 ≡ top_remainder g n (t + i)
+entry-from g n t i [] is below = absurd (omega (arith, eqb-true t 256 is, below))
+entry-from g n t zero (r ∷ rs) is below =
+    eqb-true r (top_remainder g n t) (and_parts (eqb r (top_remainder g n t)) (is_table_from g n (suc t) rs) is).0
+    ∙ ap (top_remainder g n) (let e : t ≡ t + 0 = omega arith in e)
+entry-from g n t (suc i) (r ∷ rs) is below =
+    entry-from g n (suc t) i rs (and_parts (eqb r (top_remainder g n t)) (is_table_from g n (suc t) rs) is).1 (omega (arith, below))
+    ∙ ap (top_remainder g n) (let e : suc t + i ≡ t + suc i = omega arith in e)
+
+entry : (g n i : ℕ) (rs : List ℕ) → IsTrue (is_table g n rs) → i < 256 → get_or rs i 0 ≡ top_remainder g n i
+entry g n i rs is below = entry-from g n 0 i rs is (omega (arith, below)) ∙ ap (top_remainder g n) (let e : 0 + i ≡ i = omega arith in e)
+
+-- a byte and what follows it, after a remainder: the table has what the remainder's highest eight digits leave
+pub byte-by_table : (g r m k : ℕ) (rs : List ℕ) (byte rest : List Bit) → IsMonic g → IsTrue (is_table g k rs) → r < 2 ^ 24 → length byte ≡ 8 → k ≡ 8 + length rest → number byte < 256 → m ≡ r % 2 ^ 16 * 256 + number byte
+    → bit_xor (get_or rs (r / 65536) 0) (remainder g m rest) ≡ remainder g r (byte ++ rest)
+byte-by_table g r m k rs byte rest monic is h long all few made =
     let top : ℕ = r / 2 ^ 16 * 2 ^ 16 in let low : ℕ = r % 2 ^ 16 in
     let lows : low < 2 ^ 16 = omega arith in
     let parts : bit_xor top low ≡ r = xor_shifted (r / 2 ^ 16) 16 low lows ∙ omega arith in
-    let w : 2 ^ length bits ≡ 256 = ap (λ n. 2 ^ n) long in
-    let e : low * 2 ^ length bits + number bits ≡ low * 256 + number bits = ap (λ u. low * u + number bits) w in
-    ap (λ u. remainder g u bits) (sym parts)
-    ∙ remainder-sum g top low bits monic (omega arith) (omega arith)
-    ∙ ap (λ n. bit_xor (remainder g top (replicate n Zero)) (remainder g low bits)) long
-    ∙ ap (bit_xor (remainder g top (replicate 8 Zero))) (remainder-low g low bits (omega (arith, e, lows, few)) ∙ e)
-
--- ---- the table
-
-entry-from : (g t i : ℕ) (rs : List ℕ) → IsTrue (is_table_from g t rs) → t + i < 256 → get_or rs i 0 ≡ top_remainder g (t + i)
-entry-from g t i [] is below = absurd (omega (arith, eqb-true t 256 is, below))
-entry-from g t zero (r ∷ rs) is below =
-    eqb-true r (top_remainder g t) (and_parts (eqb r (top_remainder g t)) (is_table_from g (suc t) rs) is).0
-    ∙ ap (top_remainder g) (let e : t ≡ t + 0 = omega arith in e)
-entry-from g t (suc i) (r ∷ rs) is below =
-    entry-from g (suc t) i rs (and_parts (eqb r (top_remainder g t)) (is_table_from g (suc t) rs) is).1 (omega (arith, below))
-    ∙ ap (top_remainder g) (let e : suc t + i ≡ t + suc i = omega arith in e)
-
-pub entry : (g i : ℕ) (rs : List ℕ) → IsTrue (is_table g rs) → i < 256 → get_or rs i 0 ≡ top_remainder g i
-entry g i rs is below = entry-from g 0 i rs is (omega (arith, below)) ∙ ap (top_remainder g) (let e : 0 + i ≡ i = omega arith in e)
-
--- eight bits by the table
-pub byte-by_table : (g r n : ℕ) (rs : List ℕ) (bits : List Bit) → IsMonic g → IsTrue (is_table g rs) → r < 2 ^ 24 → length bits ≡ 8 → n ≡ number bits → n < 256
-    → bit_xor (get_or rs (r / 65536) 0) (r % 65536 * 256 + n) ≡ remainder g r bits
-byte-by_table g r n rs bits monic is h long e few =
-    let i : r / 65536 < 256 = omega (arith, h) in
-    ap (λ u. bit_xor u (r % 65536 * 256 + n)) (entry g (r / 65536) rs is i)
-    ∙ ap (λ u. bit_xor (top_remainder g (r / 65536)) (r % 65536 * 256 + u)) e
-    ∙ sym (remainder-byte g r bits monic h long (omega (arith, e, few)))
+    let w : 2 ^ length byte ≡ 256 = ap (λ n. 2 ^ n) long in
+    let e : low * 2 ^ length byte + number byte ≡ low * 256 + number byte = ap (λ u. low * u + number byte) w in
+    let after : remainder g low byte ≡ m = remainder-low g low byte (omega (arith, e, lows, few)) ∙ (e ∙ sym made) in
+    let count : length (byte ++ rest) ≡ k = length-append byte rest ∙ omega (arith, long, all) in
+    ap (λ u. bit_xor u (remainder g m rest)) (entry g k (r / 65536) rs is (omega (arith, h)))
+    ∙ sym (ap (λ u. remainder g u (byte ++ rest)) (sym parts)
+    ∙ remainder-sum g top low (byte ++ rest) monic (omega arith) (omega arith)
+    ∙ ap (λ n. bit_xor (remainder g top (replicate n Zero)) (remainder g low (byte ++ rest))) count
+    ∙ ap (bit_xor (remainder g top (replicate k Zero))) (remainder-append g byte rest low ∙ ap (λ u. remainder g u rest) after))
 
 pub remainder-small : (g r : ℕ) (bits : List Bit) → IsMonic g → r < 2 ^ 24 → remainder g r bits < 2 ^ 24
 remainder-small g r [] monic h = h

@@ -1,11 +1,11 @@
-//! Division by a generator, byte by byte.
-ghost use Rattle.std.specs.Prelude.{◌≡◌, ◌%◌, ◌^◌, ◌<◌, ◌↔◌, IsTrue, length};
+//! Division by a generator, two bytes at a time.
+ghost use Rattle.std.specs.Prelude.{◌≡◌, ◌+◌, ◌*◌, ◌%◌, ◌^◌, ◌<◌, ◌↔◌, IsTrue, length};
 ghost use Rattle.lte_bits.specs.Bits.{digit, number};
 ghost use Rattle.model_sender.specs.CheckBits.{IsCrc, IsMonic, IsMultiple, crc, reduced, remainder};
 ghost use Rattle.block_crc.specs.Table.{is_table};
 
-use crate::tables::{REMAINDERS_A, REMAINDERS_B};
-use lte_bits::{Bit, byte_of};
+use crate::tables::{FURTHER_A, FURTHER_B, REMAINDERS_A, REMAINDERS_B};
+use lte_bits::Bit;
 
 /// A polynomial of degree 24, as the number whose binary digits are its coefficients.
 #[derive(Clone, Copy)]
@@ -13,8 +13,11 @@ pub struct Generator {
     pub coefficients: u32,
     /// What each byte leaves where it stands above the 24 lowest digits.
     remainders: [u32; 256],
+    /// What it leaves where it stands a byte higher.
+    further: [u32; 256],
     ghost monic: { IsMonic coefficients },
-    ghost table: { IsTrue (is_table coefficients remainders) },
+    ghost table: { IsTrue (is_table coefficients 8 remainders) },
+    ghost further_table: { IsTrue (is_table coefficients 16 further) },
 }
 
 impl Generator {
@@ -22,12 +25,14 @@ impl Generator {
     pub const A: Generator = Generator {
         coefficients: 0x186_4CFB,
         remainders: REMAINDERS_A,
+        further: FURTHER_A,
     };
 
     /// D^24+D^23+D^6+D^5+D+1
     pub const B: Generator = Generator {
         coefficients: 0x180_0063,
         remainders: REMAINDERS_B,
+        further: FURTHER_B,
     };
 
     /// A polynomial of degree 24 at most, modulo the generator.
@@ -63,8 +68,18 @@ impl Generator {
         ensures value { result ≡ remainder self.now.coefficients start byte.now }
         ensures small { result < 2 ^ 24 }
     {
-        let top = (start >> 16) as usize;
-        self.remainders[top] ^ (start % (1 << 16) * 256 + u32::from(byte_of(byte)))
+        self.remainders[(start >> 16) as usize] ^ moved(start, byte)
+    }
+
+    /// `start`, followed by two bytes, modulo the generator.
+    fn remainder_of_two(&self, start: u32, bits: &[Bit; 16]) -> u32
+        requires { start < 2 ^ 24 }
+        ensures value { result ≡ remainder self.now.coefficients start bits.now }
+        ensures small { result < 2 ^ 24 }
+    {
+        let (bytes, _) = bits.as_chunks::<8>();
+        let rest = self.remainder_of_byte(moved(start, &bytes[0]), &bytes[1]);
+        self.further[(start >> 16) as usize] ^ rest
     }
 
     /// `start`, followed by the bits, modulo the generator.
@@ -73,10 +88,10 @@ impl Generator {
         ensures value { result ≡ remainder self.now.coefficients start bits.now }
         ensures small { result < 2 ^ 24 }
     {
-        let (bytes, last) = bits.as_chunks::<8>();
+        let (twos, last) = bits.as_chunks::<16>();
         let mut rest = start;
-        for byte in bytes {
-            rest = self.remainder_of_byte(rest, byte);
+        for two in twos {
+            rest = self.remainder_of_two(rest, two);
         }
         self.remainder_by_bits(rest, last)
     }
@@ -96,6 +111,23 @@ impl Generator {
     {
         self.remainder(0, bits) == 0
     }
+}
+
+/// The number with eight digits, the highest first. A product adds them up in its highest byte.
+fn number_of(byte: &[Bit; 8]) -> u32
+    ensures value { result ≡ number byte.now }
+    ensures small { result < 256 }
+{
+    let digits = u64::from_le_bytes(byte.map(u8::from));
+    (digits.wrapping_mul(0x8040_2010_0804_0201) >> 56) as u32
+}
+
+/// The lowest 16 digits of `start`, followed by eight bits.
+fn moved(start: u32, byte: &[Bit; 8]) -> u32
+    ensures value { result ≡ start % 2 ^ 16 * 256 + number byte.now }
+    ensures small { result < 2 ^ 24 }
+{
+    start % (1 << 16) * 256 + number_of(byte)
 }
 
 /// The lowest digit of a number.

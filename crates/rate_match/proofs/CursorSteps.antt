@@ -15,19 +15,19 @@ use Rattle.rate_match.proofs.SizeSteps.{places-most}
 pub order-first : (r n : ℕ) → n < 32 * r → order_of r n ≡ n
 order-first r n h = ap (λ t. if t then n else (n - 32 * r) / 2) (lt-ltb n (32 * r) h)
 
-pub order-behind : (r n : ℕ) → 32 * r ≤ n → order_of r n ≡ (n - 32 * r) / 2
-order-behind r n h = ap (λ t. if t then n else (n - 32 * r) / 2) (le-ltb n (32 * r) h)
+pub order-later : (r n : ℕ) → 32 * r ≤ n → order_of r n ≡ (n - 32 * r) / 2
+order-later r n h = ap (λ t. if t then n else (n - 32 * r) / 2) (le-ltb n (32 * r) h)
 
 pub order-below : (r n : ℕ) → n < 96 * r → order_of r n < 32 * r
 order-below r n within =
     elim (cases_lt n (32 * r)) [
       | inl h ↦ omega (arith, h, order-first r n h)
-      | inr h ↦ omega (arith, h, order-behind r n h, within)
+      | inr h ↦ omega (arith, h, order-later r n h, within)
     ]
 
 -- v1 begins again
 pub order-begins : (r n : ℕ) → n ≡ 32 * r → order_of r n ≡ 0
-order-begins r n at = let h : 32 * r ≤ n = omega (arith, at) in omega (arith, at, order-behind r n h)
+order-begins r n at = let h : 32 * r ≤ n = omega (arith, at) in omega (arith, at, order-later r n h)
 
 pub order-zero : (r : ℕ) → 0 < r → order_of r 0 ≡ 0
 order-zero r some = order-first r 0 (omega (arith, some))
@@ -37,7 +37,7 @@ pub order-stays : (r n : ℕ) → 32 * r < n + 1 → (n + 1) % 2 ≡ 1 → order
 order-stays r n above odd =
     let here : 32 * r ≤ n = omega (arith, above) in
     let there : 32 * r ≤ n + 1 = omega (arith, above) in
-    omega (arith, order-behind r n here, order-behind r (n + 1) there, odd)
+    omega (arith, order-later r n here, order-later r (n + 1) there, odd)
 
 pub order-more : (r n : ℕ) → (n + 1 ≡ 32 * r → ⊥) → (32 * r < n + 1 → (n + 1) % 2 ≡ 1 → ⊥) → order_of r (n + 1) ≡ order_of r n + 1
 order-more r n apart even =
@@ -48,7 +48,7 @@ order-more r n apart even =
           let here : 32 * r ≤ n = omega (arith, above) in
           let rest : (n + 1) % 2 < 2 = mod_below (n + 1) 2 (omega arith) in
           let none : (n + 1) % 2 ≡ 0 = omega (arith, rest, even above) in
-          omega (arith, order-behind r n here, order-behind r (n + 1) h, none, above)
+          omega (arith, order-later r n here, order-later r (n + 1) h, none, above)
     ]
 
 -- ---- the cursor there
@@ -131,17 +131,17 @@ third k = record { k = k; number = 2; nulls = 0 }
 
 spot-odd : (k fill n p : ℕ) → 32 * rows_of k ≤ n → (n % 2 ≡ 0 → ⊥) → p ≡ read_place (rows_of k) (order_of (rows_of k) n) →
     spot k fill n ≡ padded (third k) ((p + 1) % (32 * rows_of k))
-spot-odd k fill n p behind odd is =
+spot-odd k fill n p later odd is =
     let r : ℕ = rows_of k in
     let rest : n % 2 < 2 = mod_below n 2 (omega arith) in
-    let at : n ≡ 32 * r + 2 * order_of r n + 1 = omega (arith, behind, order-behind r n behind, rest, odd) in
+    let at : n ≡ 32 * r + 2 * order_of r n + 1 = omega (arith, later, order-later r n later, rest, odd) in
     ap (spot k fill) at ∙ spot-third k fill (order_of r n) ∙ ap (λ (q : ℕ). padded (third k) ((q + 1) % (32 * r))) (sym is)
 
 pub third-first : (k fill n p : ℕ) → 32 * rows_of k ≤ n → (n % 2 ≡ 0 → ⊥) → p ≡ read_place (rows_of k) (order_of (rows_of k) n) → p + 1 ≡ 32 * rows_of k →
     padded (third k) 0 ≡ spot k fill n
-third-first k fill n p behind odd is last =
-    sym (spot-odd k fill n p behind odd is ∙ ap (padded (third k)) (ap (λ (m : ℕ). m % (32 * rows_of k)) last ∙ mod_self (32 * rows_of k)))
+third-first k fill n p later odd is last =
+    sym (spot-odd k fill n p later odd is ∙ ap (padded (third k)) (ap (λ (m : ℕ). m % (32 * rows_of k)) last ∙ mod_self (32 * rows_of k)))
 
 pub third-later : (k fill n p : ℕ) → 32 * rows_of k ≤ n → (n % 2 ≡ 0 → ⊥) → p ≡ read_place (rows_of k) (order_of (rows_of k) n) → p + 1 < 32 * rows_of k →
     padded (third k) (p + 1) ≡ spot k fill n
-third-later k fill n p behind odd is inner = sym (spot-odd k fill n p behind odd is ∙ ap (padded (third k)) (mod-eq_of_lt inner))
+third-later k fill n p later odd is inner = sym (spot-odd k fill n p later odd is ∙ ap (padded (third k)) (mod-eq_of_lt inner))

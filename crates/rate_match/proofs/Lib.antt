@@ -12,3 +12,4 @@ pub mod BlockStreams
 pub mod Lengths
 pub mod EachSending
 pub mod CodedPayload
+mod CutPayload

@@ -13,14 +13,14 @@ part-long done run out fits =
 pub part_written : {X : Type 0} (done run n : ℕ) (out new : List X) → done + run ≤ length out → length new ≡ run → take (done + run) (put_mid done n out new) ≡ take done out ++ new
 part_written done run n out new fits long =
     let front = take done out in
-    let behind = post_of done n out in
-    ap (λ m. take m (front ++ (new ++ behind))) (let e : done + run ≡ length front + length new = omega (arith, length-take-le done out (omega (arith, fits)), long) in e)
-    ∙ take-append-add front (new ++ behind) (length new)
-    ∙ ap (λ xs. front ++ xs) (take-append_seam new behind)
+    let after = post_of done n out in
+    ap (λ m. take m (front ++ (new ++ after))) (let e : done + run ≡ length front + length new = omega (arith, length-take-le done out (omega (arith, fits)), long) in e)
+    ∙ take-append-add front (new ++ after) (length new)
+    ∙ ap (λ xs. front ++ xs) (take-append_seam new after)
 
 -- what stands after a list that got longer is written
-pub behind_written : {X : Type 0} (from n len : ℕ) (old now new post rest : List X) → from ≡ length old → len ≡ from + n → length new ≡ n → take from now ≡ old → take len ((take from now ++ (new ++ post)) ++ rest) ≡ old ++ new
-behind_written {X} from n len old now new post rest first all long kept =
+pub rest_written : {X : Type 0} (from n len : ℕ) (old now new post rest : List X) → from ≡ length old → len ≡ from + n → length new ≡ n → take from now ≡ old → take len ((take from now ++ (new ++ post)) ++ rest) ≡ old ++ new
+rest_written {X} from n len old now new post rest first all long kept =
     ap (λ (xs : List X). take len ((xs ++ (new ++ post)) ++ rest)) kept
     ∙ ap (take len) regroup
     ∙ ap (λ m. take m ((old ++ new) ++ (post ++ rest))) (let e : len ≡ length (old ++ new) = omega (arith, length-append old new, first, all, long) in e)

@@ -10,7 +10,7 @@ use Rattle.model_sender.proofs.BufferLaws.{spot-first, spot-second, spot-third, 
 use Rattle.model_sender.proofs.PaddedStreams.{column-below}
 use Rattle.rate_match.specs.Cursor.{IsRun, order_of, cursor_at, rows_down, spot_down}
 use Rattle.rate_match.specs.declared.cursor.Cursor.{Cursor}
-use Rattle.rate_match.proofs.CursorSteps.{made, order-first, order-behind}
+use Rattle.rate_match.proofs.CursorSteps.{made, order-first, order-later}
 
 -- ---- down a column
 
@@ -45,8 +45,8 @@ row-of r o p within is =
 down-first : (r : ℕ) (c : Cursor) (i : ℕ) → c.n < 32 * r → rows_down r c i ≡ i
 down-first r c i front = ap (λ t. if t then i else (c.n % 2 + i) / 2) (lt-ltb c.n (32 * r) front)
 
-down-behind : (r : ℕ) (c : Cursor) (i : ℕ) → 32 * r ≤ c.n → rows_down r c i ≡ (c.n % 2 + i) / 2
-down-behind r c i behind = ap (λ t. if t then i else (c.n % 2 + i) / 2) (le-ltb c.n (32 * r) behind)
+down-later : (r : ℕ) (c : Cursor) (i : ℕ) → 32 * r ≤ c.n → rows_down r c i ≡ (c.n % 2 + i) / 2
+down-later r c i later = ap (λ t. if t then i else (c.n % 2 + i) / 2) (le-ltb c.n (32 * r) later)
 
 -- what stands some places further on in a column
 pub record IsInColumn (r : ℕ) (c : Cursor) (i : ℕ) : Type 0 where
@@ -66,7 +66,7 @@ in_column r c i is within inside =
           let a : o ≡ c.n = order-first r c.n front in
           let b : j ≡ i = down-first r c i front in
           order-first r (c.n + i) (omega (arith, a, b, down.below)) ∙ omega (arith, a, b)
-      | inr behind ↦ omega (arith, order-behind r c.n behind, down-behind r c i behind, order-behind r (c.n + i) (omega (arith, behind)))
+      | inr later ↦ omega (arith, order-later r c.n later, down-later r c i later, order-later r (c.n + i) (omega (arith, later)))
     ] in
     record {
       order = order;
@@ -101,10 +101,10 @@ pub spot_down-first : (r k : ℕ) (c : Cursor) (i : ℕ) → c.n < 32 * r → sp
 spot_down-first r k c i front = rw (lt-ltb c.n (32 * r) front) refl
 
 pub spot_down-second : (r k : ℕ) (c : Cursor) (i : ℕ) → 32 * r ≤ c.n → (c.n + i) % 2 ≡ 0 → spot_down r k c i ≡ record { stream = 1; index = index_down r k c i }
-spot_down-second r k c i behind even = rw (le-ltb c.n (32 * r) behind, even) refl
+spot_down-second r k c i later even = rw (le-ltb c.n (32 * r) later, even) refl
 
 spot_down-third : (r k : ℕ) (c : Cursor) (i : ℕ) → 32 * r ≤ c.n → (c.n + i) % 2 ≡ 1 → spot_down r k c i ≡ record { stream = 2; index = index_down r k c i + 1 }
-spot_down-third r k c i behind odd = rw (le-ltb c.n (32 * r) behind, odd) refl
+spot_down-third r k c i later odd = rw (le-ltb c.n (32 * r) later, odd) refl
 
 -- in the rows of a column that are above its last place, bits stand
 pub run-bit : (k fill : ℕ) (c : Cursor) (i : ℕ) → c ≡ cursor_at (rows_of k) c.n → order_of (rows_of k) c.n < 32 * rows_of k → c.by_rows / 32 + rows_down (rows_of k) c i < rows_of k
@@ -125,25 +125,25 @@ run-bit k fill c i is within inside above inner =
           ∙ ap (padded (d0 k fill)) at.place
           ∙ a-bit (d0 k fill) (c.by_rows + 32 * j) (c.by_rows - padding k + 32 * j) (omega (arith, above)) (omega (arith, above))
           ∙ sym (ap (λ (s : Spot). Some s) (spot_down-first r k c i front))
-      | inr behind ↦
-          let there : o ≡ (n - 32 * r) / 2 = order-behind r n (omega (arith, behind)) in
+      | inr later ↦
+          let there : o ≡ (n - 32 * r) / 2 = order-later r n (omega (arith, later)) in
           let rest : n % 2 < 2 = mod_below n 2 (omega arith) in
           elim (cases_lt (n % 2) 1) [
             | inl zero ↦
                 let even : n % 2 ≡ 0 = omega (arith, zero) in
-                let e : n ≡ 32 * r + 2 * o = omega (arith, there, even, behind) in
+                let e : n ≡ 32 * r + 2 * o = omega (arith, there, even, later) in
                 ap (spot k fill) e ∙ spot-second k fill o
                 ∙ ap (padded (d1 k fill)) at.place
                 ∙ a-bit (d1 k fill) (c.by_rows + 32 * j) (c.by_rows - padding k + 32 * j) (omega (arith, above)) (omega (arith, above))
-                ∙ sym (ap (λ (s : Spot). Some s) (spot_down-second r k c i behind even))
+                ∙ sym (ap (λ (s : Spot). Some s) (spot_down-second r k c i later even))
             | inr one ↦
                 let odd : n % 2 ≡ 1 = omega (arith, one, rest) in
-                let e : n ≡ 32 * r + 2 * o + 1 = omega (arith, there, odd, behind) in
+                let e : n ≡ 32 * r + 2 * o + 1 = omega (arith, there, odd, later) in
                 ap (spot k fill) e ∙ spot-third k fill o
                 ∙ ap (λ (q : ℕ). padded (d2 k) ((q + 1) % (32 * r))) at.place
-                ∙ ap (padded (d2 k)) (mod-eq_of_lt (inner behind))
+                ∙ ap (padded (d2 k)) (mod-eq_of_lt (inner later))
                 ∙ a-bit (d2 k) (c.by_rows + 32 * j + 1) (c.by_rows - padding k + 32 * j + 1) (omega (arith, above)) (omega (arith, above))
-                ∙ sym (ap (λ (s : Spot). Some s) (spot_down-third r k c i behind odd))
+                ∙ sym (ap (λ (s : Spot). Some s) (spot_down-third r k c i later odd))
           ]
     ]
 
@@ -162,16 +162,16 @@ first-run k fill c count is within above front few =
     record {
       above = λ i below. omega (arith, above);
       column = inside;
-      bits = λ i below. run-bit k fill c i is within (inside i below) above (λ behind. absurd (omega (arith, front, behind)));
+      bits = λ i below. run-bit k fill c i is within (inside i below) above (λ later. absurd (omega (arith, front, later)));
     }
 
 pub later-run : (k fill : ℕ) (c : Cursor) (count : ℕ) → c ≡ cursor_at (rows_of k) c.n → order_of (rows_of k) c.n < 32 * rows_of k → padding k + fill ≤ c.by_rows
     → 32 * rows_of k ≤ c.n → count ≤ 2 * div_ceil (32 * rows_of k - 1 - c.by_rows) 32 - c.n % 2 → IsRun (rows_of k) k fill c count
-later-run k fill c count is within above behind few =
+later-run k fill c count is within above later few =
     let r : ℕ = rows_of k in
     let rest : c.n % 2 < 2 = mod_below c.n 2 (omega arith) in
     let inner : (i : ℕ) → i < count → c.by_rows + 32 * rows_down r c i + 1 < 32 * r =
-    λ i below. (let e : rows_down r c i ≡ (c.n % 2 + i) / 2 = down-behind r c i behind in omega (arith, e, below, few, rest)) in
+    λ i below. (let e : rows_down r c i ≡ (c.n % 2 + i) / 2 = down-later r c i later in omega (arith, e, below, few, rest)) in
     let inside : (i : ℕ) → i < count → c.by_rows / 32 + rows_down r c i < r = λ i below. omega (arith, inner i below) in
     record {
       above = λ i below. omega (arith, above);

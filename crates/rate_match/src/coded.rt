@@ -7,10 +7,10 @@ ghost use Rattle.model_sender.specs.Codeword.{codeword};
 use crate::matching::Match;
 use crate::selecting::push_piece;
 use lte_bits::{Bit, List, NoMemory, Streams};
-use segmentation::{cut, plan};
+use segmentation::{cut, plan, size};
 use std::alloc::Global;
 use std::marker::Model;
-use turbo_encode::encode;
+use turbo_encode::{Order, encode_in_order};
 
 /// A payload of 1 to 18,722 bytes, with the coded streams of its code blocks. Contracts see the payload.
 #[derive(Debug, Drop)]
@@ -41,8 +41,10 @@ impl<'a> Coded<'a> {
         let plan = plan(payload.len()).unwrap();
         let blocks = cut(alloc, payload, &plan)?;
         let mut streams = Vec::with_capacity(alloc, plan.c)?;
+        let mut order = Order::new(alloc, size(&plan, 0))?;
         for block in blocks.as_slice() {
-            streams.push(encode(alloc, block)?)?;
+            order = order.for_size(alloc, block.bits.as_slice().len())?;
+            streams.push(encode_in_order(alloc, block, &order)?)?;
         }
         Ok(Coded { payload, streams })
     }

@@ -22,7 +22,7 @@ fn column(i: usize) -> usize
 }
 
 /// The bit at place `p` of stream `number` after its padding, where `nulls` of the stream are NULL.
-fn padded(ring: Ring, number: u8, nulls: usize, p: usize) -> Option<Spot>
+fn padded_spot(ring: Ring, number: u8, nulls: usize, p: usize) -> Option<Spot>
     requires stream { number ≤ 2 }
     requires few { nulls ≤ 6144 }
     requires within { p < 32 * ring.rows }
@@ -126,13 +126,13 @@ impl Cursor {
     {
         let places = 32 * ring.rows;
         if self.n < places {
-            padded(ring, 0, ring.fill, self.by_rows)
+            padded_spot(ring, 0, ring.fill, self.by_rows)
         } else if self.n % 2 == 0 {
-            padded(ring, 1, ring.fill, self.by_rows)
+            padded_spot(ring, 1, ring.fill, self.by_rows)
         } else if self.by_rows + 1 == places {
-            padded(ring, 2, 0, 0)
+            padded_spot(ring, 2, 0, 0)
         } else {
-            padded(ring, 2, 0, self.by_rows + 1)
+            padded_spot(ring, 2, 0, self.by_rows + 1)
         }
     }
 

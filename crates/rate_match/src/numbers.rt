@@ -3,7 +3,8 @@ ghost use Rattle.std.specs.Prelude.{◌≡◌, ◌≤◌, ◌<◌, ◌*◌, Cont
 ghost use Rattle.std.specs.List.{range_with_len};
 ghost use Rattle.model_sender.specs.Interleaver.{sizes};
 ghost use Rattle.model_sender.specs.Segmentation.{size};
-ghost use Rattle.model_sender.specs.CircularBuffer.{Fits, rows_of, buffer_size, buffer_length, piece_length, start};
+ghost use Rattle.model_sender.specs.CircularBuffer.{Fits, buffer_length, buffer_size};
+ghost use Rattle.model_sender.specs.CircularBuffer.{piece_length, rows_of, start};
 ghost use Rattle.rate_match.specs.Matching.{IsMatch};
 
 use crate::matching::{Buffer, Match};

@@ -1,20 +1,21 @@
 //! Bit selection (36.212 5.1.4.1.2): which bits of a code block are sent.
-ghost use Rattle.std.specs.Prelude.{◌≡◌, ◌≤◌, ◌<◌, ◌+◌, ◌++◌, Contains, IfOk, OnOk, IfSome, Some, map, length};
+ghost use Rattle.std.specs.Prelude.{◌≡◌, ◌≤◌, ◌<◌, ◌+◌, ◌++◌};
+ghost use Rattle.std.specs.Prelude.{Contains, IfOk, OnOk, IfSome, Some, map, length};
 ghost use Rattle.std.specs.List.{range_with_len};
 ghost use Rattle.lte_bits.specs.declared.bit.Cell.{Cell};
 ghost use Rattle.model_sender.specs.Interleaver.{sizes};
 ghost use Rattle.model_sender.specs.Segmentation.{size, fill};
-ghost use Rattle.model_sender.specs.CircularBuffer.{AreStreams, Fits, buffer_size, cell_at, piece_length, spot, stream_of, w};
+ghost use Rattle.model_sender.specs.CircularBuffer.{AreStreams, Fits, buffer_size, cell_at};
+ghost use Rattle.model_sender.specs.CircularBuffer.{piece_length, spot, stream_of, w};
 ghost use Rattle.model_sender.specs.Selection.{bit_of_cell, bits_from, holds_bit, repeated, sent};
 ghost use Rattle.rate_match.specs.Cursor.{IsRun};
 
 use crate::cursor::Cursor;
 use crate::matching::Match;
-use crate::numbers::{buffer_len, piece_len, rows_of, start};
-use crate::rings::Ring;
+use crate::numbers::{piece_len, rows_of, start};
+use crate::rings::{Ring, ring_of};
 use lte_bits::{Bit, Cell, List, NoMemory, Streams};
 use model_sender::Spot;
-use segmentation::planning::{fill, size};
 use segmentation::plans::Plan;
 use std::alloc::Global;
 
@@ -121,21 +122,14 @@ pub(crate) fn push_piece(
     requires version { rv ≤ 3 }
     ensures { OnOk result (bits.new.items ≡ bits.old.items ++ sent plan.now m.now streams.now r rv) }
 {
-    let k = size(plan, r);
-    let size = buffer_len(m, plan, r);
-    let ring = Ring {
-        k,
-        fill: fill(plan, r),
-        rows: rows_of(k),
-        size,
-    };
+    let ring = ring_of(m, plan, r);
     let from = bits.len();
     bits.resize(from + piece_len(m, plan, r), Bit::Zero)?;
     write_bits(
         &mut bits.as_mut_slice()[from..],
         streams,
         ring,
-        start(k, size, rv),
+        start(ring.k, ring.size, rv),
     );
     Ok(())
 }

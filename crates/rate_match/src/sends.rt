@@ -1,5 +1,6 @@
 //! The transmissions of a transport block.
-ghost use Rattle.std.specs.Prelude.{◌≡◌, ◌≤◌, ◌<◌, ◌↔◌, [], ◌∷◌, ◌++◌, length, slice_get, IsTrue, IsSome, IfSome, Some, false};
+ghost use Rattle.std.specs.Prelude.{◌≡◌, ◌≤◌, ◌<◌, ◌↔◌, [], ◌∷◌, ◌++◌, length, slice_get};
+ghost use Rattle.std.specs.Prelude.{IsTrue, IsSome, IfSome, Some, false};
 ghost use Rattle.rate_match.specs.Matching.{limit_of};
 ghost use Rattle.rate_match.specs.Sendings.{AreSendings, AreEven, common};
 
@@ -58,7 +59,8 @@ impl Sends {
     /// Appends a transmission. It answers false, with nothing changed, exactly where the redundancy
     /// version is above 3, or eight transmissions are held, or the soft buffer differs.
     pub fn add(&mut self, m: Match, rv: u8) -> bool
-        ensures taken { IsTrue result ↔ ((rv ≤ 3) × (length self.old < 8) × (m.limit ≡ (common self.old).limit)) }
+        ensures taken { IsTrue result
+            ↔ ((rv ≤ 3) × (length self.old < 8) × (m.limit ≡ (common self.old).limit)) }
         ensures added { IsTrue result → self.new ≡ self.old ++ record { m = m; rv = rv } ∷ [] }
         ensures same { result ≡ false → self.new ≡ self.old }
     {

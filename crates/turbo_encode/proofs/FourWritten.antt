@@ -1,5 +1,5 @@
 -- Four cells written one after the other.
-use Rattle.std.proofs.Common.{◌≡◌, ℕ, ◌+◌, ◌*◌, ◌≤◌, List, [], ◌∷◌, ◌++◌, length, take, set, get_or, refl, ap, ◌∙◌, append_assoc, arith}
+use Rattle.std.proofs.Common.{◌≡◌, ℕ, ◌+◌, ◌≤◌, List, [], ◌∷◌, ◌++◌, length, take, set, get_or, refl, ap, ◌∙◌, append_assoc, arith}
 use Rattle.std.proofs.lemmas.List.{length-set, take_more_set}
 use Rattle.lte_bits.specs.declared.bit.Cell.{Cell}
 use Rattle.lte_bits.specs.declared.bit.Cell.TheVariants.{Zero}
@@ -16,7 +16,7 @@ in_row : (xs : List Cell) (a b c d : Cell) → (((xs ++ a ∷ []) ++ b ∷ []) +
 in_row xs a b c d = simp append_assoc
 
 -- the cells before them stay
-four_written : (old cells : List Cell) (at : ℕ) → at + 4 ≤ length old → length cells ≡ 4
+pub four_written : (old cells : List Cell) (at : ℕ) → at + 4 ≤ length old → length cells ≡ 4
     → take (at + 4) (set (set (set (set old at (get_or cells 0 Zero)) (at + 1) (get_or cells 1 Zero)) (at + 2) (get_or cells 2 Zero)) (at + 3) (get_or cells 3 Zero)) ≡ take at old ++ cells
 four_written old cells at fits long =
     let a = get_or cells 0 Zero in let b = get_or cells 1 Zero in let c = get_or cells 2 Zero in let d = get_or cells 3 Zero in
@@ -35,11 +35,3 @@ four_written old cells at fits long =
     ∙ ap (λ xs. xs ++ d ∷ []) (t3 ∙ ap (λ xs. xs ++ c ∷ []) (t2 ∙ ap (λ xs. xs ++ b ∷ []) t1))
     ∙ in_row (take at old) a b c d
     ∙ ap (λ xs. take at old ++ xs) (four-cells cells long)
-
-pub fours_more : (old cells : List Cell) (i : ℕ) → 4 * i + 4 ≤ length old → length cells ≡ 4
-    → take ((i + 1) * 4) (set (set (set (set old (4 * i) (get_or cells 0 Zero)) (4 * i + 1) (get_or cells 1 Zero)) (4 * i + 2) (get_or cells 2 Zero)) (4 * i + 3) (get_or cells 3 Zero)) ≡ take (i * 4) old ++ cells
-fours_more old cells i fits long =
-    let l : List Cell = set (set (set (set old (4 * i) (get_or cells 0 Zero)) (4 * i + 1) (get_or cells 1 Zero)) (4 * i + 2) (get_or cells 2 Zero)) (4 * i + 3) (get_or cells 3 Zero) in
-    ap (λ n. take n l) (let e : (i + 1) * 4 ≡ 4 * i + 4 = omega arith in e)
-    ∙ four_written old cells (4 * i) fits long
-    ∙ ap (λ n. take n old ++ cells) (let e : 4 * i ≡ i * 4 = omega arith in e)

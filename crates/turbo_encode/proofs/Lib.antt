@@ -3,4 +3,4 @@ mod StreamsMade
 mod FilledCells
 mod FourSteps
 mod FourWritten
-mod Halves
+mod Coders

@@ -1,18 +1,12 @@
 -- The streams from the cells of the coders and the states in which they ended.
 use Rattle.std.proofs.Common.{◌≡◌, ℕ, ◌+◌, List, [], ◌∷◌, ◌++◌, length, sym, ap, ◌∙◌, arith}
-use Rattle.std.specs.Prelude.{if◌then◌else◌}
-use Rattle.std.proofs.lemmas.Bool.{le-ltb}
-use Rattle.std.proofs.lemmas.List.{get_or-map, length-map}
-use Rattle.std.proofs.lemmas.List.FromFn.{fill_by_all, length-map-range_with_len}
+use Rattle.std.proofs.lemmas.List.FromFn.{length-map-range_with_len}
 use Rattle.lte_bits.specs.declared.bit.Bit.{Bit}
-use Rattle.lte_bits.specs.declared.bit.Bit.TheVariants.{Zero}
-use Rattle.lte_bits.specs.Bits.{cell_of}
 use Rattle.lte_bits.specs.declared.bit.Cell.{Cell}
-use Rattle.lte_bits.specs.declared.bit.Cell.TheVariants.{Null}
 use Rattle.lte_bits.specs.declared.block.Streams.{Streams}
 use Rattle.model_sender.specs.Bits.{at}
 use Rattle.model_sender.specs.ConstituentCoder.{State, zero_state, values, parities, tail_x, tail_z}
-use Rattle.model_sender.specs.CodedStreams.{cells_of, filled_cell, null_filled, tail_0, tail_1, tail_2, coded, interleaved}
+use Rattle.model_sender.specs.CodedStreams.{cells_of, null_filled, tail_0, tail_1, tail_2, coded, interleaved}
 use Rattle.model_sender.specs.Interleaver.{place}
 use Rattle.model_sender.specs.Tail.{reached, tail_input, tail_parity}
 use Rattle.model_sender.proofs.TailSteps.{tail_x-after, tail_z-after}
@@ -64,14 +58,6 @@ bits_2-is c d e f h =
     (x_at f d (length c + 1) 1 h.second (omega (arith, h.long)))
     (z_at f d (length c + 2) 2 h.second (omega (arith, h.long)))
 
--- with no fillers the cells are those of the bits
-null_filled-none : (bits : List Bit) → null_filled 0 bits ≡ cells_of bits
-null_filled-none bits =
-    sym (fill_by_all (λ i. filled_cell 0 i (at bits i)) (cells_of bits) (length bits) Null (length-map bits cell_of) (λ k below. get_or-map cell_of bits k Zero Null below ∙ bit k (at bits k)))
-  where
-    bit : (k : ℕ) (b : Bit) → cell_of b ≡ filled_cell 0 k b
-    bit k b = sym (ap (λ t. if t then Null else cell_of b) (le-ltb k 0 (omega arith)))
-
 same_streams : (a b c a' b' c' : List Cell) → a ≡ a' → b ≡ b' → c ≡ c' → (let s : Streams = record { d0 = a; d1 = b; d2 = c } in s) ≡ record { d0 = a'; d1 = b'; d2 = c' }
 same_streams a b c a' b' c' ea eb ec = cc
 
@@ -79,15 +65,14 @@ pub streams-made : (fill : ℕ) (c d : List Bit) (e f : State) (d0 d1 d2 : List 
     → length d ≡ length c → e ≡ reached zero_state c → f ≡ reached zero_state d
     → d0 ≡ null_filled fill c ++ cells_of (tail_input e 0 ∷ tail_parity e 1 ∷ tail_input f 0 ∷ tail_parity f 1 ∷ [])
     → d1 ≡ null_filled fill (parities c) ++ cells_of (tail_parity e 0 ∷ tail_input e 2 ∷ tail_parity f 0 ∷ tail_input f 2 ∷ [])
-    → d2 ≡ null_filled 0 (parities d) ++ cells_of (tail_input e 1 ∷ tail_parity e 2 ∷ tail_input f 1 ∷ tail_parity f 2 ∷ [])
+    → d2 ≡ cells_of (parities d) ++ cells_of (tail_input e 1 ∷ tail_parity e 2 ∷ tail_input f 1 ∷ tail_parity f 2 ∷ [])
     → (let s : Streams = record { d0 = d0; d1 = d1; d2 = d2 } in s) ≡ coded fill c d
 streams-made fill c d e f d0 d1 d2 long end_c end_d e0 e1 e2 =
     let h : Ended c d e f = record { long = long; first = end_c; second = end_d } in
     same_streams d0 d1 d2 _ _ _
     (e0 ∙ ap (λ bits. null_filled fill c ++ cells_of bits) (bits_0-is c d e f h))
     (e1 ∙ ap (λ bits. null_filled fill (parities c) ++ cells_of bits) (bits_1-is c d e f h))
-    (e2 ∙ ap (λ bits. null_filled 0 (parities d) ++ cells_of bits) (bits_2-is c d e f h)
-    ∙ ap (λ cells. cells ++ cells_of (tail_2 (length c) (values c) (values d))) (null_filled-none (parities d)))
+    (e2 ∙ ap (λ bits. cells_of (parities d) ++ cells_of bits) (bits_2-is c d e f h))
 
 pub length-interleaved : (c : List Bit) → length (interleaved c) ≡ length c
 length-interleaved c = length-map-range_with_len (λ i. at c (place (length c) i)) 0 (length c)

@@ -1,5 +1,5 @@
 //! Cells of the coded streams.
-ghost use Rattle.std.specs.Prelude.{◌≡◌, ◌++◌, IfOk, length};
+ghost use Rattle.std.specs.Prelude.{◌≡◌, ◌<◌, ◌^◌, ◌++◌, IfOk, length};
 ghost use Rattle.lte_bits.specs.declared.bit.Cell.{Cell};
 ghost use Rattle.model_sender.specs.CodedStreams.{cells_of, null_filled};
 ghost use Rattle.turbo_encode.specs.Fillers.{nulls_first};
@@ -36,12 +36,21 @@ fn write_filled(cells: &mut [Cell], bits: &[Bit], fill: usize)
     write_nulls(cells, fill);
 }
 
+/// Room for `k` cells and the tail, of which the `k` have their places.
+pub fn room(alloc: Global, k: usize) -> Result<Vec<Cell>, NoMemory>
+    requires { k < 2 ^ 63 }
+    ensures { IfOk result (λ cells. length cells.items ≡ k) }
+{
+    let mut cells = Vec::with_capacity(alloc, k + TAIL)?;
+    cells.resize(k, Cell::Zero)?;
+    Ok(cells)
+}
+
 /// The cells of a block's own bits, `Null` at the first `fill` places, with room for the tail.
 pub fn systematic(alloc: Global, bits: &[Bit], fill: usize) -> Result<Vec<Cell>, NoMemory>
     ensures { IfOk result (λ cells. cells.items ≡ null_filled fill bits.now) }
 {
-    let mut cells = Vec::with_capacity(alloc, bits.len() + TAIL)?;
-    cells.resize(bits.len(), Cell::Zero)?;
+    let mut cells = room(alloc, bits.len())?;
     write_filled(cells.as_mut_slice(), bits, fill);
     Ok(cells)
 }

@@ -1,66 +1,103 @@
-//! One constituent coder over a whole block (36.212 5.1.3.2.1).
-ghost use Rattle.std.specs.Prelude.{◌≡◌, Contains, IfOk, length};
-ghost use Rattle.model_sender.specs.ConstituentCoder.{zero_state, parities};
-ghost use Rattle.model_sender.specs.CodedStreams.{cells_of, null_filled};
-ghost use Rattle.model_sender.specs.Interleaver.{sizes};
+//! The two constituent coders over a whole block (36.212 5.1.3.2.1).
+ghost use Rattle.std.specs.Prelude.{◌≡◌, ◌+◌, ◌<◌, ◌≤◌, ℕ, ◌++◌, Contains, length, map, slice_index, take};
+ghost use Rattle.std.specs.List.{range_with_len};
+ghost use Rattle.model_sender.specs.Bits.{at};
+ghost use Rattle.model_sender.specs.ConstituentCoder.{State as Register, zero_state, state_number};
+ghost use Rattle.model_sender.specs.ConstituentCoder.{parities, parities_from};
+ghost use Rattle.model_sender.specs.CodedStreams.{cells_of, interleaved, null_filled};
+ghost use Rattle.model_sender.specs.Interleaver.{place, sizes};
 ghost use Rattle.model_sender.specs.Tail.{reached};
 
 use crate::cells::write_nulls;
 use crate::fours::four_steps;
-use crate::tails::TAIL;
-use lte_bits::{Bit, Cell, NoMemory};
+use lte_bits::{Bit, Cell};
 use rsc_trellis::State;
-use std::alloc::Global;
 
-/// The cells of a coder's parity bits, and the state in which it ended.
-#[derive(Drop)]
-pub struct Coded {
-    pub cells: Vec<Cell>,
-    pub end: State,
+/// The states in which the two coders ended.
+#[derive(Clone, Copy)]
+pub struct Ends {
+    pub first: State,
+    pub second: State,
 }
 
-/// Writes the cells of the parity bits, and gives the state in which the coder ends.
-fn write_parities(cells: &mut [Cell], bits: &[Bit]) -> State
+/// The bits at four places.
+fn bits_at(bits: &[Bit], places: &[u16; 4]) -> [Bit; 4]
+    requires { (i : ℕ) → i < length places.now → slice_index places.now i < length bits.now }
+    ensures { result ≡ map (at bits.now) places.now }
+{
+    let [a, b, c, d] = *places;
+    [
+        bits[usize::from(a)],
+        bits[usize::from(b)],
+        bits[usize::from(c)],
+        bits[usize::from(d)],
+    ]
+}
+
+/// Writes the cells of the parity bits of four inputs from a state on, at place `at` and after it, and
+/// gives the number of the next state.
+fn write_four(cells: &mut [Cell], at: usize, state: usize, four: &[Bit; 4]) -> usize
+    requires room { at + 4 ≤ length cells.old }
+    requires state { state < 8 }
+    ensures cells { (s : Register) → state_number s ≡ state
+        → take (at + 4) cells.new ≡ take at cells.old ++ cells_of (parities_from s four.now) }
+    ensures long { length cells.new ≡ length cells.old }
+    ensures next { (s : Register) → state_number s ≡ state → state_number (reached s four.now) ≡ result }
+    ensures small { result < 8 }
+{
+    let steps = four_steps(state, four);
+    let [a, b, c, d] = steps.cells;
+    cells[at] = a;
+    cells[at + 1] = b;
+    cells[at + 2] = c;
+    cells[at + 3] = d;
+    steps.next
+}
+
+/// Writes the cells of the parity bits of both coders, of which the second takes its bits from `places`,
+/// and gives the states in which they end. Both go side by side, since each step waits for a table.
+fn write_parities(first: &mut [Cell], second: &mut [Cell], bits: &[Bit], places: &[u16]) -> Ends
     requires size { Contains sizes (length bits.now) }
-    requires long { length cells.old ≡ length bits.now }
-    ensures cells { cells.new ≡ cells_of (parities bits.now) }
-    ensures end { result ≡ reached zero_state bits.now }
+    requires places { places.now ≡ map (place (length bits.now)) (range_with_len 0 (length bits.now)) }
+    requires first { length first.old ≡ length bits.now }
+    requires second { length second.old ≡ length bits.now }
+    ensures first { first.new ≡ cells_of (parities bits.now) }
+    ensures second { second.new ≡ cells_of (parities (interleaved bits.now)) }
+    ensures first_end { result.first ≡ reached zero_state bits.now }
+    ensures second_end { result.second ≡ reached zero_state (interleaved bits.now) }
 {
     let (fours, _) = bits.as_chunks::<4>();
-    let mut state = 0;
+    let (places, _) = places.as_chunks::<4>();
+    let mut own = 0;
+    let mut other = 0;
     for (i, four) in fours.iter().enumerate() {
-        let steps = four_steps(state, four);
-        let [a, b, c, d] = steps.cells;
-        cells[4 * i] = a;
-        cells[4 * i + 1] = b;
-        cells[4 * i + 2] = c;
-        cells[4 * i + 3] = d;
-        state = steps.next;
+        own = write_four(first, 4 * i, own, four);
+        other = write_four(second, 4 * i, other, &bits_at(bits, &places[i]));
     }
-    State::new(state as u8).unwrap()
+    Ends {
+        first: State::new(own as u8).unwrap(),
+        second: State::new(other as u8).unwrap(),
+    }
 }
 
-/// Writes the cells of the parity bits, `Null` at the first `fill` places.
-fn write_filled_parities(cells: &mut [Cell], bits: &[Bit], fill: usize) -> State
+/// The same, with `Null` at the first `fill` places of the first coder.
+pub fn code(
+    first: &mut [Cell],
+    second: &mut [Cell],
+    bits: &[Bit],
+    places: &[u16],
+    fill: usize,
+) -> Ends
     requires size { Contains sizes (length bits.now) }
-    requires long { length cells.old ≡ length bits.now }
-    ensures cells { cells.new ≡ null_filled fill (parities bits.now) }
-    ensures end { result ≡ reached zero_state bits.now }
+    requires places { places.now ≡ map (place (length bits.now)) (range_with_len 0 (length bits.now)) }
+    requires first { length first.old ≡ length bits.now }
+    requires second { length second.old ≡ length bits.now }
+    ensures first { first.new ≡ null_filled fill (parities bits.now) }
+    ensures second { second.new ≡ cells_of (parities (interleaved bits.now)) }
+    ensures first_end { result.first ≡ reached zero_state bits.now }
+    ensures second_end { result.second ≡ reached zero_state (interleaved bits.now) }
 {
-    let end = write_parities(cells, bits);
-    write_nulls(cells, fill);
-    end
-}
-
-/// Codes the bits of a block. The cells are `Null` at the first `fill` places, and have room for the
-/// tail.
-pub fn code(alloc: Global, bits: &[Bit], fill: usize) -> Result<Coded, NoMemory>
-    requires { Contains sizes (length bits.now) }
-    ensures cells { IfOk result (λ coded. coded.cells.items ≡ null_filled fill (parities bits.now)) }
-    ensures end { IfOk result (λ coded. coded.end ≡ reached zero_state bits.now) }
-{
-    let mut cells = Vec::with_capacity(alloc, bits.len() + TAIL)?;
-    cells.resize(bits.len(), Cell::Zero)?;
-    let end = write_filled_parities(cells.as_mut_slice(), bits, fill);
-    Ok(Coded { cells, end })
+    let ends = write_parities(first, second, bits, places);
+    write_nulls(first, fill);
+    ends
 }

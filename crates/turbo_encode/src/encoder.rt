@@ -3,9 +3,9 @@ ghost use Rattle.std.specs.Prelude.{◌≡◌, Contains, IfOk, length};
 ghost use Rattle.model_sender.specs.CodedStreams.{streams};
 ghost use Rattle.model_sender.specs.Interleaver.{sizes};
 
-use crate::cells::{ended, systematic};
+use crate::cells::{ended, room, systematic};
 use crate::constituent::code;
-use crate::order::interleaved;
+use crate::order::Order;
 use crate::tails::Tails;
 use lte_bits::{Block, NoMemory, Streams};
 use std::alloc::Global;
@@ -16,15 +16,30 @@ pub fn encode(alloc: Global, block: &Block) -> Result<Streams, NoMemory>
     requires { Contains sizes (length block.now.bits) }
     ensures { IfOk result (λ s. s ≡ streams block.now) }
 {
+    let order = Order::new(alloc, block.bits.as_slice().len())?;
+    encode_in_order(alloc, block, &order)
+}
+
+/// The same, by the order of the block's size, which serves many blocks.
+pub fn encode_in_order(alloc: Global, block: &Block, order: &Order) -> Result<Streams, NoMemory>
+    requires { order.now ≡ length block.now.bits }
+    ensures { IfOk result (λ s. s ≡ streams block.now) }
+{
     let bits = block.bits.as_slice();
     let own = systematic(alloc, bits, block.fill)?;
-    let first = code(alloc, bits, block.fill)?;
-    let turned = interleaved(alloc, bits)?;
-    let second = code(alloc, turned.as_slice(), 0)?;
-    let tails = Tails::new(first.end, second.end);
+    let mut first = room(alloc, bits.len())?;
+    let mut second = room(alloc, bits.len())?;
+    let ends = code(
+        first.as_mut_slice(),
+        second.as_mut_slice(),
+        bits,
+        order.places(),
+        block.fill,
+    );
+    let tails = Tails::new(ends.first, ends.second);
     Ok(Streams {
         d0: ended(own, tails.d0)?,
-        d1: ended(first.cells, tails.d1)?,
-        d2: ended(second.cells, tails.d2)?,
+        d1: ended(first, tails.d1)?,
+        d2: ended(second, tails.d2)?,
     })
 }

@@ -76,13 +76,13 @@ pub struct Steps {
     pub next: usize,
 }
 
-/// The number with four digits, the highest first.
+/// The number with four digits, the highest first. A product adds them up in its highest four.
 fn number(four: &[Bit; 4]) -> usize
     ensures value { result ≡ number four.now }
     ensures small { result < 16 }
 {
-    let [b3, b2, b1, b0] = *four;
-    usize::from(8 * u8::from(b3) + 4 * u8::from(b2) + 2 * u8::from(b1) + u8::from(b0))
+    let digits = u32::from_le_bytes(four.map(u8::from));
+    (digits.wrapping_mul(0x8040_2010) >> 28) as usize
 }
 
 /// The number of the parity bits of four inputs from a state.
@@ -114,8 +114,10 @@ fn cells(n: usize) -> [Cell; 4]
 /// Four steps from the state with a number.
 pub fn four_steps(state: usize, four: &[Bit; 4]) -> Steps
     requires { state < 8 }
-    ensures cells { (s : Register) → state_number s ≡ state → result.cells ≡ cells_of (parities_from s four.now) }
-    ensures next { (s : Register) → state_number s ≡ state → state_number (reached s four.now) ≡ result.next }
+    ensures cells { (s : Register) → state_number s ≡ state
+        → result.cells ≡ cells_of (parities_from s four.now) }
+    ensures next { (s : Register) → state_number s ≡ state
+        → state_number (reached s four.now) ≡ result.next }
     ensures small { result.next < 8 }
 {
     let inputs = number(four);

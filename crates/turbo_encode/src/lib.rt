@@ -5,7 +5,8 @@ mod cells;
 mod constituent;
 pub mod encoder;
 mod fours;
-mod order;
+pub mod order;
 mod tails;
 
-pub use encoder::encode;
+pub use encoder::{encode, encode_in_order};
+pub use order::Order;

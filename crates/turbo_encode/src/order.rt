@@ -1,49 +1,60 @@
-//! The order in which the second coder reads a block's bits (36.212 5.1.3.2.3).
-ghost use Rattle.std.specs.Prelude.{◌≡◌, ◌+◌, ◌<◌, ◌≤◌, Contains, IfOk, length};
-ghost use Rattle.turbo_encode.specs.Across.{across};
-ghost use Rattle.model_sender.specs.CodedStreams.{interleaved};
-ghost use Rattle.model_sender.specs.Interleaver.{sizes};
+//! The order in which the second coder takes a block's bits (36.212 5.1.3.2.3).
+ghost use Rattle.std.specs.Prelude.{◌≡◌, Contains, IfOk, map};
+ghost use Rattle.std.specs.List.{range_with_len};
+ghost use Rattle.model_sender.specs.Interleaver.{place, sizes};
 
-use lte_bits::{Bit, NoMemory};
-use qpp_table::{Walk, qpp};
+use lte_bits::NoMemory;
+use qpp_table::addresses;
 use std::alloc::Global;
+use std::marker::Model;
 
-/// The place half a block away.
-fn across(half: usize, place: usize) -> usize
-    requires within { place < half + half }
-    requires few { half ≤ 3072 }
-    ensures { result ≡ across half place }
-{
-    if place < half {
-        place + half
-    } else {
-        place - half
-    }
+/// The places from which the second coder takes its bits, one after the other, for code blocks of one
+/// size. Contracts see the size.
+#[derive(Debug, Drop)]
+pub struct Order {
+    places: Vec<u16>,
 }
 
-/// Writes the bits of a block, interleaved. Places half a block apart take theirs from places half a
-/// block apart.
-fn write_interleaved(turned: &mut [Bit], bits: &[Bit])
-    requires size { Contains sizes (length bits.now) }
-    requires long { length turned.old ≡ length bits.now }
-    ensures { turned.new ≡ interleaved bits.now }
-{
-    let half = bits.len() / 2;
-    let interleaver = qpp(bits.len()).unwrap();
-    let mut walk = Walk::new(bits.len(), interleaver.f1(), interleaver.f2());
-    for i in 0..half {
-        turned[i] = bits[walk.place];
-        turned[half + i] = bits[across(half, walk.place)];
-        walk = walk.next();
-    }
+impl Model for Order {
+    ghost use Rattle.std.specs.Prelude.{ℕ, length};
+
+    ghost Value = { ℕ };
+
+    ghost use Rattle.turbo_encode.specs.Order.{IsOrder};
+
+    ghost view = { λ order. length order.places.items };
+
+    ghost invariant = { λ order. IsOrder order.places.items };
 }
 
-/// The bits of a block, interleaved.
-pub fn interleaved(alloc: Global, bits: &[Bit]) -> Result<Vec<Bit>, NoMemory>
-    requires { Contains sizes (length bits.now) }
-    ensures { IfOk result (λ turned. turned.items ≡ interleaved bits.now) }
-{
-    let mut turned = vec![in alloc; Bit::Zero; bits.len()]?;
-    write_interleaved(turned.as_mut_slice(), bits);
-    Ok(turned)
+impl Order {
+    /// The order for code blocks of `k` bits, one of the 188 sizes.
+    pub fn new(alloc: Global, k: usize) -> Result<Order, NoMemory>
+        requires { Contains sizes k }
+        ensures { IfOk result (λ order. order ≡ k) }
+    {
+        let mut places = vec![in alloc; 0u16; k]?;
+        addresses(k, places.as_mut_slice());
+        Ok(Order { places })
+    }
+
+    /// The order for code blocks of `k` bits, one of the 188 sizes: this one, where it is for them.
+    pub fn for_size(self, alloc: Global, k: usize) -> Result<Order, NoMemory>
+        requires { Contains sizes k }
+        ensures { IfOk result (λ order. order ≡ k) }
+    {
+        if self.places.len() == k {
+            Ok(self)
+        } else {
+            Order::new(alloc, k)
+        }
+    }
+
+    /// The places.
+    pub(crate) fn places(&self) -> &[u16]
+        ensures places { result.now ≡ map (place self.now) (range_with_len 0 self.now) }
+        ensures size { Contains sizes self.now }
+    {
+        self.places.as_slice()
+    }
 }

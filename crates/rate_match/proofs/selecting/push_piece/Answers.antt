@@ -1,15 +1,15 @@
 use Rattle.std.specs.Prelude.{replicate}
-use Rattle.std.proofs.Common.{◌≡◌, ℕ, ◌+◌, ◌-◌, ◌*◌, ◌≤◌, List, ◌++◌, length, map, take, drop, Contains, subst, sym, ap, ◌∙◌, arith}
+use Rattle.std.proofs.Common.{◌≡◌, ℕ, ◌+◌, ◌-◌, List, ◌++◌, length, map, take, drop, Contains, subst, sym, ap, ◌∙◌, arith}
 use Rattle.lte_bits.specs.declared.bit.Bit.{Bit}
 use Rattle.lte_bits.specs.declared.bit.Bit.TheVariants.{Zero}
 use Rattle.lte_bits.specs.declared.block.Streams.{Streams}
 use Rattle.model_sender.specs.Interleaver.{sizes}
 use Rattle.model_sender.specs.Segmentation.{Plan, size, fill}
-use Rattle.model_sender.specs.CircularBuffer.{rows_of, buffer_size, start, w}
+use Rattle.model_sender.specs.CircularBuffer.{start, w}
 use Rattle.model_sender.specs.Selection.{bit_of_cell, bits_from, holds_bit, repeated, sent}
-use Rattle.model_sender.proofs.SelectionLaws.{rows-bounds, fitting_bit}
+use Rattle.model_sender.proofs.SelectionLaws.{fitting_bit}
 use Rattle.rate_match.proofs.Lengths.{sent-long}
-use Rattle.rate_match.proofs.Parts.{behind_written, longer-kept, rest-long}
+use Rattle.rate_match.proofs.Parts.{rest_written, longer-kept, rest-long}
 use Rattle.rate_match.proofs.BlockNumbers.{block-numbers}
 use Rattle.rate_match.proofs.Matchings.{match-bounds, piece-most}
 use Rattle.rate_match.proofs.selecting.push_piece.Goals as goal
@@ -27,37 +27,17 @@ same_kept a size fill places i = length (bits_from (holds_bit (size i) (fill i))
 same_start : {k l n m : ℕ} (rv : ℕ) → k ≡ l → n ≡ m → start k n rv ≡ start l m rv
 same_start rv size places i = start (size i) (places i) rv
 
-pub rows_of-requires : goal.rows_of-requires
-rows_of-requires c =
-    let plan : Plan = c.args.plan.now in
-    let block = block-numbers plan c.args.r c.size-k.ensures.lawful c.requires.block in
-    omega (arith, block.most, c.size-k.ensures.value)
-
 pub start-requires-clause-size : goal.start-requires-clause-size
 start-requires-clause-size c =
     let plan : Plan = c.args.plan.now in
-    let block = block-numbers plan c.args.r c.size-k.ensures.lawful c.requires.block in
-    subst (λ (k : ℕ). Contains sizes k) (sym c.size-k.ensures.value) block.inside
-
-pub invariant_of-ring : goal.invariant_of-ring
-invariant_of-ring c =
-    let plan : Plan = c.args.plan.now in
-    let k : ℕ = size plan c.args.r in
-    let block = block-numbers plan c.args.r c.size-k.ensures.lawful c.requires.block in
-    let kept : 32 * rows_of k ≤ c.buffer_len-size.result = c.buffer_len-size.ensures.kept c.requires.fits in
-    record {
-      few = omega (arith, block.most, c.size-k.ensures.value);
-      fills = omega (arith, block.fills, c.fill.ensures, c.size-k.ensures.value);
-      height = c.rows_of.ensures.value;
-      some = omega (arith, kept, (rows-bounds k).0);
-      within = omega (arith, c.buffer_len-size.ensures.within, ap buffer_size c.size-k.ensures.value);
-    }
+    let block = block-numbers plan c.args.r c.ring_of-ring.ensures.lawful c.requires.block in
+    subst (λ (k : ℕ). Contains sizes k) (sym c.ring_of-ring.ensures.size) block.inside
 
 pub write_bits-requires-clause-few : goal.write_bits-requires-clause-few
 write_bits-requires-clause-few c =
     let plan : Plan = c.args.plan.now in
     let m = c.args.m.now in
-    let block = block-numbers plan c.args.r c.size-k.ensures.lawful c.requires.block in
+    let block = block-numbers plan c.args.r c.ring_of-ring.ensures.lawful c.requires.block in
     let now = c.as_mut_slice.result.now in
     let all : length now ≡ c.len-from.result + c.piece_len.result = ap length c.as_mut_slice.ensures.value ∙ sym c.resize.new.self.ok.0 ∙ c.in_ok-resize.ensures.len in
     omega (arith, rest-long c.len-from.result c.piece_len.result now all, c.piece_len.ensures.value, piece-most m plan.c c.args.r block.some, (match-bounds m c.piece_len.ensures.lawful).few)
@@ -65,8 +45,8 @@ write_bits-requires-clause-few c =
 pub write_bits-requires-clause-some : goal.write_bits-requires-clause-some
 write_bits-requires-clause-some c =
     let plan : Plan = c.args.plan.now in
-    let block = block-numbers plan c.args.r c.size-k.ensures.lawful c.requires.block in
-    omega (arith, fitting_bit plan c.args.m.now c.args.r c.start.result (omega (arith, block.fills)) block.larger c.requires.fits, same_kept c.start.result c.size-k.ensures.value c.fill.ensures c.buffer_len-size.ensures.value)
+    let block = block-numbers plan c.args.r c.ring_of-ring.ensures.lawful c.requires.block in
+    omega (arith, fitting_bit plan c.args.m.now c.args.r c.start.result (omega (arith, block.fills)) block.larger c.requires.fits, same_kept c.start.result c.ring_of-ring.ensures.size c.ring_of-ring.ensures.fillers c.ring_of-ring.ensures.places)
 
 pub returns : goal.returns
 unfolding chosen
@@ -77,14 +57,14 @@ returns c =
     let new = c.write_bits.new.out in
     let first : c.len-from.result ≡ length had = c.len-from.ensures ∙ c.args.bits.now.ok.0 in
     let all : length now ≡ c.len-from.result + c.piece_len.result = ap length c.as_mut_slice.ensures.value ∙ sym c.resize.new.self.ok.0 ∙ c.in_ok-resize.ensures.len in
-    let from = c.start.ensures ∙ same_start c.args.rv c.size-k.ensures.value c.buffer_len-size.ensures.value in
+    let from = c.start.ensures ∙ same_start c.args.rv c.ring_of-ring.ensures.size c.ring_of-ring.ensures.places in
     let part : length (take (length now - c.len-from.result) (drop c.len-from.result now)) ≡ c.piece_len.result = rest-long c.len-from.result c.piece_len.result now all in
     let is : new ≡ sent plan c.args.m.now c.args.streams.now c.args.r c.args.rv =
     c.write_bits.ensures
-    ∙ ap (chosen c.args.streams.now c.size-k.result c.fill.result c.start.result c.buffer_len-size.result) part
-    ∙ same_chosen c.args.streams.now c.size-k.ensures.value c.fill.ensures from c.buffer_len-size.ensures.value c.piece_len.ensures.value in
+    ∙ ap (chosen c.args.streams.now c.ring_of-ring.result.k c.ring_of-ring.result.fill c.start.result c.ring_of-ring.result.size) part
+    ∙ same_chosen c.args.streams.now c.ring_of-ring.ensures.size c.ring_of-ring.ensures.fillers from c.ring_of-ring.ensures.places c.piece_len.ensures.value in
     let long : length new ≡ c.piece_len.result = ap length is ∙ sent-long plan c.args.m.now c.args.streams.now c.args.r c.args.rv ∙ sym c.piece_len.ensures.value in
-    behind_written c.len-from.result c.piece_len.result c.resize.new.self.len had now new _ _ first c.in_ok-resize.ensures.len long
+    rest_written c.len-from.result c.piece_len.result c.resize.new.self.len had now new _ _ first c.in_ok-resize.ensures.len long
     (longer-kept c.len-from.result c.piece_len.result Zero had now c.resize.new.self.items first c.as_mut_slice.ensures.value
     (c.in_ok-resize.ensures.items ∙ ap (λ (m : ℕ). take (c.len-from.result + c.piece_len.result) had ++ replicate (c.len-from.result + c.piece_len.result - m) Zero) (sym c.len-from.ensures)))
     ∙ ap (λ (bits : List Bit). had ++ bits) is

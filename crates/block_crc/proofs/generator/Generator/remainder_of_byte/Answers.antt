@@ -1,11 +1,20 @@
-use Rattle.std.proofs.Common.{◌∙◌, arith}
+use Rattle.std.proofs.Common.{◌≡◌, ◌<◌, ◌^◌, ap, [], ◌∙◌, length, arith}
+use Rattle.std.proofs.lemmas.List.{append-nil}
+use Rattle.lte_bits.specs.Bits.{number}
+use Rattle.model_sender.specs.CheckBits.{remainder}
+use Rattle.model_sender.proofs.BitNumbers.{number-lt}
 use Rattle.block_crc.proofs.Linear.{byte-by_table, remainder-small}
 use Rattle.block_crc.proofs.generator.Generator.remainder_of_byte.Goals as goal
 
 pub returns-clause-value : goal.returns-clause-value
 returns-clause-value c =
     let g = c.args.self.now in
-    byte-by_table g.coefficients c.args.start c.from.result g.remainders c.args.byte.now g.monic g.table c.requires (omega arith) (c.from.ensures ∙ c.byte_of.ensures) (omega arith)
+    let byte = c.args.byte.now in
+    let long : length byte ≡ 8 = omega arith in
+    let most : number byte < 2 ^ length byte = number-lt byte in
+    let few : number byte < 256 = omega (arith, most, ap (λ n. 2 ^ n) long) in
+    byte-by_table g.coefficients c.args.start c.moved.result 8 g.remainders byte [] g.monic g.table c.requires long (omega arith) few c.moved.ensures.value
+    ∙ ap (remainder g.coefficients c.args.start) (append-nil byte)
 
 pub returns-clause-small : goal.returns-clause-small
 returns-clause-small c =
