@@ -5,7 +5,7 @@ use Rattle.std.specs.Prelude.{nat_lt, if◌then◌else◌}
 use Rattle.lte_bits.specs.declared.bit.Bit.{Bit}
 use Rattle.lte_bits.specs.declared.bit.Bit.TheVariants.{Zero}
 use Rattle.model_receiver.specs.Windows.{cell_at}
-use Rattle.model_receiver.specs.Decoding.{decided_bit, decided_bits}
+use Rattle.model_receiver.specs.Decoding.{decided_bit}
 use Rattle.lane_windows.specs.Banks.{number_in, bit_of}
 use Rattle.lane_windows.proofs.BankCells.{fits-twice, bit-at, length-decided}
 use Rattle.lane_windows.proofs.BankRows.{length-of_view, width-of_view, cell-of_view}
