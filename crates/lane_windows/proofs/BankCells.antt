@@ -1,10 +1,10 @@
 -- The cells of banks by place, and by row and bank.
 use Rattle.std.proofs.Common.{◌≡◌, ℕ, pos, [], ◌-◌, drop, replicate, Bool, true, false, nat_lt, ◌+◌, ◌*◌, ◌/◌, ◌%◌, ◌<◌, ◌≤◌, ℤ, List, length, get_or, map, sym, ap, ◌∙◌, subst, refl, arith, inl, inr}
 use Rattle.std.proofs.lemmas.Bool.{cases_lt, ltb-true, ltb-false}
-use Rattle.std.specs.Prelude.{int_lt, if◌then◌else◌}
+use Rattle.std.specs.Prelude.{if◌then◌else◌}
 use Rattle.std.proofs.lemmas.Int.{ints}
 use Rattle.lte_bits.specs.Softs.{IsWithin}
-use Rattle.lte_bits.specs.declared.bit.Bit.TheVariants.{Zero, One}
+use Rattle.lte_bits.specs.declared.bit.Bit.TheVariants.{Zero}
 use Rattle.model_receiver.specs.Decoding.{decided_bit, decided_bits}
 use Rattle.std.proofs.lemmas.List.{ext_get_or, get_or_past, get_or-replicate, length-replicate, get_or-map, get_or_append_left, get_or-append-add, get_or-drop, length-append, length-drop, length-map}
 use Rattle.std.proofs.lemmas.List.FromFn.{length-map-range_with_len, get_or-map-range_with_len}
@@ -12,7 +12,7 @@ use Rattle.std.proofs.lemmas.Nat.{div-mul-add, mod-mul-add, mul-add-lt, div_belo
 use Rattle.model_receiver.specs.Borders.{at}
 use Rattle.model_receiver.specs.Windows.{Extrinsic, zero_cell, cell_at}
 use Rattle.lock_step.specs.Lanes.{IsLaneCount, AreWithin}
-use Rattle.lane_windows.specs.Banks.{number_in, cell_of, cell_in, cells_by_place, bit_at_place}
+use Rattle.lane_windows.specs.Banks.{number_in, cell_of, cell_in, cells_by_place}
 
 -- the place of a row and a bank is one of n * w
 pub place-inside : (n w b r : ℕ) → b < n → r < w → b * w + r < n * w
@@ -117,14 +117,14 @@ next-place w b r i e er = let s : (b + 1) * w ≡ b * w + w = omega arith in ome
 
 -- ---- the decided bit of a place
 
-pub bit-at : (fill i : ℕ) (cells : List Extrinsic) (v s : ℤ) → i < length cells → cell_of v s ≡ cell_at cells i
-    → bit_at_place fill i s ≡ get_or (decided_bits fill cells) i Zero
-bit-at fill i cells v s lt e = by_test (nat_lt i fill) refl
+pub bit-at : (fill i : ℕ) (cells : List Extrinsic) → i < length cells
+    → (if nat_lt i fill then Zero else decided_bit (cell_at cells i)) ≡ get_or (decided_bits fill cells) i Zero
+bit-at fill i cells lt = by_test (nat_lt i fill) refl
   where
-    value : (if int_lt s (pos 0) then One else Zero) ≡ get_or (map decided_bit cells) i Zero
-    value = ap decided_bit e ∙ sym (get_or-map decided_bit cells i zero_cell Zero lt)
+    value : decided_bit (cell_at cells i) ≡ get_or (map decided_bit cells) i Zero
+    value = sym (get_or-map decided_bit cells i zero_cell Zero lt)
 
-    by_test : (b : Bool) → nat_lt i fill ≡ b → (if b then Zero else if int_lt s (pos 0) then One else Zero) ≡ get_or (decided_bits fill cells) i Zero
+    by_test : (b : Bool) → nat_lt i fill ≡ b → (if b then Zero else decided_bit (cell_at cells i)) ≡ get_or (decided_bits fill cells) i Zero
     by_test true h =
         let l : i < fill = ltb-true i fill h in
         sym (get_or_append_left (replicate fill Zero) (drop fill (map decided_bit cells)) Zero i (omega (arith, length-replicate fill Zero, l)) ∙ get_or-replicate fill i Zero Zero l)

@@ -54,3 +54,7 @@ within-set_at m n xs i x all here b lb =
       ]
       | inr ne ↦ subst (IsWithin n) (sym (get_or-set_other xs i b x (pos 0) ne)) (all b lb)
     ]
+
+-- cells are within 16 bits
+pub within-words : (m : ℕ) (rows : List (List ℤ)) → AreWithin m 511 rows → AreWithin m 32767 rows
+within-words m rows all j t lj lt = let h = all j t lj lt in (omega (arith, ints, h), omega (arith, ints, h))

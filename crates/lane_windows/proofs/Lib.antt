@@ -5,3 +5,5 @@ pub mod CrossingLaws
 pub mod CrossingSteps
 pub mod LaneHalves
 pub mod LaneRuns
+mod Words
+mod Turned

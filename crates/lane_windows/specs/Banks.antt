@@ -1,5 +1,5 @@
 -- Cells in banks: row r has in bank b the cell of place b*W + r.
-use Rattle.std.specs.Prelude.{◌≡◌, ℕ, ◌*◌, ◌/◌, ◌%◌, ◌≤◌, ℤ, pos, int_lt, List, [], length, map, slice_index_or, nat_lt, if◌then◌else◌}
+use Rattle.std.specs.Prelude.{◌≡◌, ℕ, ◌*◌, ◌/◌, ◌%◌, ◌≤◌, ℤ, pos, int_lt, List, [], length, map, slice_index_or, if◌then◌else◌}
 use Rattle.std.specs.List.{range_with_len}
 use Rattle.lte_bits.specs.declared.bit.Bit.{Bit}
 use Rattle.lte_bits.specs.declared.bit.Bit.TheVariants.{Zero, One}
@@ -31,6 +31,6 @@ pub record AreBanks (n : ℕ) (values sums : List (List ℤ)) : Type 0 where
   pub most : length values ≤ 768
   pub within : AreWithin n 511 values
 
--- the decided bit of a place, by its sum: 0 at the first places, which are fillers
-abbrev pub bit_at_place : (fill i : ℕ) → ℤ → Bit
-bit_at_place fill i sum = if nat_lt i fill then Zero else if int_lt sum (pos 0) then One else Zero
+-- the bit that a sum decides
+abbrev pub bit_of : ℤ → Bit
+bit_of sum = if int_lt sum (pos 0) then One else Zero

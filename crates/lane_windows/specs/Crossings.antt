@@ -23,6 +23,20 @@ pub record HasEachOnce (n : ℕ) (banks : List ℕ) : Type 0 where
   pub apart : (t u : ℕ) → t < n → u < n → slice_index banks t ≡ slice_index banks u → t ≡ u
   pub reached : (b : ℕ) → b < n → (t : ℕ) × (t < n) × (slice_index banks t ≡ b)
 
+-- numbers below n of n lanes, no two alike
+pub record AreDistinct (n : ℕ) (banks : List ℕ) : Type 0 where
+  pub below : (t : ℕ) → t < n → slice_index banks t < n
+  pub apart : (t u : ℕ) → t < n → u < n → slice_index banks t ≡ slice_index banks u → t ≡ u
+
+-- the window of each bank, where the windows have different banks
+pub record IsTurned (n : ℕ) (banks windows : List ℕ) : Type 0 where
+  pub below : (b : ℕ) → b < n → slice_index windows b < n
+  pub window : AreDistinct n banks → (t : ℕ) → t < n → slice_index windows (slice_index banks t) ≡ t
+
+-- the same at each step
+abbrev pub AreTurned : (n : ℕ) → (banks windows : List (List ℕ)) → Type 0
+AreTurned n banks windows = (j : ℕ) → j < length banks → IsTurned n (slice_index_or banks j []) (slice_index_or windows j [])
+
 -- the row and the banks of each of w steps, where n windows w wide have their positions at these places
 pub record IsTable (n w : ℕ) (place : ℕ → ℕ) (rows : List ℕ) (banks : List (List ℕ)) : Type 0 where
   pub row : (j : ℕ) → j < w → slice_index rows j < w

@@ -6,7 +6,7 @@ ghost use Rattle.model_receiver.specs.Windows.{cell_at, zero_cell};
 ghost use Rattle.model_receiver.specs.Decoding.{decided_bits};
 ghost use Rattle.lock_step.specs.Lanes.{IsLaneCount};
 
-use crate::cells::{decide_row, lane_cell, split};
+use crate::cells::{clear, decide_bank, lane_cell, split};
 use crate::zeros::zero_rows;
 use lte_bits::{Bit, List, NoMemory};
 use std::alloc::Global;
@@ -118,10 +118,10 @@ impl<const N: usize> Banks<N> {
         requires long { length bits.old ≡ length self.now }
         ensures { bits.new ≡ decided_bits fill self.now }
     {
-        let width = self.sums.len();
-        for r in 0..width {
-            decide_row(fill, &self.sums[r], width, r, bits);
+        for b in 0..N {
+            decide_bank(self.sums.as_slice(), b, bits);
         }
+        clear(fill, bits);
     }
 }
 

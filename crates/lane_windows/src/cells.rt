@@ -1,11 +1,11 @@
 //! Cells as numbers: a value, and a sum that is negative exactly where the decided bit is 1.
-ghost use Rattle.std.specs.Prelude.{◌≡◌, ◌≢◌, ℕ, ◌+◌, ◌*◌, ◌%◌, ◌<◌, pos, int_lt, length, slice_index_or};
+ghost use Rattle.std.specs.Prelude.{◌≡◌, ℕ, ◌+◌, ◌*◌, ◌<◌, ◌≤◌, pos, int_lt, length, nat_lt, slice_index_or, if◌then◌else◌};
 ghost use Rattle.lte_bits.specs.Softs.{IsWithin};
 ghost use Rattle.lte_bits.specs.declared.bit.Bit.TheVariants.{Zero};
 ghost use Rattle.model_receiver.specs.Borders.{at};
 ghost use Rattle.model_receiver.specs.Windows.{cell_at};
 ghost use Rattle.lock_step.specs.Lanes.{IsLaneCount};
-ghost use Rattle.lane_windows.specs.Banks.{cell_of, bit_at_place};
+ghost use Rattle.lane_windows.specs.Banks.{cell_of, bit_of, number_in};
 
 use lte_bits::Bit;
 use serial_decode::bits::decided;
@@ -23,33 +23,38 @@ pub fn lane_cell<const N: usize>(values: &[i16; N], sums: &[i16; N], b: usize) -
     }
 }
 
-/// The decided bit of place `i` in a lane: 0 at the first `fill` places.
-pub fn lane_bit<const N: usize>(fill: usize, i: usize, sums: &[i16; N], b: usize) -> Bit
+/// The bit that the sum of a lane decides.
+fn lane_bit<const N: usize>(sums: &[i16; N], b: usize) -> Bit
     requires { b < N }
-    ensures { result ≡ bit_at_place fill i (at sums.now b) }
+    ensures { result ≡ bit_of (at sums.now b) }
 {
-    decided(i < fill, sums[b] < 0)
+    decided(false, sums[b] < 0)
 }
 
-/// Leaves the decided bits of row `r`, of which each bank has `width`: 0 at the first `fill` places.
-pub fn decide_row<const N: usize>(
-    fill: usize,
-    sums: &[i16; N],
-    width: usize,
-    r: usize,
-    bits: &mut [Bit],
-)
+/// Leaves the decided bits of bank `b`, whose places follow those of the banks before it.
+pub fn decide_bank<const N: usize>(sums: &[[i16; N]], b: usize, bits: &mut [Bit])
     requires lanes { IsLaneCount N }
-    requires row { r < width }
-    requires long { length bits.old ≡ N * width }
-    ensures row { (b : ℕ) → b < N → slice_index_or bits.new (b * width + r) Zero
-        ≡ bit_at_place fill (b * width + r) (at sums.now b) }
-    ensures others { (i : ℕ) → i % width ≢ r
+    requires bank { b < N }
+    requires long { length bits.old ≡ N * length sums.now }
+    ensures bank { (r : ℕ) → r < length sums.now
+        → slice_index_or bits.new (b * length sums.now + r) Zero ≡ bit_of (number_in sums.now r b) }
+    ensures before { (i : ℕ) → i < b * length sums.now
         → slice_index_or bits.new i Zero ≡ slice_index_or bits.old i Zero }
 {
-    for b in 0..N {
-        let place = b * width + r;
-        bits[place] = lane_bit(fill, place, sums, b);
+    let first = b * sums.len();
+    for r in 0..sums.len() {
+        bits[first + r] = lane_bit(&sums[r], b);
+    }
+}
+
+/// Makes the first `fill` bits 0.
+pub fn clear(fill: usize, bits: &mut [Bit])
+    requires { fill ≤ length bits.old }
+    ensures { (i : ℕ) → slice_index_or bits.new i Zero
+        ≡ if nat_lt i fill then Zero else slice_index_or bits.old i Zero }
+{
+    for i in 0..fill {
+        bits[i] = Bit::Zero;
     }
 }
 

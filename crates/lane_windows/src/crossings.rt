@@ -4,27 +4,44 @@ ghost use Rattle.lte_bits.specs.Softs.{IsWithin};
 ghost use Rattle.model_receiver.specs.Borders.{at};
 ghost use Rattle.lock_step.specs.Lanes.{IsLaneCount, AreWithin};
 ghost use Rattle.lane_windows.specs.Banks.{number_in};
-ghost use Rattle.lane_windows.specs.Crossings.{IsTable, AreApart};
+ghost use Rattle.lane_windows.specs.Crossings.{AreDistinct, IsTurned, AreTurned, IsTable, AreApart};
 
+use crate::shuffles::shuffle;
+use crate::zeros::zero_banks;
 use lte_bits::NoMemory;
 use std::alloc::Global;
 
-/// The row and the banks in which the cells of N windows stand at each step.
+/// The row and the banks in which the cells of N windows stand at each step, and the window of each bank.
 #[derive(Drop)]
 pub struct Crossings<const N: usize> {
     pub rows: Vec<u16>,
     pub banks: Vec<[u8; N]>,
+    windows: Vec<[u8; N]>,
+    ghost long: { length windows.items ≡ length banks.items },
+    ghost turned: { AreTurned N banks.items windows.items },
 }
 
-/// Leaves in lane `t` the number of bank `banks[t]`.
-fn bring_row<const N: usize>(from: &[i16; N], banks: &[u8; N], to: &mut [i16; N])
+/// Leaves in lane `t` the number of bank `banks[t]`, one after the other.
+fn bring_each<const N: usize>(from: &[i16; N], banks: &[u8; N], to: &mut [i16; N])
     requires { (t : ℕ) → t < N → slice_index banks.now t < N }
-    ensures brought { (t : ℕ) → t < N → at to.new t ≡ at from.now (slice_index banks.now t) }
-    ensures kept { (n : ℕ) → ((b : ℕ) → b < N → IsWithin n (at from.now b))
-        → (t : ℕ) → t < N → IsWithin n (at to.new t) }
+    ensures { (t : ℕ) → t < N → at to.new t ≡ at from.now (slice_index banks.now t) }
 {
     for t in 0..N {
         to[t] = from[usize::from(banks[t])];
+    }
+}
+
+/// Leaves in lane `t` the number of bank `banks[t]`. Eight are brought at once.
+#[inline]
+fn bring_row<const N: usize>(from: &[i16; N], banks: &[u8; N], to: &mut [i16; N])
+    requires below { (t : ℕ) → t < N → slice_index banks.now t < N }
+    requires within { (b : ℕ) → b < N → IsWithin 32767 (at from.now b) }
+    ensures { (t : ℕ) → t < N → at to.new t ≡ at from.now (slice_index banks.now t) }
+{
+    if N == 8 {
+        shuffle(from, banks, to);
+    } else {
+        bring_each(from, banks, to);
     }
 }
 
@@ -38,8 +55,8 @@ fn put_number<const N: usize>(from: &[i16; N], t: usize, to: &mut [i16; N], bank
     to[bank] = from[t];
 }
 
-/// Leaves in bank `banks[t]` the number of lane `t`.
-fn put_row_back<const N: usize>(from: &[i16; N], banks: &[u8; N], to: &mut [i16; N])
+/// Leaves in bank `banks[t]` the number of lane `t`, one after the other.
+fn put_each<const N: usize>(from: &[i16; N], banks: &[u8; N], to: &mut [i16; N])
     requires below { (t : ℕ) → t < N → slice_index banks.now t < N }
     requires apart { (t u : ℕ) → t < N → u < N → slice_index banks.now t ≡ slice_index banks.now u → t ≡ u }
     ensures put { (t : ℕ) → t < N → at to.new (slice_index banks.now t) ≡ at from.now t }
@@ -52,6 +69,54 @@ fn put_row_back<const N: usize>(from: &[i16; N], banks: &[u8; N], to: &mut [i16;
     }
 }
 
+/// Leaves in bank `banks[t]` the number of lane `t`. Eight are put back at once.
+#[inline]
+fn put_row_back<const N: usize>(
+    from: &[i16; N],
+    banks: &[u8; N],
+    windows: &[u8; N],
+    to: &mut [i16; N],
+)
+    requires distinct { AreDistinct N banks.now }
+    requires turned { IsTurned N banks.now windows.now }
+    requires within { (t : ℕ) → t < N → IsWithin 32767 (at from.now t) }
+    ensures put { (t : ℕ) → t < N → at to.new (slice_index banks.now t) ≡ at from.now t }
+    ensures others { (b : ℕ) → ((t : ℕ) → t < N → slice_index banks.now t ≡ b → ⊥) → at to.new b ≡ at to.old b }
+    ensures kept { (n : ℕ) → ((b : ℕ) → b < N → IsWithin n (at from.now b))
+        → ((b : ℕ) → b < N → IsWithin n (at to.old b)) → (b : ℕ) → b < N → IsWithin n (at to.new b) }
+{
+    if N == 8 {
+        shuffle(from, windows, to);
+    } else {
+        put_each(from, banks, to);
+    }
+}
+
+/// Notes window `t` at its bank, if that is one of N.
+fn put_window<const N: usize>(windows: &mut [u8; N], bank: u8, t: u8)
+    requires { t < N }
+    ensures long { length windows.new ≡ length windows.old }
+    ensures put { bank < N → windows.new ≡ slice_set windows.old bank t }
+    ensures below { ((b : ℕ) → b < N → slice_index windows.old b < N) → (b : ℕ) → b < N → slice_index windows.new b < N }
+{
+    let bank = usize::from(bank);
+    if bank < N {
+        windows[bank] = t;
+    }
+}
+
+/// The window of each bank.
+fn turned<const N: usize>(banks: &[u8; N]) -> [u8; N]
+    requires { IsLaneCount N }
+    ensures { IsTurned N banks.now result }
+{
+    let mut windows = [0; N];
+    for t in 0..N {
+        put_window(&mut windows, banks[t], t as u8);
+    }
+    windows
+}
+
 impl<const N: usize> Crossings<N> {
     /// Room for `width` steps.
     pub fn new(alloc: Global, width: usize) -> Result<Crossings<N>, NoMemory>
@@ -60,18 +125,25 @@ impl<const N: usize> Crossings<N> {
         ensures banks { IfOk result (λ c. length c.banks.items ≡ width) }
     {
         let rows = vec![in alloc; 0u16; width]?;
-        let banks = vec![in alloc; [0u8; N]; width]?;
-        Ok(Crossings { rows, banks })
+        let banks = zero_banks(alloc, width)?;
+        let windows = zero_banks(alloc, width)?;
+        Ok(Crossings {
+            rows,
+            banks,
+            windows,
+        })
     }
 
     /// Replaces the row and the banks of step `j`.
     pub fn set(&mut self, j: usize, row: u16, banks: [u8; N])
+        requires lanes { IsLaneCount N }
         requires rows { j < length self.old.rows.items }
         requires banks { j < length self.old.banks.items }
         ensures rows { self.new.rows.items ≡ slice_set self.old.rows.items j row }
         ensures banks { self.new.banks.items ≡ slice_set self.old.banks.items j banks.entry }
     {
         self.rows[j] = row;
+        self.windows[j] = turned(&banks);
         self.banks[j] = banks;
     }
 
@@ -81,6 +153,7 @@ impl<const N: usize> Crossings<N> {
         requires rows { length to.old ≤ length self.now.rows.items }
         requires banks { length to.old ≤ length self.now.banks.items }
         requires from { length from.now ≡ length to.old }
+        requires within { AreWithin N 32767 from.now }
         requires table { (place : ℕ → ℕ) × IsTable N (length to.old) place self.now.rows.items self.now.banks.items }
         ensures brought { (j t : ℕ) → j < length to.old → t < N → number_in to.new j t
             ≡ number_in from.now (slice_index self.now.rows.items j) (slice_index (slice_index_or self.now.banks.items j []) t) }
@@ -98,6 +171,7 @@ impl<const N: usize> Crossings<N> {
         requires rows { length from.now ≤ length self.now.rows.items }
         requires banks { length from.now ≤ length self.now.banks.items }
         requires to { length to.old ≡ length from.now }
+        requires within { AreWithin N 32767 from.now }
         requires table { (place : ℕ → ℕ) × IsTable N (length from.now) place self.now.rows.items self.now.banks.items
             × AreApart N (length from.now) place }
         ensures put { (j t : ℕ) → j < length from.now → t < N
@@ -107,7 +181,7 @@ impl<const N: usize> Crossings<N> {
     {
         for j in 0..from.len() {
             let row = usize::from(self.rows[j]);
-            put_row_back(&from[j], &self.banks[j], &mut to[row]);
+            put_row_back(&from[j], &self.banks[j], &self.windows[j], &mut to[row]);
         }
     }
 }

@@ -17,6 +17,7 @@ pub mod lane_views;
 pub mod places;
 pub mod rows;
 pub mod running;
+mod shuffles;
 pub mod soft_rows;
 pub mod steps;
 pub mod work;

@@ -85,6 +85,19 @@ set-more P rows j row inside h here i lt =
 pub kept-more : (old rows : List (List ℤ)) (n i j : ℕ) (row : List ℤ) → j + suc i ≡ n → ((k : ℕ) → k + i < n → row_at rows k ≡ row_at old k) → (k : ℕ) → k + (i + 1) < n → row_at (set rows j row) k ≡ row_at old k
 kept-more old rows n i j row place h k lt = get_or-set_other rows j k row [] (λ e. omega (arith, lt, e, place)) ∙ h k (omega (arith, lt))
 
+-- the sums of position j, and those after it
+pub small-more : (m : ℕ) (sums : List (List ℤ)) (n i j : ℕ) (sum : List ℤ) → j + suc i ≡ n → length sums ≡ n
+    → ((k t : ℕ) → n ≤ k + i → k < n → t < m → IsWithin 32767 (at (row_at sums k) t)) → IsSmall m 32767 sum
+    → (k t : ℕ) → n ≤ k + (i + 1) → k < n → t < m → IsWithin 32767 (at (row_at (set sums j sum) k) t)
+small-more m sums n i j sum place long h here k t le below lt =
+    elim (cases_lt j k) [
+      | inl after ↦ subst (λ (xs : List ℤ). IsWithin 32767 (at xs t)) (sym (get_or-set_other sums j k sum [] (λ e. omega (arith, after, e)))) (h k t (omega (arith, after, place)) below lt)
+      | inr upto ↦ (
+          let e : j ≡ k = omega (arith, upto, le, place) in
+          subst (λ (p : ℕ). IsWithin 32767 (at (row_at (set sums j sum) p) t)) e
+          (subst (λ (xs : List ℤ). IsWithin 32767 (at xs t)) (sym (get_or-set_same sums j sum [] (omega (arith, place, long)))) (here t lt)))
+    ]
+
 -- the new cell of position j, and those after it
 pub renewed-more : (w : Window) (t : ℕ) (cells sums : List (List ℤ)) (n i j : ℕ) (cell sum : List ℤ) → j + suc i ≡ n → length cells ≡ n → length sums ≡ n
     → ((k : ℕ) → n ≤ k + i → k < n → cell_of t cells sums k ≡ new_cell w k) → cell_of t (set cells j cell) (set sums j sum) j ≡ new_cell w j

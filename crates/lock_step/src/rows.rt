@@ -65,6 +65,7 @@ fn step_back<const N: usize>(
         → record { value = at cell.new t; one = int_lt (at sum.new t) (pos 0) }
         ≡ cell_through (column t before.now) (column t m.old)
         (at sys.now t) (at par.now t) (at cell.old t) }
+    ensures sum { IsSmall N 32767 sum.new }
 {
     let mut x = [0; N];
     add(sys, cell, &mut x);
@@ -97,6 +98,7 @@ fn sweep_backward<const N: usize>(
         → AreForwardRows t start sys.now par.now cells.old rows.now (length sys.now)
         → decided_cells (column t cells.new) (column t sums.new)
         ≡ new_cells (lane_window t start (column t m.old) sys.now par.now cells.old) }
+    ensures sums { AreWithin N 32767 sums.new }
 {
     let width = sys.len();
     for i in 0..width {
@@ -131,6 +133,7 @@ pub fn run_rows<const N: usize>(
     ensures cells { (t : ℕ) → t < N → decided_cells (column t cells.new) (column t sums.new)
         ≡ new_cells (window_at t from.now to.now sys.now par.now cells.old) }
     ensures within { AreWithin N 511 cells.new }
+    ensures sums { AreWithin N 32767 sums.new }
     ensures forward { (t : ℕ) → t < N → border_at ahead.new t
         ≡ forward_left (window_at t from.now to.now sys.now par.now cells.old) }
     ensures backward { (t : ℕ) → t < N → border_at back.new t

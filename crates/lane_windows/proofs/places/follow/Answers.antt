@@ -18,7 +18,7 @@ set-requires g c =
     let l = c.loop-j in let inv = l.invariant in
     let lr : l.j < length l.crossings.rows.items = omega (arith, c.loop-j-test.true, inv.rows, c.requires.rows) in
     let lb : l.j < length l.crossings.banks.items = omega (arith, c.loop-j-test.true, inv.banks, c.requires.banks) in
-    (omega arith, (fits-once g.row.N c.requires.lanes, (lr, lb)))
+    (omega arith, (fits-once g.row.N c.requires.lanes, (c.requires.lanes, (lr, lb))))
 
 pub loop-j-preserved : goal.loop-j-preserved
 loop-j-preserved g c =

@@ -7,6 +7,7 @@ use Rattle.lane_windows.specs.Banks.{number_in}
 use Rattle.lane_windows.specs.Crossings.{IsTable, AreApart}
 use Rattle.lane_windows.proofs.BankCells.{fits-twice}
 use Rattle.lane_windows.proofs.BankRows.{width-of_view, banks-of_rows}
+use Rattle.lane_windows.proofs.Columns.{within-words}
 use Rattle.lane_windows.proofs.CrossingSteps.{bank_at}
 use Rattle.lane_windows.proofs.LaneRuns.{crossed-run}
 use Rattle.lane_windows.proofs.running.run_in_room.Goals as goal
@@ -26,7 +27,8 @@ bring-requires g c =
     let banks : length (take w c.args.values.now) ≤ length c.args.crossings.now.banks.items = omega (arith, e, c.requires.banks) in
     let full : length c.as_slice.result.now ≡ length (take w c.args.values.now) = ap length c.as_slice.ensures.value ∙ (sym ww ∙ (sym c.requires.systematic ∙ sym e)) in
     let table = table-for n (length (take w c.args.values.now)) w c.args.crossings.now.rows.items c.args.crossings.now.banks.items e c.requires.table in
-    (omega arith, (fits-twice n inv.lanes, (inv.lanes, (rows, (banks, (full, (table.0, table.1)))))))
+    let within : AreWithin n 32767 c.as_slice.result.now = subst (AreWithin n 32767) (sym c.as_slice.ensures.value) (within-words n b.values.items inv.within) in
+    (omega arith, (fits-twice n inv.lanes, (inv.lanes, (rows, (banks, (full, (within, (table.0, table.1))))))))
 
 pub run_rows-requires : goal.run_rows-requires
 run_rows-requires g c =
@@ -72,7 +74,8 @@ put_back-requires g c =
     let rows : length c.run_rows.new.cells ≤ length c.args.crossings.now.rows.items = omega (arith, e, c.requires.rows) in
     let banks : length c.run_rows.new.cells ≤ length c.args.crossings.now.banks.items = omega (arith, e, c.requires.banks) in
     let full : length c.as_mut_slice.result.now ≡ length c.run_rows.new.cells = ap length c.as_mut_slice.ensures.value ∙ (sym ww ∙ (sym c.requires.systematic ∙ sym e)) in
-    (omega arith, (fits-twice n inv.lanes, (inv.lanes, (rows, (banks, (full, table-for n (length c.run_rows.new.cells) w c.args.crossings.now.rows.items c.args.crossings.now.banks.items e c.requires.table))))))
+    let within : AreWithin n 32767 c.run_rows.new.cells = within-words n c.run_rows.new.cells c.run_rows.ensures.within in
+    (omega arith, (fits-twice n inv.lanes, (inv.lanes, (rows, (banks, (full, (within, table-for n (length c.run_rows.new.cells) w c.args.crossings.now.rows.items c.args.crossings.now.banks.items e c.requires.table)))))))
 
 pub put_back-requires-2 : goal.put_back-requires-2
 put_back-requires-2 g c =
@@ -83,7 +86,7 @@ put_back-requires-2 g c =
     let rows : length c.run_rows.new.sums ≤ length c.args.crossings.now.rows.items = omega (arith, e, c.requires.rows) in
     let banks : length c.run_rows.new.sums ≤ length c.args.crossings.now.banks.items = omega (arith, e, c.requires.banks) in
     let full : length c.as_mut_slice-2.result.now ≡ length c.run_rows.new.sums = ap length c.as_mut_slice-2.ensures.value ∙ (inv.sums_long ∙ (sym ww ∙ (sym c.requires.systematic ∙ sym e))) in
-    (omega arith, (fits-twice n inv.lanes, (inv.lanes, (rows, (banks, (full, table-for n (length c.run_rows.new.sums) w c.args.crossings.now.rows.items c.args.crossings.now.banks.items e c.requires.table))))))
+    (omega arith, (fits-twice n inv.lanes, (inv.lanes, (rows, (banks, (full, (c.run_rows.ensures.sums, table-for n (length c.run_rows.new.sums) w c.args.crossings.now.rows.items c.args.crossings.now.banks.items e c.requires.table)))))))
 
 pub invariant_of-banks : goal.invariant_of-banks
 invariant_of-banks g c =

@@ -9,7 +9,7 @@ use Rattle.window_decode.proofs.WindowSweep.{backward_at}
 use Rattle.lock_step.specs.Lanes.{row_at, column, lane_window}
 use Rattle.lock_step.specs.Vectors.{AreRelative, lane_gain, metrics_at}
 use Rattle.lock_step.proofs.StateRows.{at-column}
-use Rattle.lock_step.proofs.Sweeps.{lane-narrow, lane-earns, row-read, metrics-read, read-small, kept-more, renewed-more, cell-set, decided-all}
+use Rattle.lock_step.proofs.Sweeps.{lane-narrow, lane-earns, row-read, metrics-read, read-small, kept-more, small-more, renewed-more, cell-set, decided-all}
 use Rattle.lock_step.proofs.rows.sweep_backward.Goals as goal
 
 pub loop-i-init : goal.loop-i-init
@@ -21,6 +21,7 @@ loop-i-init g c =
       long = c.requires.cells;
       sums_long = c.requires.sums;
       kept = λ k lt. refl;
+      small = λ k t le below lt. absurd (omega (arith, le, below));
       renewed = λ t k start lt rows le below. absurd (omega (arith, le, below));
     }
 
@@ -84,6 +85,7 @@ loop-i-preserved g c =
       long = length-set c.loop-i.cells j c.step_back.new.cell ∙ h.long;
       sums_long = length-set c.loop-i.sums j c.step_back.new.sum ∙ h.sums_long;
       kept = kept-more cells c.loop-i.cells n i j c.step_back.new.cell place h.kept;
+      small = small-more g.row.N c.loop-i.sums n i j c.step_back.new.sum place h.sums_long h.small c.step_back.ensures.sum;
       renewed = λ t k start lt rows le below.
           let w : Window = lane_window t start (column t c.args.m.now) sys par cells in
           let before : column t c.index-rows-j.result ≡ column t (metrics_at c.args.rows.now j) = ap (column t) r in
@@ -106,3 +108,7 @@ returns-clause-cells g c = λ t start lt rows.
     decided-all (lane_window t start (column t c.args.m.now) sys c.args.par.now c.args.cells.now) t c.loop-i.cells c.loop-i.sums (length sys)
     (length-map c.args.cells.now (λ (row : List ℤ). at row t) ∙ c.requires.cells) h.long h.sums_long
     (λ k below. h.renewed t k start lt rows (omega (arith, c.loop-i-test.false)) below)
+
+pub returns-clause-sums : goal.returns-clause-sums
+returns-clause-sums g c = λ k t lk lt.
+    let h = c.loop-i.invariant in h.small k t (omega (arith, c.loop-i-test.false)) (omega (arith, lk, h.sums_long)) lt

@@ -1,5 +1,6 @@
 use Rattle.std.proofs.Common.{◌≡◌, ℕ, ◌+◌, ◌-◌, ◌<◌, ◌≤◌, length}
-use Rattle.model_receiver.specs.Borders.{Border}
+use Rattle.lte_bits.specs.Softs.{IsWithin}
+use Rattle.model_receiver.specs.Borders.{Border, at}
 use Rattle.model_receiver.specs.Windows.{new_cell}
 use Rattle.window_decode.specs.Metrics.{IsBackwardRow}
 use Rattle.lock_step.specs.Lanes.{row_at, column, lane_window}
@@ -15,6 +16,7 @@ invariant-loop-i g l =
       long : length l.cells ≡ n;
       sums_long : length l.sums ≡ n;
       kept : (k : ℕ) → k + l.i < n → row_at l.cells k ≡ row_at l.initial.cells k;
+      small : (k t : ℕ) → n ≤ k + l.i → k < n → t < g.row.N → IsWithin 32767 (at (row_at l.sums k) t);
       renewed : (t k : ℕ) (start : Border) → t < g.row.N → AreForwardRows t start l.sys l.par l.initial.cells l.rows n → n ≤ k + l.i → k < n
           → cell_of t l.cells l.sums k ≡ new_cell (lane_window t start (column t l.initial.m) l.sys l.par l.initial.cells) k;
     }

@@ -5,6 +5,7 @@ use Rattle.lte_bits.specs.Softs.{IsWithin}
 use Rattle.model_receiver.specs.Borders.{at}
 use Rattle.lock_step.specs.Lanes.{AreWithin}
 use Rattle.lane_windows.specs.Banks.{number_in}
+use Rattle.lane_windows.specs.Crossings.{IsTurned}
 use Rattle.lane_windows.proofs.CrossingSteps.{bank_at, read-bank, banks_apart, put-more}
 use Rattle.lane_windows.proofs.BankCells.{fits-twice, fits-once}
 use Rattle.lane_windows.proofs.BankRows.{read-number}
@@ -31,7 +32,15 @@ put_row_back-requires g c =
     λ t lt. subst (λ (b : ℕ). b < n) (sym (bank t)) (c.requires.table.1.bank l.j t lj lt) in
     let apart : (t u : ℕ) → t < n → u < n → slice_index c.index-in-loop-j.result.now t ≡ slice_index c.index-in-loop-j.result.now u → t ≡ u =
     λ t u lt lu e. banks_apart n w c.requires.table.0 s.rows.items s.banks.items c.requires.table.1 c.requires.table.2 l.j t u lj lt lu (sym (bank t) ∙ (e ∙ bank u)) in
-    (fits-twice n c.requires.lanes, (fits-once n c.requires.lanes, (below, apart)))
+    let banks : get_or s.banks.items l.j [] ≡ c.index-in-loop-j.result.now =
+    sym (c.index-in-loop-j.ensures ∙ get_or_default s.banks.items l.j c.index-in-loop-j.result.now [] lb) in
+    let windows : get_or s.windows.items l.j [] ≡ c.index-in-loop-j-2.result.now =
+    sym (c.index-in-loop-j-2.ensures ∙ get_or_default s.windows.items l.j c.index-in-loop-j-2.result.now [] (omega (arith, lb, s.long))) in
+    let turned : IsTurned n c.index-in-loop-j.result.now c.index-in-loop-j-2.result.now =
+    subst (λ (xs : List ℕ). IsTurned n xs c.index-in-loop-j-2.result.now) banks (subst (IsTurned n (get_or s.banks.items l.j [])) windows (s.turned l.j lb)) in
+    let within : (t : ℕ) → t < n → IsWithin 32767 (at c.index-from-j.result t) =
+    λ t lt. subst (IsWithin 32767) (sym (read-number c.args.from.now l.j t c.index-from-j.result lj c.index-from-j.is)) (c.requires.within l.j t lj lt) in
+    (fits-twice n c.requires.lanes, (fits-once n c.requires.lanes, (record { below = below; apart = apart }, (turned, within))))
 
 pub loop-j-preserved : goal.loop-j-preserved
 loop-j-preserved g c =

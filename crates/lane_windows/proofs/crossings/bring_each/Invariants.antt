@@ -1,6 +1,6 @@
 use Rattle.std.proofs.Common.{◌≡◌, ℕ, ◌<◌, length, slice_index_or}
 use Rattle.model_receiver.specs.Borders.{at}
-use Rattle.lane_windows.proofs.crossings.bring_row.Given as goal
+use Rattle.lane_windows.proofs.crossings.bring_each.Given as goal
 
 abbrev pub invariant-loop-t : goal.invariant-loop-t
 invariant-loop-t g l = record {
