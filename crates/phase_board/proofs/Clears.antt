@@ -5,7 +5,7 @@ use Rattle.std.proofs.Math.Pow.{pow_pos}
 use Rattle.atomic_table.specs.Table.{Me, step, keeps, Allows}
 use Rattle.phase_board.specs.declared.view.View.{View}
 use Rattle.phase_board.specs.declared.view.Slot.{Slot}
-use Rattle.phase_board.specs.declared.view.Stage.TheVariants.{Turning, Reset}
+use Rattle.phase_board.specs.declared.view.Activity.TheVariants.{Turning, Reset}
 use Rattle.phase_board.specs.Numbers.{times, total, once_below}
 use Rattle.phase_board.specs.Lawful.{Phase, running, turning, resetting, InPhase, HasJob, Knows, Seated, done_once}
 use Rattle.phase_board.specs.Steps.{IsFor, cleared}
@@ -22,9 +22,9 @@ module _ {J P C : Type 0} (windows : J → ℕ) (ready done : J → ℕ → ℕ 
   abbrev L : St windows ready done common ended job → Type 0
   L = Law windows ready done common ended job
 
-  pub clears : (slots id : ℕ) (me : Me (Slot P C) V) → me.0.job ≡ Some job → me.0.stage ≡ Turning → Allows L slots id me 1 (λ _. 0) (cleared windows (step slots 1 0 0 none) me)
+  pub clears : (slots id : ℕ) (me : Me (Slot P C) V) → me.0.job ≡ Some job → me.0.activity ≡ Turning → Allows L slots id me 1 (λ _. 0) (cleared windows (step slots 1 0 0 none) me)
   clears slots id me is turns s r wide at small =
-      let v : V = me.0 in let m : ℕ = windows job in let c : ℕ = claim windows ready done common ended job s r in let w : V = record v { stage = Reset } in
+      let v : V = me.0 in let m : ℕ = windows job in let c : ℕ = claim windows ready done common ended job s r in let w : V = record v { activity = Reset } in
       let mine = r.each_seat id v at in
       let kn : Knows windows job r.half r.at r.phase id v Turning = subst (Knows windows job r.half r.at r.phase id v) turns mine.knows in
       let now : InPhase windows ready done common ended job s.homes r.half r.n r.mask r.stop r.at (turning id) = subst (InPhase windows ready done common ended job s.homes r.half r.n r.mask r.stop r.at) kn.0 r.in_phase in
@@ -61,7 +61,7 @@ module _ {J P C : Type 0} (windows : J → ℕ) (ready done : J → ℕ → ℕ 
                 below = old.below;
                 job_is = old.job_is;
                 knows = alone windows job id r.phase (λ e. let f : turning id ≡ running = sym kn.0 ∙ e in cc) (λ j d e. d (let f : turning id ≡ turning j = sym kn.0 ∙ e in cc)) (λ j d e. let f : turning id ≡ resetting j = sym kn.0 ∙ e in cc)
-                    r.half r.half r.at r.at (resetting id) i u u.stage ne old.knows;
+                    r.half r.half r.at r.at (resetting id) i u u.activity ne old.knows;
               });
         },
         (refl, subst (IsFor _) (sym is) (sym r.slots ∙ wide)),

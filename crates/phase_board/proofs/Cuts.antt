@@ -5,7 +5,7 @@ use lib.ListN.{get_elem?}
 use Rattle.atomic_table.specs.Table.{Splits, Joins}
 use Rattle.atomic_table.proofs.Lists.{at_snoc, at_longer, set_again, set_else}
 use Rattle.phase_board.specs.declared.view.View.{View}
-use Rattle.phase_board.specs.declared.view.Stage.TheVariants.{Idle}
+use Rattle.phase_board.specs.declared.view.Activity.TheVariants.{Idle}
 use Rattle.phase_board.specs.ClaimWord.{drawn_of, next_number, NotNewer}
 use Rattle.phase_board.specs.Numbers.{times, total}
 use Rattle.phase_board.specs.Lawful.{spent_view, HasJob, Knows, Seated}
@@ -46,7 +46,7 @@ module _ {J P C : Type 0} (windows : J → ℕ) (ready done : J → ℕ → ℕ 
       (λ j u e. ⊎_elim (λ (was : get_elem? s.views j ≡ some u). r.each_seat j u was) (λ (new : twin v ≡ u). subst (Seated windows job (claim windows ready done common ended job s r) r.half r.at r.phase j) new (mine j))
       (at_snoc s.views (twin v) u j e)))
 
-  pub joins : (id : ℕ) (v : V) (other : ℕ) (w : V) → v.job ≡ Some job → v.stage ≡ Idle → w.stage ≡ Idle → Joins L id v other w (merged v w) spent_view
+  pub joins : (id : ℕ) (v : V) (other : ℕ) (w : V) → v.job ≡ Some job → v.activity ≡ Idle → w.activity ≡ Idle → Joins L id v other w (merged v w) spent_view
   joins id v other w is rests rests' s r at apart at' =
       let m : ℕ = windows job in let c : ℕ = claim windows ready done common ended job s r in let S : ℕ → V → Type 0 = Seated windows job c r.half r.at r.phase in
       let both : V = merged v w in let mid : List V = set s.views id both in

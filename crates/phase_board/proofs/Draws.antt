@@ -9,8 +9,8 @@ use Rattle.atomic_table.proofs.Lists.{set_here, set_else}
 use Rattle.phase_board.specs.declared.view.View.{View}
 use Rattle.phase_board.specs.declared.view.Slot.{Slot}
 use Rattle.phase_board.specs.declared.view.Slot.TheVariants.{Piece}
-use Rattle.phase_board.specs.declared.view.Stage.{Stage}
-use Rattle.phase_board.specs.declared.view.Stage.TheVariants.{Idle, Working, Turning, Reset}
+use Rattle.phase_board.specs.declared.view.Activity.{Activity}
+use Rattle.phase_board.specs.declared.view.Activity.TheVariants.{Idle, Working, Turning, Reset}
 use Rattle.phase_board.specs.ClaimWord.{half_of, drawn_of, next_number, word_of, NotNewer}
 use Rattle.phase_board.specs.Numbers.{times, total, once_below}
 use Rattle.phase_board.specs.Lawful.{Where, waits, out, home, Phase, running, turning, resetting, stopped, Stands, InPhase, InHands, IsAt, HasJob, Knows, Seated, done_once}
@@ -57,14 +57,14 @@ module _ {J P C : Type 0} (windows : J → ℕ) (ready done : J → ℕ → ℕ 
     keep (out j) t ne h = ((let a = h.0 in omega arith), h.1, set_else homes (suc n) (suc t) none (up_ne t n ne) ∙ h.2)
     keep home t ne h = ((let a = h.0 in omega arith), h.1, (h.2.0, set_else homes (suc n) (suc t) none (up_ne t n ne) ∙ h.2.1, h.2.2))
 
-  knows_else : (half n id : ℕ) (at : ℕ → Where) (ph : Phase) (j : ℕ) (v : V) (x : Stage) → at n ≡ waits → Knows windows job half at ph j v x → Knows windows job half (moved_to at n (out id)) ph j v x
+  knows_else : (half n id : ℕ) (at : ℕ → Where) (ph : Phase) (j : ℕ) (v : V) (x : Activity) → at n ≡ waits → Knows windows job half at ph j v x → Knows windows job half (moved_to at n (out id)) ph j v x
   knows_else half n id at ph j v Idle free h = tt
   knows_else half n id at ph j v (Working t) free h =
       (h.0, moved_case at n (out id) (λ p. p ≡ out j) t (λ e. let f : waits ≡ out j = sym free ∙ ap at (sym e) ∙ h.1 in cc) (λ _. h.1), h.2, h.3)
   knows_else half n id at ph j v Turning free h = h
   knows_else half n id at ph j v Reset free h = h
 
-  pub draws_one : (s : T) (r : L s) (id : ℕ) (me : Me S V) → get_elem? s.views id ≡ some me.0 → me.0.job ≡ Some job → me.0.stage ≡ Idle → me.1 ≡ [] → me.0.loaded ≡ claim windows ready done common ended job s r → me.0.found ≡ claim windows ready done common ended job s r
+  pub draws_one : (s : T) (r : L s) (id : ℕ) (me : Me S V) → get_elem? s.views id ≡ some me.0 → me.0.job ≡ Some job → me.0.activity ≡ Idle → me.1 ≡ [] → me.0.loaded ≡ claim windows ready done common ended job s r → me.0.found ≡ claim windows ready done common ended job s r
       → claim windows ready done common ended job s r < 2 ^ 63 → r.n ≢ windows job
       → (w : V) × (a : Act S) × Valid s.homes me.1 a × L (stepped s 0 (claim windows ready done common ended job s r + 1) id me.1 w a) × Draws windows ready job me (w, carried_after me.1 a)
   draws_one s r id me at is rests free seen found low more =
@@ -142,7 +142,7 @@ module _ {J P C : Type 0} (windows : J → ℕ) (ready done : J → ℕ → ℕ 
               loaded_drawn = old.loaded_drawn;
               below = old.below;
               job_is = old.job_is;
-              knows = subst (λ (ph : Phase). Knows windows job h at' ph i q q.stage) runs.0 (knows_else h n id r.at r.phase i q q.stage there.0 old.knows);
+              knows = subst (λ (ph : Phase). Knows windows job h at' ph i q q.activity) runs.0 (knows_else h n id r.at r.phase i q q.activity there.0 old.knows);
             }) j u e);
       } in (
         w,

@@ -31,7 +31,7 @@ module _ {J P C : Type 0} (windows : J → ℕ) (ready done : J → ℕ → ℕ 
     abbrev m : ℕ
     m = windows job
 
-    seated : (w : V) (ph : Phase) (pl : ℕ → Where) → w.found ≡ v.found → w.loaded ≡ v.loaded → w.drawn ≡ v.drawn → w.job ≡ Some job → Knows windows job r.half pl ph id w w.stage → Seated windows job (claim windows ready done common ended job s r) r.half pl ph id w
+    seated : (w : V) (ph : Phase) (pl : ℕ → Where) → w.found ≡ v.found → w.loaded ≡ v.loaded → w.drawn ≡ v.drawn → w.job ≡ Some job → Knows windows job r.half pl ph id w w.activity → Seated windows job (claim windows ready done common ended job s r) r.half pl ph id w
     seated w ph pl f l d j know = let old = r.each_seat id v at in
         record {
           found_is = subst (λ (z : ℕ). NotNewer z (claim windows ready done common ended job s r)) (sym f) old.found_is;
@@ -46,7 +46,7 @@ module _ {J P C : Type 0} (windows : J → ℕ) (ready done : J → ℕ → ℕ 
     -- what the step makes of the rule, for the view and the phase that follow
     pub step_to : (w : V) (ph : Phase) (pl : ℕ → Where) (homes : List (maybe.Option (Slot P C))) → w.found ≡ v.found → w.loaded ≡ v.loaded → w.drawn ≡ v.drawn → w.done ≡ v.done ++ (half_of v.loaded * m + t) ∷ [] → w.job ≡ Some job → length homes ≡ m + 1
         → ((x : ℕ) → done_once m r.half mask' ph x ≡ by_mask (r.half * m) mask' x) → InPhase windows ready done common ended job homes r.half r.n mask' r.stop pl ph → InHands (set s.views id w) m pl ph
-        → Knows windows job r.half pl ph id w w.stage → ((j : ℕ) (u : V) → j ≢ id → Knows windows job r.half r.at r.phase j u u.stage → Knows windows job r.half pl ph j u u.stage)
+        → Knows windows job r.half pl ph id w w.activity → ((j : ℕ) (u : V) → j ≢ id → Knows windows job r.half r.at r.phase j u u.activity → Knows windows job r.half pl ph j u u.activity)
         → L record { words = set s.words 1 mask'; homes = homes; views = set s.views id w }
     step_to w ph pl homes f l d e j long by_it phase_is hands know others =
         record {

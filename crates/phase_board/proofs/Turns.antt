@@ -13,7 +13,7 @@ use Rattle.atomic_table.proofs.Lists.{at_map}
 use Rattle.phase_board.specs.declared.view.View.{View}
 use Rattle.phase_board.specs.declared.view.Slot.{Slot}
 use Rattle.phase_board.specs.declared.view.Slot.TheVariants.{Piece, Common}
-use Rattle.phase_board.specs.declared.view.Stage.TheVariants.{Idle, Reset}
+use Rattle.phase_board.specs.declared.view.Activity.TheVariants.{Idle, Reset}
 use Rattle.phase_board.specs.ClaimWord.{half_of, word_of}
 use Rattle.phase_board.specs.Slots.{numbered, HasRoom, AllPieces}
 use Rattle.phase_board.specs.Lawful.{waits, Phase, running, turning, resetting, InPhase, Knows, done_once}
@@ -43,7 +43,7 @@ module _ {J P C : Type 0} (windows : J → ℕ) (ready done : J → ℕ → ℕ 
   abbrev L : St windows ready done common ended job → Type 0
   L = Law windows ready done common ended job
 
-  pub turns : (slots id : ℕ) (me : Me (Slot P C) V) (new h : ℕ) (x : C) (room : Vec P Global) (ps : List P) → me.0.job ≡ Some job → me.0.stage ≡ Reset → me.1 ≡ numbered 0 (Common x room ∷ map Piece ps) → HasRoom (windows job) room
+  pub turns : (slots id : ℕ) (me : Me (Slot P C) V) (new h : ℕ) (x : C) (room : Vec P Global) (ps : List P) → me.0.job ≡ Some job → me.0.activity ≡ Reset → me.1 ≡ numbered 0 (Common x room ∷ map Piece ps) → HasRoom (windows job) room
       → h ≡ half_of me.0.loaded → h + 1 ≤ 1000000 → new ≡ (h + 1) * 256 → 0 < windows job → common job (h + 1) x → AllPieces (windows job) (ready job (h + 1)) ps → Allows L slots id me 0 (λ _. new) (settled windows (step slots 0 new 0 none) me)
   turns slots id me new h x room ps has resets holds roomy is fine next pos right readies s r wide at small =
       let v : V = me.0 in let m : ℕ = windows job in let c : ℕ = claim windows ready done common ended job s r in let xs : List (Slot P C) = Common x room ∷ map Piece ps in
@@ -58,7 +58,7 @@ module _ {J P C : Type 0} (windows : J → ℕ) (ready done : J → ℕ → ℕ 
       let home_is : homes_after s.homes me.1 (give_all me.1) ≡ map some xs = come_home s.homes me.1 xs holds long in
       let same : (r.half + 1) * m + 0 ≡ r.half * m + r.n = (let a = next_half r.half m in let b = now.1 in omega arith) in
       let no_bit : (t : ℕ) → bit_at r.mask t ≡ 0 = λ t. ap (λ (z : ℕ). bit_at z t) now.2 ∙ bit_at-zero t in (
-        record v { stage = Idle; found = new },
+        record v { activity = Idle; found = new },
         give_all me.1,
         given_valid me.1 s.homes me.1,
         settle windows ready done common ended job s r id v new (r.half + 1) 0 false (λ _. waits) running (homes_after s.homes me.1 (give_all me.1)) at has now.0 new_is up fine' (omega arith) same (ap length home_is ∙ (length-map xs _ ∙ (sym long ∙ r.slots)))
@@ -71,6 +71,6 @@ module _ {J P C : Type 0} (windows : J → ℕ) (ready done : J → ℕ → ℕ 
             ))
             (λ t j l e. cc)
             (λ j u ne q. alone windows job id r.phase (λ e. let f : resetting id ≡ running = sym kn.0 ∙ e in cc) (λ i d e. let f : resetting id ≡ turning i = sym kn.0 ∙ e in cc) (λ i d e. d (let f : resetting id ≡ resetting i = sym kn.0 ∙ e in cc))
-            r.half (r.half + 1) r.at (λ _. waits) running j u u.stage ne q),
-        (ap (λ (l : List (ℕ × Slot P C)). let w : V = record v { stage = Idle; found = new } in (w, l)) (none_left me.1), subst (IsFor _) (sym has) (sym r.slots ∙ wide)),
+            r.half (r.half + 1) r.at (λ _. waits) running j u u.activity ne q),
+        (ap (λ (l : List (ℕ × Slot P C)). let w : V = record v { activity = Idle; found = new } in (w, l)) (none_left me.1), subst (IsFor _) (sym has) (sym r.slots ∙ wide)),
       )

@@ -4,7 +4,7 @@ use Rattle.atomic_table.specs.Table.{rest}
 use Rattle.phase_board.specs.ClaimWord.{half_of}
 use Rattle.phase_board.specs.Slots.{AllOut, AllPieces}
 use Rattle.phase_board.specs.Steps.{after_finish, HasOthers}
-use Rattle.phase_board.specs.declared.view.Stage.TheVariants.{Turning as Turns}
+use Rattle.phase_board.specs.declared.view.Activity.TheVariants.{Turning as Turns}
 use Rattle.phase_board.proofs.Finishes.{finishes}
 use Rattle.phase_board.proofs.Told.{given_is, last_is, counted}
 use Rattle.phase_board.proofs.board.Board.finish.Goals as goal
@@ -21,7 +21,7 @@ fetch_or-old-requires g c =
     let loaded : half_of c.exchange.new.seat.me.0.loaded ≡ c.args.seat.half = ap (λ m. half_of m.0.loaded) put.3 ∙ sym c.args.seat.shows.0 in (
       put.0 ∙ c.requires.board.0,
       search rules,
-      finishes _ _ _ _ _ _ _ _ _ _ w c.args.seat.piece (ap (λ m. m.0.job) put.3 ∙ c.requires.board.1) (ap (λ m. m.0.stage) put.3 ∙ works.1)
+      finishes _ _ _ _ _ _ _ _ _ _ w c.args.seat.piece (ap (λ m. m.0.job) put.3 ∙ c.requires.board.1) (ap (λ m. m.0.activity) put.3 ∙ works.1)
           (only_one _ _ _ _ _ (ap (λ m. m.1) put.3) works.0) (one_bit w works.2) (subst (λ (h : ℕ). g.P.Piece.done (g.P.Piece.job c.args.self.now.table.shared.key.value) h w c.args.seat.piece) (sym loaded) c.requires.done),
     )
 
@@ -29,7 +29,7 @@ pub invariant_of-result : goal.invariant_of-result
 invariant_of-result g c =
     let got = given_is g.P.Piece.windows g.P.Piece.done g.P.Piece.common (g.P.Piece.job c.args.self.now.table.shared.key.value) c.args.self.now.table.shared.table_id.slots c.args.self.now.count c.args.seat.window (1 * 2 ^ c.args.seat.window % 18446744073709551616) c.fetch_or-old.result
     c.args.seat.piece c.args.seat.seat.me.0 c.args.seat.seat.me.1 c.exchange.new.seat.me c.fetch_or-old.new.seat.me c.exchange.ensures.3 c.requires.board.1 c.args.seat.works.1 c.args.self.now.sized.1 c.fetch_or-old.ensures.2 c.args.seat.works.0 (λ e. c.if-old-bit.true (e ∙ sym c.all.ensures)) in
-    record { rests = (got.0, ap (λ v. v.stage) got.1); shows = c.args.seat.shows.2 ∙ sym (ap (λ v. v.found) got.1) }
+    record { rests = (got.0, ap (λ v. v.activity) got.1); shows = c.args.seat.shows.2 ∙ sym (ap (λ v. v.found) got.1) }
 
 pub returns-then-old-bit-clause-board : goal.returns-then-old-bit-clause-board
 returns-then-old-bit-clause-board g c =
@@ -58,7 +58,7 @@ pub gather-requires-clause-turns : goal.gather-requires-clause-turns
 gather-requires-clause-turns g c =
     let got = last_is g.P.Piece.windows g.P.Piece.done g.P.Piece.common (g.P.Piece.job c.args.self.now.table.shared.key.value) c.args.self.now.table.shared.table_id.slots c.args.self.now.count c.args.seat.window (1 * 2 ^ c.args.seat.window % 18446744073709551616) c.fetch_or-old.result
     c.args.seat.piece c.args.seat.seat.me.0 c.args.seat.seat.me.1 c.exchange.new.seat.me c.fetch_or-old.new.seat.me c.exchange.ensures.3 c.requires.board.1 c.args.seat.works.1 c.args.self.now.sized.1 c.fetch_or-old.ensures.2 (c.if-old-bit.false ∙ c.all.ensures) in
-    (ap (λ v. v.stage) got.0, c.args.seat.shows.0 ∙ sym (ap (λ v. half_of v.loaded) got.0))
+    (ap (λ v. v.activity) got.0, c.args.seat.shows.0 ∙ sym (ap (λ v. half_of v.loaded) got.0))
 
 pub returns-clause-board : goal.returns-clause-board
 returns-clause-board g c =
@@ -72,7 +72,7 @@ returns-clause-answer g c =
     c.args.seat.piece c.args.seat.seat.me.0 c.args.seat.seat.me.1 c.exchange.new.seat.me c.fetch_or-old.new.seat.me c.exchange.ensures.3 c.requires.board.1 c.args.seat.works.1 c.args.self.now.sized.1 c.fetch_or-old.ensures.2 (c.if-old-bit.false ∙ c.all.ensures) in
     let made = c.gather.ensures in let view = made.seat.3 in let job = g.P.Piece.job c.args.self.now.table.shared.key.value in let m : ℕ = g.P.Piece.windows job in
     let mask = sym (ap (λ v. v.mask) view) in (
-      view ∙ got.0 ∙ ap (λ (z : ℕ). record (after_finish m c.args.seat.window z c.args.seat.seat.me.0) { stage = Turns }) mask,
+      view ∙ got.0 ∙ ap (λ (z : ℕ). record (after_finish m c.args.seat.window z c.args.seat.seat.me.0) { activity = Turns }) mask,
       subst (HasOthers m c.args.seat.window) mask got.1,
       made.seat.0,
       subst (λ (h : ℕ). AllPieces m (g.P.Piece.done job h) c.gather.result.pieces.items) (sym made.seat.0) made.pieces,
