@@ -1,5 +1,6 @@
 //! Cells in one buffer, which are split into shares and joined again.
-ghost use Rattle.std.specs.Prelude.{◌≡◌, ◌≢◌, ℕ, ◌+◌, ◌-◌, ◌*◌, ◌/◌, ◌^◌, ◌<◌, ◌≤◌, [], map, length, slice_index_or, vec_capacity, OnOk, IfOk};
+ghost use Rattle.std.specs.Prelude.{◌≡◌, ◌≢◌, ℕ, ◌+◌, ◌-◌, ◌*◌, ◌/◌, ◌^◌, ◌<◌, ◌≤◌, []};
+ghost use Rattle.std.specs.Prelude.{map, length, slice_index_or, vec_capacity, OnOk, IfOk};
 ghost use Prim.Native.Nat.{◌∣◌};
 ghost use Rattle.std.specs.List.{range_with_len};
 ghost use Rattle.core.specs.Mem.{type_size};

@@ -43,19 +43,19 @@ returns-then-old-bit-clause-answer g c =
     c.args.seat.piece c.args.seat.seat.me.0 c.args.seat.seat.me.1 c.exchange.new.seat.me c.fetch_or-old.new.seat.me c.exchange.ensures.3 c.requires.board.1 c.args.seat.works.1 c.args.self.now.sized.1 c.fetch_or-old.ensures.2 c.args.seat.works.0 (λ e. c.if-old-bit.true (e ∙ sym c.all.ensures)) in
     (got.1, got.2)
 
-pub gather-requires-clause-size : goal.gather-requires-clause-size
-gather-requires-clause-size g c = counted g.P.Piece.windows g.P.Piece.done g.P.Piece.common (g.P.Piece.job c.args.self.now.table.shared.key.value) c.args.self.now.table.shared.table_id.slots c.args.self.now.count c.args.seat.window (1 * 2 ^ c.args.seat.window % 18446744073709551616) c.fetch_or-old.result
+pub take_out-requires-clause-size : goal.take_out-requires-clause-size
+take_out-requires-clause-size g c = counted g.P.Piece.windows g.P.Piece.done g.P.Piece.common (g.P.Piece.job c.args.self.now.table.shared.key.value) c.args.self.now.table.shared.table_id.slots c.args.self.now.count c.args.seat.window (1 * 2 ^ c.args.seat.window % 18446744073709551616) c.fetch_or-old.result
     c.args.seat.piece c.args.seat.seat.me.0 c.args.seat.seat.me.1 c.exchange.new.seat.me c.fetch_or-old.new.seat.me c.exchange.ensures.3 c.requires.board.1 c.args.seat.works.1 c.args.self.now.sized.1 c.fetch_or-old.ensures.2
 
-pub gather-requires-clause-out : goal.gather-requires-clause-out
-gather-requires-clause-out g c =
+pub take_out-requires-clause-out : goal.take_out-requires-clause-out
+take_out-requires-clause-out g c =
     let job = g.P.Piece.job c.args.self.now.table.shared.key.value in let m : ℕ = g.P.Piece.windows job in
     let got = last_is g.P.Piece.windows g.P.Piece.done g.P.Piece.common (g.P.Piece.job c.args.self.now.table.shared.key.value) c.args.self.now.table.shared.table_id.slots c.args.self.now.count c.args.seat.window (1 * 2 ^ c.args.seat.window % 18446744073709551616) c.fetch_or-old.result
     c.args.seat.piece c.args.seat.seat.me.0 c.args.seat.seat.me.1 c.exchange.new.seat.me c.fetch_or-old.new.seat.me c.exchange.ensures.3 c.requires.board.1 c.args.seat.works.1 c.args.self.now.sized.1 c.fetch_or-old.ensures.2 (c.if-old-bit.false ∙ c.all.ensures) in
     subst (λ (h : ℕ). AllOut m (g.P.Piece.common job h) (g.P.Piece.done job h) c.fetch_or-old.new.seat.me.1) (sym c.args.seat.shows.0) got.2
 
-pub gather-requires-clause-turns : goal.gather-requires-clause-turns
-gather-requires-clause-turns g c =
+pub take_out-requires-clause-turns : goal.take_out-requires-clause-turns
+take_out-requires-clause-turns g c =
     let got = last_is g.P.Piece.windows g.P.Piece.done g.P.Piece.common (g.P.Piece.job c.args.self.now.table.shared.key.value) c.args.self.now.table.shared.table_id.slots c.args.self.now.count c.args.seat.window (1 * 2 ^ c.args.seat.window % 18446744073709551616) c.fetch_or-old.result
     c.args.seat.piece c.args.seat.seat.me.0 c.args.seat.seat.me.1 c.exchange.new.seat.me c.fetch_or-old.new.seat.me c.exchange.ensures.3 c.requires.board.1 c.args.seat.works.1 c.args.self.now.sized.1 c.fetch_or-old.ensures.2 (c.if-old-bit.false ∙ c.all.ensures) in
     (ap (λ v. v.activity) got.0, c.args.seat.shows.0 ∙ sym (ap (λ v. half_of v.loaded) got.0))
@@ -64,17 +64,17 @@ pub returns-clause-board : goal.returns-clause-board
 returns-clause-board g c =
     let got = last_is g.P.Piece.windows g.P.Piece.done g.P.Piece.common (g.P.Piece.job c.args.self.now.table.shared.key.value) c.args.self.now.table.shared.table_id.slots c.args.self.now.count c.args.seat.window (1 * 2 ^ c.args.seat.window % 18446744073709551616) c.fetch_or-old.result
     c.args.seat.piece c.args.seat.seat.me.0 c.args.seat.seat.me.1 c.exchange.new.seat.me c.fetch_or-old.new.seat.me c.exchange.ensures.3 c.requires.board.1 c.args.seat.works.1 c.args.self.now.sized.1 c.fetch_or-old.ensures.2 (c.if-old-bit.false ∙ c.all.ensures) in
-    let seat = c.gather.ensures.seat in (seat.1 ∙ c.fetch_or-old.ensures.0 ∙ c.exchange.ensures.0 ∙ c.requires.board.0, ap (λ v. v.job) seat.3 ∙ ap (λ v. v.job) got.0 ∙ c.requires.board.1)
+    let seat = c.take_out.ensures.seat in (seat.1 ∙ c.fetch_or-old.ensures.0 ∙ c.exchange.ensures.0 ∙ c.requires.board.0, ap (λ v. v.job) seat.3 ∙ ap (λ v. v.job) got.0 ∙ c.requires.board.1)
 
 pub returns-clause-answer : goal.returns-clause-answer
 returns-clause-answer g c =
     let got = last_is g.P.Piece.windows g.P.Piece.done g.P.Piece.common (g.P.Piece.job c.args.self.now.table.shared.key.value) c.args.self.now.table.shared.table_id.slots c.args.self.now.count c.args.seat.window (1 * 2 ^ c.args.seat.window % 18446744073709551616) c.fetch_or-old.result
     c.args.seat.piece c.args.seat.seat.me.0 c.args.seat.seat.me.1 c.exchange.new.seat.me c.fetch_or-old.new.seat.me c.exchange.ensures.3 c.requires.board.1 c.args.seat.works.1 c.args.self.now.sized.1 c.fetch_or-old.ensures.2 (c.if-old-bit.false ∙ c.all.ensures) in
-    let made = c.gather.ensures in let view = made.seat.3 in let job = g.P.Piece.job c.args.self.now.table.shared.key.value in let m : ℕ = g.P.Piece.windows job in
+    let made = c.take_out.ensures in let view = made.seat.3 in let job = g.P.Piece.job c.args.self.now.table.shared.key.value in let m : ℕ = g.P.Piece.windows job in
     let mask = sym (ap (λ v. v.mask) view) in (
       view ∙ got.0 ∙ ap (λ (z : ℕ). record (after_finish m c.args.seat.window z c.args.seat.seat.me.0) { activity = Turns }) mask,
       subst (HasOthers m c.args.seat.window) mask got.1,
       made.seat.0,
-      subst (λ (h : ℕ). AllPieces m (g.P.Piece.done job h) c.gather.result.pieces.items) (sym made.seat.0) made.pieces,
-      subst (λ (h : ℕ). g.P.Piece.common job h c.gather.result.common) (sym made.seat.0) made.common,
+      subst (λ (h : ℕ). AllPieces m (g.P.Piece.done job h) c.take_out.result.pieces.items) (sym made.seat.0) made.pieces,
+      subst (λ (h : ℕ). g.P.Piece.common job h c.take_out.result.common) (sym made.seat.0) made.common,
     )

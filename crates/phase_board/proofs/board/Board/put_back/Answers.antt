@@ -3,8 +3,8 @@ use Rattle.atomic_table.specs.Table.{rest}
 use Rattle.phase_board.specs.declared.view.Slot.TheVariants.{Piece as Holds}
 use Rattle.phase_board.specs.declared.view.Slot.TheVariants.{Common as Keeps}
 use Rattle.phase_board.proofs.Carried.{front}
-use Rattle.phase_board.proofs.Gathers.{same_head}
-use Rattle.phase_board.proofs.Scatters.{none_filled, all_filled, pushed, last_same, all_popped, not_popped}
+use Rattle.phase_board.proofs.TakesOut.{same_head}
+use Rattle.phase_board.proofs.PutsBack.{none_filled, all_filled, pushed, last_same, all_popped, not_popped}
 use Rattle.phase_board.proofs.board.Board.put_back.Goals as goal
 
 pub loop-i-init : goal.loop-i-init

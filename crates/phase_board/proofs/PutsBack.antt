@@ -5,7 +5,7 @@ use Rattle.atomic_table.specs.Table.{rest, turned}
 use Rattle.phase_board.specs.declared.view.Slot.{Slot}
 use Rattle.phase_board.specs.declared.view.Slot.TheVariants.{Empty, Piece}
 use Rattle.phase_board.specs.Slots.{numbered, emptied}
-use Rattle.phase_board.proofs.Gathers.{next_left}
+use Rattle.phase_board.proofs.TakesOut.{next_left}
 
 numbered_more : {S : Type 0} (k : ℕ) (xs : List S) (y : S) → numbered k xs ++ (k + length xs, y) ∷ [] ≡ numbered k (xs ++ y ∷ [])
 numbered_more k [] y = ap (λ (z : ℕ). (z, y) ∷ []) (omega arith)
