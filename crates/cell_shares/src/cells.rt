@@ -18,7 +18,7 @@ use core::slots::{Slots, release, reserve};
 use lte_bits::{List, NoMemory};
 use std::alloc::Global;
 
-/// K values in M banks of W = K/M: cell n stands in bank n / W, row n mod W.
+/// K values in M banks of W = K/M: cell n is in bank n / W, row n mod W.
 pub struct Cells<T: Copy> {
     pub(crate) part: Part<T>,
     pub(crate) right: FreeRight<T>,

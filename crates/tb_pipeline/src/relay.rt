@@ -42,7 +42,7 @@ impl Relay {
         Ok((relay, made))
     }
 
-    /// Takes what stands first in the queue, however often other hands are in the way.
+    /// Takes what is first in the queue, however often other hands are in the way.
     pub fn take<R: Wait>(&self, rt: &R, hand: Hand) -> Next
         requires hand { IsHandOf self.now hand }
         requires going_on { (hand_view hand).ended ≡ false }
