@@ -5,8 +5,8 @@ use lib.ListN.{get_elem?}
 use Rattle.atomic_table.specs.Table.{State}
 use Rattle.phase_board.specs.declared.view.View.{View}
 use Rattle.phase_board.specs.declared.view.Slot.{Slot}
-use Rattle.phase_board.specs.declared.view.Stage.{Stage}
-use Rattle.phase_board.specs.declared.view.Stage.TheVariants.{Idle}
+use Rattle.phase_board.specs.declared.view.Activity.{Activity}
+use Rattle.phase_board.specs.declared.view.Activity.TheVariants.{Idle}
 use Rattle.phase_board.specs.ClaimWord.{word_of}
 use Rattle.phase_board.specs.Numbers.{times, total}
 use Rattle.phase_board.specs.Lawful.{IsAt, Seated, Lawful}
@@ -38,7 +38,7 @@ module _ {J P C : Type 0} (windows : J → ℕ) (ready done : J → ℕ → ℕ 
 
   -- only views change
   pub reviewed : (s : St) (r : Law s) (views : List (View J)) → ((x : ℕ) → total (λ (u : View J). times x u.drawn) views ≡ total (λ (u : View J). times x u.drawn) s.views)
-      → ((x : ℕ) → total (λ (u : View J). times x u.done) views ≡ total (λ (u : View J). times x u.done) s.views) → ((j : ℕ) (x : Stage) → x ≢ Idle → IsAt s.views j x → IsAt views j x)
+      → ((x : ℕ) → total (λ (u : View J). times x u.done) views ≡ total (λ (u : View J). times x u.done) s.views) → ((j : ℕ) (x : Activity) → x ≢ Idle → IsAt s.views j x → IsAt views j x)
       → ((j : ℕ) (v : View J) → get_elem? views j ≡ some v → Seated windows job (claim s r) r.half r.at r.phase j v) → Law record { words = s.words; homes = s.homes; views = views }
   reviewed s r views drawn did keep seats =
       record {

@@ -8,8 +8,8 @@ use Rattle.atomic_table.proofs.Lists.{set_else}
 use Rattle.phase_board.specs.declared.view.View.{View}
 use Rattle.phase_board.specs.declared.view.Slot.{Slot}
 use Rattle.phase_board.specs.declared.view.Slot.TheVariants.{Piece}
-use Rattle.phase_board.specs.declared.view.Stage.{Stage}
-use Rattle.phase_board.specs.declared.view.Stage.TheVariants.{Idle, Working, Turning, Reset}
+use Rattle.phase_board.specs.declared.view.Activity.{Activity}
+use Rattle.phase_board.specs.declared.view.Activity.TheVariants.{Idle, Working, Turning, Reset}
 use Rattle.phase_board.specs.Lawful.{Where, waits, out, home, Phase, running, turning, resetting, Stands, Knows}
 use Rattle.phase_board.proofs.Moves.{moved_to, moved_case, up_ne}
 
@@ -30,14 +30,15 @@ module _ {J : Type 0} (windows : J → ℕ) (job : J) (half id t : ℕ) (at : �
   apart j i ne is e = let f : out id ≡ out j = sym mine ∙ ap at (sym e) ∙ is in ne (cc)
 
   -- the others work on
-  pub work_on : (j : ℕ) (u : View J) (x : Stage) → j ≢ id → Knows windows job half at ph j u x → Knows windows job half (moved_to at t home) running j u x
+  pub work_on : (j : ℕ) (u : View J) (x : Activity) → j ≢ id → Knows windows job half at ph j u x → Knows windows job half (moved_to at t home) running j u x
   work_on j u Idle ne q = tt
   work_on j u (Working i) ne q = (refl, moved_case at t home (λ y. y ≡ out j) i (λ e. absurd (apart j i ne q.1 e)) (λ _. q.1), q.2, q.3)
   work_on j u Turning ne q = let f : running ≡ turning j = sym runs ∙ q.0 in cc
   work_on j u Reset ne q = let f : running ≡ resetting j = sym runs ∙ q.0 in cc
 
   -- where no other window is out, no other works
-  pub none_works : ((j i : ℕ) → i < windows job → i ≢ t → at i ≡ out j → ⊥) → (j : ℕ) (u : View J) (x : Stage) → j ≢ id → Knows windows job half at ph j u x → Knows windows job half at (turning id) j u x
+  pub none_works : ((j i : ℕ) → i < windows job → i ≢ t → at i ≡ out j → ⊥) → (j : ℕ) (u : View J) (x : Activity) → j ≢ id → Knows windows job half at ph j u x →
+      Knows windows job half at (turning id) j u x
   none_works none_out j u Idle ne q = tt
   none_works none_out j u (Working i) ne q = absurd (none_out j i q.3 (apart j i ne q.1) q.1)
   none_works none_out j u Turning ne q = let f : running ≡ turning j = sym runs ∙ q.0 in cc

@@ -4,8 +4,8 @@ use mathlib.Core.Option.{some, some-injective, some-ne-none}
 use lib.ListN.{get_elem?}
 use Rattle.atomic_table.proofs.Lists.{at_set, set_else}
 use Rattle.phase_board.specs.declared.view.View.{View}
-use Rattle.phase_board.specs.declared.view.Stage.{Stage}
-use Rattle.phase_board.specs.declared.view.Stage.TheVariants.{Idle, Working, Turning, Reset}
+use Rattle.phase_board.specs.declared.view.Activity.{Activity}
+use Rattle.phase_board.specs.declared.view.Activity.TheVariants.{Idle, Working, Turning, Reset}
 use Rattle.phase_board.specs.Lawful.{Where, Phase, running, turning, resetting, stopped, IsAt, InHands}
 
 module _ {A : Type 0} where
@@ -20,20 +20,21 @@ module _ {A : Type 0} where
       (λ (q : (j ≢ i) × (get_elem? l j ≡ some b)). others j b q.0 q.1) (at_set l i j a b e)
 
 module _ {J : Type 0} where
-  pub at_here : (views : List (View J)) (id : ℕ) (v w : View J) (x : Stage) → get_elem? views id ≡ some v → w.stage ≡ x → IsAt (set views id w) id x
+  pub at_here : (views : List (View J)) (id : ℕ) (v w : View J) (x : Activity) → get_elem? views id ≡ some v → w.activity ≡ x → IsAt (set views id w) id x
   at_here views id v w x at is = (w, set_there views id v w at, is)
 
-  -- a seat that is at another stage than the one that changes keeps it
-  pub at_kept : (views : List (View J)) (id : ℕ) (v w : View J) (j : ℕ) (x : Stage) → get_elem? views id ≡ some v → v.stage ≢ x → IsAt views j x → IsAt (set views id w) j x
+  -- a seat that is at another activity than the one that changes keeps it
+  pub at_kept : (views : List (View J)) (id : ℕ) (v w : View J) (j : ℕ) (x : Activity) → get_elem? views id ≡ some v → v.activity ≢ x → IsAt views j x → IsAt (set views id w) j x
   at_kept views id v w j x at ne h = (h.0, set_else views id j w apart ∙ h.1, h.2)
     where
       apart : j ≢ id
-      apart e = let same : get_elem? views j ≡ some v = ap (get_elem? views) e ∙ at in ne (ap (λ (u : View J). u.stage) (sym (some-injective h.0 v (sym h.1 ∙ same))) ∙ h.2)
+      apart e = let same : get_elem? views j ≡ some v = ap (get_elem? views) e ∙ at in ne (ap (λ (u : View J). u.activity) (sym (some-injective h.0 v (sym h.1 ∙ same))) ∙ h.2)
 
-  pub not_idle : (v : View J) (x : Stage) → v.stage ≡ Idle → x ≢ Idle → v.stage ≢ x
+  pub not_idle : (v : View J) (x : Activity) → v.activity ≡ Idle → x ≢ Idle → v.activity ≢ x
   not_idle v x is ne e = ne (sym e ∙ is)
 
-  pub hands : (views views' : List (View J)) (m : ℕ) (at : ℕ → Where) → ((j : ℕ) (x : Stage) → x ≢ Idle → IsAt views j x → IsAt views' j x) → (ph : Phase) → InHands views m at ph → InHands views' m at ph
+  pub hands : (views views' : List (View J)) (m : ℕ) (at : ℕ → Where) → ((j : ℕ) (x : Activity) → x ≢ Idle → IsAt views j x → IsAt views' j x) → (ph : Phase) → InHands views m at ph →
+      InHands views' m at ph
   hands views views' m at keep running h = λ t j l e. keep j (Working t) (λ q. cc) (h t j l e)
   hands views views' m at keep (turning j) h = keep j Turning (λ q. cc) h
   hands views views' m at keep (resetting j) h = keep j Reset (λ q. cc) h

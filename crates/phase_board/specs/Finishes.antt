@@ -4,7 +4,7 @@ use Rattle.phase_board.specs.declared.board.Board.{Board}
 use Rattle.phase_board.specs.declared.seats.Working.{Working}
 use Rattle.phase_board.specs.declared.seats.Finish.{Finish}
 use Rattle.phase_board.specs.declared.seats.Finish.TheVariants.{Given, Last}
-use Rattle.phase_board.specs.declared.view.Stage.TheVariants.{Turning as Turns}
+use Rattle.phase_board.specs.declared.view.Activity.TheVariants.{Turning as Turns}
 use Rattle.phase_board.specs.declared.view.View.{View}
 use Rattle.phase_board.specs.declared.piece.Piece.{Ghosts}
 use Rattle.phase_board.specs.Slots.{AllPieces}
@@ -25,7 +25,7 @@ module _ {P C J : Type 0} {G : Ghosts P C J} where
   FinishIs job w (Given s) = (idle_view s ≡ finished_view job w (idle_view s).mask)
       × LacksAnother (G.windows job) w.window (idle_view s).mask
   FinishIs job w (Last s) = (turning_view s
-      ≡ record (finished_view job w (turning_view s).mask) { stage = Turns })
+      ≡ record (finished_view job w (turning_view s).mask) { activity = Turns })
       × HasOthers (G.windows job) w.window (turning_view s).mask
       × (s.half ≡ w.half) × AllPieces (G.windows job) (G.done job s.half) s.pieces.items
       × G.common job s.half s.common

@@ -9,8 +9,8 @@ use Rattle.std.specs.declared.alloc.Global.{Global}
 use Rattle.phase_board.specs.declared.view.View.{View}
 use Rattle.phase_board.specs.declared.view.Slot.{Slot}
 use Rattle.phase_board.specs.declared.view.Slot.TheVariants.{Empty, Piece, Common}
-use Rattle.phase_board.specs.declared.view.Stage.{Stage}
-use Rattle.phase_board.specs.declared.view.Stage.TheVariants.{Idle, Working, Turning, Reset}
+use Rattle.phase_board.specs.declared.view.Activity.{Activity}
+use Rattle.phase_board.specs.declared.view.Activity.TheVariants.{Idle, Working, Turning, Reset}
 use Rattle.phase_board.specs.ClaimWord.{word_of, half_of, drawn_of, next_number, NotNewer}
 use Rattle.phase_board.specs.Numbers.{times, total, once_below, AllBelow}
 use Rattle.phase_board.specs.Slots.{HasRoom}
@@ -33,7 +33,7 @@ module _ {J : Type 0} where
   abbrev pub opening_view : J → View J
   opening_view j = record {
     job = Some j;
-    stage = Idle;
+    activity = Idle;
     drawn = [];
     done = [];
     loaded = 0;
@@ -46,7 +46,7 @@ module _ {J : Type 0} where
   abbrev pub spent_view : View J
   spent_view = record {
     job = None;
-    stage = Idle;
+    activity = Idle;
     drawn = [];
     done = [];
     loaded = 0;
@@ -60,17 +60,17 @@ module _ {J : Type 0} where
   HasJob job v None = v ≡ spent_view
   HasJob job v (Some j) = j ≡ job
 
-  abbrev pub IsAt : List (View J) → ℕ → Stage → Type 0
-  IsAt views j x = (v : View J) × (get_elem? views j ≡ some v) × (v.stage ≡ x)
+  abbrev pub IsAt : List (View J) → ℕ → Activity → Type 0
+  IsAt views j x = (v : View J) × (get_elem? views j ≡ some v) × (v.activity ≡ x)
 
-  -- the seat that has a window works on it, and the seat that turns has its stage
+  -- the seat that has a window works on it, and the seat that turns has its activity
   abbrev pub InHands : List (View J) → ℕ → (ℕ → Where) → Phase → Type 0
   InHands views windows at running = (t j : ℕ) → t < windows → at t ≡ out j → IsAt views j (Working t)
   InHands views windows at (turning j) = IsAt views j Turning
   InHands views windows at (resetting j) = IsAt views j Reset
   InHands views windows at stopped = Unit {0}
 
--- how often a number stands in all done lists: those below half * windows once, and half * windows + t once
+-- how often a number is in all done lists: those below half * windows once, and half * windows + t once
 -- where window t is done
 abbrev pub done_once : ℕ → ℕ → ℕ → Phase → ℕ → ℕ
 done_once windows half mask running x =
@@ -81,7 +81,7 @@ done_once windows half mask (resetting j) x = once_below x ((half + 1) * windows
 done_once windows half mask stopped x =
     if ltb x (half * windows) then 1 else bit_at mask (x - half * windows)
 
--- where the piece of window t stands, and what it is
+-- where the piece of window t is, and what it is
 module _ {P C : Type 0} (ready done : ℕ → P → Type 0) (homes : List (maybe.Option (Slot P C)))
     (n mask t : ℕ) where
   abbrev pub Stands : Where → Type 0
@@ -114,8 +114,8 @@ module _ {J P C : Type 0} (windows : J → ℕ) (ready done : J → ℕ → ℕ 
       × IsHome (λ c room. ended job half c × (room.items ≡ []))
 
 module _ {J : Type 0} (windows : J → ℕ) (job : J) where
-  -- what the seat j knows by its stage
-  abbrev pub Knows : ℕ → (ℕ → Where) → Phase → ℕ → View J → Stage → Type 0
+  -- what the seat j knows by its activity
+  abbrev pub Knows : ℕ → (ℕ → Where) → Phase → ℕ → View J → Activity → Type 0
   Knows half at ph j v Idle = Unit {0}
   Knows half at ph j v (Working t) = (ph ≡ running) × (at t ≡ out j) × (half_of v.loaded ≡ half)
       × (t < windows job)
@@ -129,7 +129,7 @@ module _ {J : Type 0} (windows : J → ℕ) (job : J) where
     pub loaded_drawn : drawn_of v.loaded ≤ windows job
     pub below : AllBelow (next_number (windows job) v.found) v.drawn
     pub job_is : HasJob job v v.job
-    pub knows : Knows half at ph j v v.stage
+    pub knows : Knows half at ph j v v.activity
 
 module _ {J P C : Type 0} (windows : J → ℕ) (ready done : J → ℕ → ℕ → P → Type 0)
     (common ended : J → ℕ → C → Type 0) (job : J) (s : State (Slot P C) (View J)) where

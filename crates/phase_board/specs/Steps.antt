@@ -6,7 +6,7 @@ use Rattle.atomic_table.specs.Table.{Me, Step, rest}
 use Rattle.phase_board.specs.declared.view.View.{View}
 use Rattle.phase_board.specs.declared.view.Slot.{Slot}
 use Rattle.phase_board.specs.declared.view.Slot.TheVariants.{Piece}
-use Rattle.phase_board.specs.declared.view.Stage.TheVariants.{Idle, Working, Turning, Reset}
+use Rattle.phase_board.specs.declared.view.Activity.TheVariants.{Idle, Working, Turning, Reset}
 use Rattle.phase_board.specs.ClaimWord.{half_of, drawn_of, next_number, NotNewer}
 use Rattle.phase_board.specs.Numbers.{AllBelow, NoneTwice}
 use Rattle.phase_board.specs.Slots.{AllOut}
@@ -36,7 +36,7 @@ module _ {J : Type 0} where
   -- the view after a draw of the window that the loaded word gives
   abbrev pub after_draw : ℕ → View J → View J
   after_draw windows v = record v {
-    stage = Working (drawn_of v.loaded);
+    activity = Working (drawn_of v.loaded);
     drawn = v.drawn ++ next_number windows v.loaded ∷ [];
     found = v.loaded + 1;
   }
@@ -44,7 +44,7 @@ module _ {J : Type 0} where
   -- the view after window t was marked in the mask r
   abbrev pub after_finish : ℕ → ℕ → ℕ → View J → View J
   after_finish windows t r v = record v {
-    stage = Idle;
+    activity = Idle;
     done = v.done ++ (half_of v.loaded * windows + t) ∷ [];
     mask = r;
   }
@@ -74,28 +74,28 @@ module _ {J : Type 0} where
   abbrev pub finished : {P C : Type 0} → (J → ℕ) → (J → ℕ → ℕ → P → Type 0) → (J → ℕ → C → Type 0)
       → Step (Slot P C) → Me (Slot P C) (View J) → ℕ → Me (Slot P C) (View J) → Type 0
   finished windows done common st m r k = IsFor (λ j. (windows j + 1 ≡ st.slots)
-      × ((t : ℕ) → m.0.stage ≡ Working t →
+      × ((t : ℕ) → m.0.activity ≡ Working t →
       (bit_or r st.first ≢ 2 ^ windows j - 1 → (k ≡ (after_finish (windows j) t r m.0, rest m.1))
       × LacksAnother (windows j) t r)
       × (bit_or r st.first ≡ 2 ^ windows j - 1
-      → (k.0 ≡ record (after_finish (windows j) t r m.0) { stage = Turning }) × HasOthers (windows j) t r
+      → (k.0 ≡ record (after_finish (windows j) t r m.0) { activity = Turning }) × HasOthers (windows j) t r
       × AllOut (windows j) (common j (half_of m.0.loaded)) (done j (half_of m.0.loaded)) k.1))) m.0.job
 
   -- a reset of the mask, before a turn
   abbrev pub cleared : {S : Type 0} → (J → ℕ) → Step S → Me S (View J) → ℕ → Me S (View J) → Type 0
-  cleared windows st m r k = (k ≡ (record m.0 { stage = Reset }, m.1))
+  cleared windows st m r k = (k ≡ (record m.0 { activity = Reset }, m.1))
       × IsFor (λ j. windows j + 1 ≡ st.slots) m.0.job
 
   -- a turn or a stop: all slots come home
   abbrev pub settled : {S : Type 0} → (J → ℕ) → Step S → Me S (View J) → ℕ → Me S (View J) → Type 0
-  settled windows st m r k = (k ≡ (record m.0 { stage = Idle; found = st.first }, []))
+  settled windows st m r k = (k ≡ (record m.0 { activity = Idle; found = st.first }, []))
       × IsFor (λ j. windows j + 1 ≡ st.slots) m.0.job
 
   -- what a new seat starts with that is split off
   abbrev pub twin : View J → View J
   twin v = record {
     job = v.job;
-    stage = Idle;
+    activity = Idle;
     drawn = [];
     done = [];
     loaded = v.loaded;

@@ -23,7 +23,8 @@ pub struct Board<P: Piece> {
     pub(crate) table: Words<P>,
     pub(crate) count: usize,
     pub(crate) about: Snapshot<P>,
-    ghost sized: { (table.shared.table_id.words ≡ 2) × (table.shared.table_id.slots ≡ count + 1) × (0 < count) × (count ≤ 64) },
+    ghost sized: { (table.shared.table_id.words ≡ 2) × (table.shared.table_id.slots ≡ count + 1)
+        × (0 < count) × (count ≤ 64) },
     ghost named: { about ≡ table.shared.key },
 }
 

@@ -19,9 +19,11 @@ impl<P: Piece> Board<P> {
         requires board { IsIdleOf self seat }
         requires over { IsStopped (idle_view seat).found }
         ensures common { P.ended (board_job P.job self) (half_of (idle_view seat).found) result.0 }
-        ensures closed { (closed_job P.job result.1 ≡ board_job P.job self) × (result.1.half ≡ half_of (idle_view seat).found) }
+        ensures closed { (closed_job P.job result.1 ≡ board_job P.job self)
+            × (result.1.half ≡ half_of (idle_view seat).found) }
         ensures once { DrawnOnce (P.windows (board_job P.job self)) (idle_view seat) }
-        ensures count { AllDrawnAndDone (board_job P.job self) (half_of (idle_view seat).found) seat result.0 }
+        ensures count { let half = half_of (idle_view seat).found in
+            AllDrawnAndDone (board_job P.job self) half seat result.0 }
     {
         let Board {
             table,

@@ -1,5 +1,6 @@
 //! A board is made.
-ghost use Rattle.std.specs.Prelude.{◌≡◌, ◌+◌, ◌<◌, ◌≤◌, ◌∷◌, length, map, List, Some, Vec, IfOk, IfErr, IsSomeAnd};
+ghost use Rattle.std.specs.Prelude.{◌≡◌, ◌+◌, ◌<◌, ◌≤◌, ◌∷◌, length, map, List};
+ghost use Rattle.std.specs.Prelude.{Some, Vec, IfOk, IfErr, IsSomeAnd};
 ghost use Rattle.std.specs.declared.alloc.Global.{Global};
 ghost use Rattle.phase_board.specs.declared.view.Slot.TheVariants.{Piece as Holds, Common as Keeps};
 ghost use Rattle.phase_board.specs.Lawful.{opening_view};
@@ -27,7 +28,8 @@ fn lay<P: Piece>(
     common: P::Common,
 ) -> Result<Vec<Slot<P, P::Common>>, NewRefused<P>>
     requires { length pieces.items ≤ 64 }
-    ensures laid { IfOk result (λ slots. (room : Vec P Global) × (slots.items ≡ Keeps common room ∷ map Holds pieces.items) × HasRoom (length pieces.items) room) }
+    ensures laid { IfOk result (λ slots. (room : Vec P Global)
+        × (slots.items ≡ Keeps common room ∷ map Holds pieces.items) × HasRoom (length pieces.items) room) }
     ensures refused { IfErr result (λ r. (r.pieces.items ≡ pieces.items) × (r.common ≡ common)) }
 {
     let Ok(mut slots) = Vec::with_capacity(alloc, pieces.len() + 1) else {
@@ -46,8 +48,10 @@ fn lay<P: Piece>(
 
 // The pieces and the common value out of the slots of a board that wasn't made.
 fn unlay<P: Piece>(mut slots: Vec<Slot<P, P::Common>>) -> NewRefused<P>
-    requires { (x : P.Common) × (room : Vec P Global) × (ps : List P) × (slots.items ≡ Keeps x room ∷ map Holds ps) × HasRoom (length ps) room }
-    ensures { (room : Vec P Global) × (slots.items ≡ Keeps result.common room ∷ map Holds result.pieces.items) }
+    requires { (x : P.Common) × (room : Vec P Global) × (ps : List P)
+        × (slots.items ≡ Keeps x room ∷ map Holds ps) × HasRoom (length ps) room }
+    ensures { (room : Vec P Global)
+        × (slots.items ≡ Keeps result.common room ∷ map Holds result.pieces.items) }
 {
     slots.reverse();
     let (common, mut pieces) = match slots.pop() {
@@ -78,9 +82,10 @@ impl<P: Piece> Board<P> {
         pieces: Vec<P>,
         common: P::Common,
     ) -> Result<(Board<P>, Idle<P>), NewRefused<P>>
-        requires { IsSomeAnd (job_of P.job pieces.items) (λ job. Opens P.job P.windows P.ready P.common job pieces.items common) }
-        ensures made { IfOk result (λ made. (job_of P.job pieces.items ≡ Some (board_job P.job made.0)) × IsIdleOf made.0 made.1
-            × (idle_view made.1 ≡ opening_view (board_job P.job made.0))) }
+        requires { IsSomeAnd (job_of P.job pieces.items)
+            (λ job. Opens P.job P.windows P.ready P.common job pieces.items common) }
+        ensures made { IfOk result (λ made. (job_of P.job pieces.items ≡ Some (board_job P.job made.0))
+            × IsIdleOf made.0 made.1 × (idle_view made.1 ≡ opening_view (board_job P.job made.0))) }
         ensures refused { IfErr result (λ r. (r.pieces.items ≡ pieces.items) × (r.common ≡ common)) }
     {
         let about = Snapshot::of(&pieces[0]);

@@ -1,6 +1,7 @@
 //! The states of a seat.
 ghost use Rattle.std.specs.Prelude.{◌≡◌, ◌+◌, ◌-◌, ◌<◌, [], ◌∷◌, IsTrue, ◌↔◌};
-ghost use Rattle.phase_board.specs.declared.view.Stage.TheVariants.{Idle as AtRest, Working as AtWork, Turning as Turns};
+ghost use Rattle.phase_board.specs.declared.view.Activity.TheVariants.{Idle as AtRest, Working as AtWork};
+ghost use Rattle.phase_board.specs.declared.view.Activity.TheVariants.{Turning as Turns};
 ghost use Rattle.phase_board.specs.declared.view.Slot.TheVariants.{Empty};
 ghost use Rattle.phase_board.specs.ClaimWord.{half_of, drawn_of, IsStopped};
 ghost use Rattle.phase_board.specs.Slots.{emptied};
@@ -18,7 +19,7 @@ pub(crate) const STOPPED: u64 = 1 << 63;
 pub struct Idle<P: Piece> {
     pub(crate) seat: Place<P>,
     pub(crate) found: u64,
-    ghost rests: { (seat.me.1 ≡ []) × (seat.me.0.stage ≡ AtRest) },
+    ghost rests: { (seat.me.1 ≡ []) × (seat.me.0.activity ≡ AtRest) },
     ghost shows: { found ≡ seat.me.0.found },
 }
 
@@ -30,8 +31,10 @@ pub struct Working<P: Piece> {
     pub(crate) found: u64,
     /// The piece, ready at first. `finish` wants it done.
     pub piece: P,
-    ghost works: { (seat.me.1 ≡ (window + 1, Empty) ∷ []) × (seat.me.0.stage ≡ AtWork window) × (window < 64) },
-    ghost shows: { (half ≡ half_of seat.me.0.loaded) × (window ≡ drawn_of seat.me.0.loaded) × (found ≡ seat.me.0.found) },
+    ghost works: { (seat.me.1 ≡ (window + 1, Empty) ∷ []) × (seat.me.0.activity ≡ AtWork window)
+        × (window < 64) },
+    ghost shows: { (half ≡ half_of seat.me.0.loaded) × (window ≡ drawn_of seat.me.0.loaded)
+        × (found ≡ seat.me.0.found) },
 }
 
 /// The seat that did the last window of a half. `turn` and `stop` alone spend it.
@@ -42,7 +45,7 @@ pub struct Turning<P: Piece> {
     pub pieces: Vec<P>,
     /// The common value of the half.
     pub common: P::Common,
-    ghost turns: { (seat.me.1 ≡ emptied (seat.table_id.slots - 1)) × (seat.me.0.stage ≡ Turns) },
+    ghost turns: { (seat.me.1 ≡ emptied (seat.table_id.slots - 1)) × (seat.me.0.activity ≡ Turns) },
     ghost shows: { half ≡ half_of seat.me.0.loaded },
 }
 

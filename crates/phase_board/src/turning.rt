@@ -1,6 +1,5 @@
 //! The next half, or the end.
 ghost use Rattle.std.specs.Prelude.{◌≡◌, ◌+◌, ◌*◌, ◌≤◌, [], true, false};
-ghost use Rattle.phase_board.specs.declared.view.Stage.TheVariants.{Idle as AtRest};
 ghost use Rattle.phase_board.specs.ClaimWord.{word_of};
 ghost use Rattle.phase_board.specs.Slots.{AllPieces};
 
@@ -12,16 +11,17 @@ use crate::view::Slot;
 
 impl<P: Piece> Board<P> {
     ghost use Rattle.phase_board.specs.Boards.{board_job};
-    ghost use Rattle.phase_board.specs.Seats.{IsIdleOf, IsTurningOf, idle_view, turning_view};
+    ghost use Rattle.phase_board.specs.Seats.{IsIdleOf, IsTurningOf, idle_view, settled_view};
 
     /// Gives all pieces back, ready for the next half, which is at most 1,000,000.
     pub fn turn(&self, seat: Turning<P>) -> Idle<P>
         requires board { IsTurningOf self.now seat }
-        requires pieces { AllPieces (P.windows (board_job P.job self.now)) (P.ready (board_job P.job self.now) (seat.half + 1)) seat.pieces.items }
+        requires pieces { let job = board_job P.job self.now in
+            AllPieces (P.windows job) (P.ready job (seat.half + 1)) seat.pieces.items }
         requires common { P.common (board_job P.job self.now) (seat.half + 1) seat.common }
         requires limit { seat.half + 1 ≤ 1000000 }
         ensures board { IsIdleOf self.now result }
-        ensures view { idle_view result ≡ record (turning_view seat) { stage = AtRest; found = word_of false (seat.half + 1) 0 } }
+        ensures view { idle_view result ≡ settled_view seat (word_of false (seat.half + 1) 0) }
     {
         let Turning {
             mut seat,
@@ -43,7 +43,8 @@ impl<P: Piece> Board<P> {
         requires pieces { seat.pieces.items ≡ [] }
         requires common { P.ended (board_job P.job self.now) seat.half seat.common }
         ensures board { IsIdleOf self.now result }
-        ensures view { idle_view result ≡ record (turning_view seat) { stage = AtRest; found = word_of true seat.half (P.windows (board_job P.job self.now)) } }
+        ensures view { let windows = P.windows (board_job P.job self.now) in
+            idle_view result ≡ settled_view seat (word_of true seat.half windows) }
     {
         let Turning {
             mut seat,

@@ -2,7 +2,7 @@
 use std::collections::LinkedList;
 
 /// What a seat does.
-pub enum Stage {
+pub enum Activity {
     Idle,
     Working(u64),
     Turning,
@@ -13,7 +13,7 @@ pub enum Stage {
 /// all halves.
 pub struct View<J> {
     pub job: Option<J>,
-    pub stage: Stage,
+    pub activity: Activity,
     pub drawn: LinkedList<u64>,
     pub done: LinkedList<u64>,
     // The claim word that the last look gave.

@@ -18,8 +18,11 @@ impl<P: Piece> Board<P> {
         requires board { seat.old.table_id ≡ board_id self.now }
         requires size { length pieces.items ≡ self.now.count }
         requires empty { seat.old.me.1 ≡ emptied self.now.count }
-        ensures seat { (seat.new.table_id ≡ seat.old.table_id) × (seat.new.id ≡ seat.old.id) × (seat.new.me.0 ≡ seat.old.me.0) }
-        ensures slots { (room : Vec P Global) × (seat.new.me.1 ≡ numbered 0 (Keeps common room ∷ map Holds pieces.items)) × HasRoom self.now.count room }
+        ensures seat { (seat.new.table_id ≡ seat.old.table_id) × (seat.new.id ≡ seat.old.id)
+            × (seat.new.me.0 ≡ seat.old.me.0) }
+        ensures slots { (room : Vec P Global)
+            × (seat.new.me.1 ≡ numbered 0 (Keeps common room ∷ map Holds pieces.items))
+            × HasRoom self.now.count room }
     {
         seat.turn();
         pieces.reverse();
@@ -44,7 +47,8 @@ impl<P: Piece> Board<P> {
     fn put_front(&self, seat: &mut Place<P>, slot: usize, piece: P)
         requires board { seat.old.table_id ≡ board_id self.now }
         requires front { seat.old.me.1 ≡ (slot, Empty) ∷ rest seat.old.me.1 }
-        ensures seat { (seat.new.table_id ≡ seat.old.table_id) × (seat.new.id ≡ seat.old.id) × (seat.new.me.0 ≡ seat.old.me.0) }
+        ensures seat { (seat.new.table_id ≡ seat.old.table_id) × (seat.new.id ≡ seat.old.id)
+            × (seat.new.me.0 ≡ seat.old.me.0) }
         ensures slots { seat.new.me.1 ≡ rest seat.old.me.1 ++ (slot, Holds piece) ∷ [] }
     {
         match self.table.shared.exchange(seat, slot, Slot::Piece(piece)) {
