@@ -5,7 +5,7 @@ ghost use Rattle.model_sender.specs.CheckBits.{IsCrc, IsMonic, IsMultiple, crc, 
 ghost use Rattle.block_crc.specs.Table.{is_table};
 
 use crate::tables::{FURTHER_A, FURTHER_B, REMAINDERS_A, REMAINDERS_B};
-use lte_bits::Bit;
+use lte_bits::{Bit, byte_of};
 
 /// A polynomial of degree 24, as the number whose binary digits are its coefficients.
 #[derive(Clone, Copy)]
@@ -113,21 +113,12 @@ impl Generator {
     }
 }
 
-/// The number with eight digits, the highest first. A product adds them up in its highest byte.
-fn number_of(byte: &[Bit; 8]) -> u32
-    ensures value { result ≡ number byte.now }
-    ensures small { result < 256 }
-{
-    let digits = u64::from_le_bytes(byte.map(u8::from));
-    (digits.wrapping_mul(0x8040_2010_0804_0201) >> 56) as u32
-}
-
 /// The lowest 16 digits of `start`, followed by eight bits.
 fn moved(start: u32, byte: &[Bit; 8]) -> u32
     ensures value { result ≡ start % 2 ^ 16 * 256 + number byte.now }
     ensures small { result < 2 ^ 24 }
 {
-    start % (1 << 16) * 256 + number_of(byte)
+    start % (1 << 16) * 256 + u32::from(byte_of(byte))
 }
 
 /// The lowest digit of a number.

@@ -63,15 +63,9 @@ pub fn unpack(alloc: Global, bytes: &[u8]) -> Result<List<Bit>, NoMemory>
 pub fn byte_of(digits: &[Bit; 8]) -> u8
     ensures { result ≡ number digits.now }
 {
-    let [b7, b6, b5, b4, b3, b2, b1, b0] = *digits;
-    128 * u8::from(b7)
-        + 64 * u8::from(b6)
-        + 32 * u8::from(b5)
-        + 16 * u8::from(b4)
-        + 8 * u8::from(b3)
-        + 4 * u8::from(b2)
-        + 2 * u8::from(b1)
-        + u8::from(b0)
+    // In the highest byte of this product each digit stands where it belongs.
+    let digits = u64::from_le_bytes(digits.map(u8::from));
+    (digits.wrapping_mul(0x8040_2010_0804_0201) >> 56) as u8
 }
 
 /// At most eight bits, filled up with `Zero`.
