@@ -8,7 +8,7 @@ use Rattle.lte_bits.specs.declared.block.SoftStreams.{SoftStreams}
 use Rattle.model_sender.specs.Interleaver.{place}
 use Rattle.model_receiver.specs.Borders.{Border, at}
 use Rattle.model_receiver.specs.Windows.{Extrinsic, zero_cell, cell_at, new_cells, forward_left, backward_left}
-use Rattle.model_receiver.specs.HalfIteration.{Shape, Left, window_width, positions, order, position_of, tail_border, left_by, start_border, window, renewed, left_after, after}
+use Rattle.model_receiver.specs.HalfIteration.{Shape, BordersLeft, window_width, positions, order, position_of, tail_border, left_by, start_border, window, renewed, left_after, after}
 use Rattle.model_receiver.proofs.PlacesOfPositions.{position-is}
 use Rattle.serial_decode.specs.Runs.{start_of, window_from}
 use Rattle.serial_decode.specs.Views.{AreWhole, by_position}
@@ -65,7 +65,7 @@ half-ran n soft shape h w f from to sys par old new ahead back rows ew ef ran = 
 
 -- ---- the windows of a half that starts from cells and borders
 
-module _ (soft : SoftStreams) (shape : Shape) (h : ℕ) (old : List Extrinsic) (left : List Left) (from to : List Border)
+module _ (soft : SoftStreams) (shape : Shape) (h : ℕ) (old : List Extrinsic) (left : List BordersLeft) (from to : List Border)
     (whole : AreWhole shape) (many : length left ≡ shape.windows)
     (starts : (t : ℕ) → t < length left → border_at from t ≡ start_border (start_of [] left) t)
     (ends : (t : ℕ) → t < length left → border_at to t ≡ cond (t + 1 == length left) (tail_border soft shape.k h) (left_by left (t + 1)).backward) where
@@ -95,14 +95,14 @@ module _ (soft : SoftStreams) (shape : Shape) (h : ℕ) (old : List Extrinsic) (
         (λ n lt. let p = position-is shape.k h n whole.size lt in
         ap (cell_at new) (sym p.1) ∙ cell-renewed (position_of shape.k h n) p.0)
 
-    pub left-after : (more : List Left) → more ≡ map (λ t. record { forward = border_at ahead t; backward = border_at back t }) (range_with_len 0 (length left))
+    pub left-after : (more : List BordersLeft) → more ≡ map (λ t. record { forward = border_at ahead t; backward = border_at back t }) (range_with_len 0 (length left))
         → more ≡ (after soft shape h (start_of old left)).left
     left-after more e =
         e ∙ (ap (λ (k : ℕ). map left_of (range_with_len 0 k)) many
         ∙ same-by_range left_of (left_after soft shape h (start_of old left)) 0 shape.windows (left_of 0)
         (λ t lt. same t lt))
       where
-        left_of : ℕ → Left
+        left_of : ℕ → BordersLeft
         left_of t = record { forward = border_at ahead t; backward = border_at back t }
 
         same : (t : ℕ) → t < shape.windows → left_of (0 + t) ≡ left_after soft shape h (start_of old left) (0 + t)

@@ -4,4 +4,4 @@ use Rattle.model_receiver.specs.HalfIteration.{Before}
 use Rattle.lane_windows.specs.declared.decoder.LaneDecoder.{LaneDecoder}
 
 abbrev pub before_of : {N : ℕ} → LaneDecoder N → Before
-before_of d = record { cells = d.banks; left = d.left.items; left_earlier = d.left_earlier.items }
+before_of d = record { cells = d.banks; left = d.left.items; left_before_last = d.left_before_last.items }

@@ -7,7 +7,7 @@ ghost use Rattle.lock_step.specs.Lanes.{border_at};
 ghost use Rattle.lane_windows.specs.Borders.{HaveWindows};
 
 use lte_bits::NoMemory;
-use serial_decode::left::Left;
+use serial_decode::left::BordersLeft;
 use std::alloc::Global;
 use window_decode::Border;
 
@@ -39,7 +39,7 @@ impl Borders {
 }
 
 /// The border with which window `t` ends: that of the tail, or the one that the next window left.
-fn end_of(left: &[Left], tail: Border, t: usize) -> Border
+fn end_of(left: &[BordersLeft], tail: Border, t: usize) -> Border
     requires { t < length left.now }
     ensures { result ≡ if t + 1 == length left.now then tail else (left_by left.now (t + 1)).backward }
 {
@@ -55,7 +55,7 @@ fn end_of(left: &[Left], tail: Border, t: usize) -> Border
 /// with the known border; it ends with the backward one of the next window, the last with the tail's.
 pub fn take_left(
     windows: usize,
-    left: &[Left],
+    left: &[BordersLeft],
     tail: Border,
     from: &mut [Border],
     to: &mut [Border],
@@ -78,14 +78,14 @@ pub fn take_left(
 }
 
 /// Leaves the borders that windows left.
-pub fn leave(ahead: &[Border], back: &[Border], left: &mut [Left])
+pub fn leave(ahead: &[Border], back: &[Border], left: &mut [BordersLeft])
     requires ahead { length ahead.now ≡ length left.old }
     requires back { length back.now ≡ length left.old }
     ensures { left.new ≡ map (λ t. record { forward = border_at ahead.now t; backward = border_at back.now t })
         (range_with_len 0 (length left.old)) }
 {
     for (t, left) in left.iter_mut().enumerate() {
-        *left = Left {
+        *left = BordersLeft {
             forward: ahead[t],
             backward: back[t],
         };

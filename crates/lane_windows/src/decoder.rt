@@ -10,7 +10,7 @@ use crate::lane_views::LaneViews;
 use crate::work::Engine;
 use lte_bits::{Bit, NoMemory, SoftStreams};
 use serial_decode::block::HalfDecoder;
-use serial_decode::left::Left;
+use serial_decode::left::BordersLeft;
 use std::alloc::Global;
 use window_decode::Shape;
 
@@ -22,13 +22,13 @@ pub struct LaneDecoder<'a, const N: usize> {
     engine: Engine<N>,
     borders: Borders,
     banks: Banks<N>,
-    left: Vec<Left>,
-    left_earlier: Vec<Left>,
+    left: Vec<BordersLeft>,
+    left_before_last: Vec<BordersLeft>,
     ghost room: { window_width views.views.shape ≤ engine.kernel },
     ghost border_room: { HaveWindows N borders },
     ghost all_places: { length banks ≡ views.views.shape.k },
     ghost all_windows: { length left.items ≡ N },
-    ghost all_windows_earlier: { length left_earlier.items ≡ N },
+    ghost all_windows_earlier: { length left_before_last.items ≡ N },
 }
 
 impl<'a, const N: usize> LaneDecoder<'a, N> {
@@ -55,15 +55,15 @@ impl<'a, const N: usize> LaneDecoder<'a, N> {
         let engine = Engine::<N>::new(alloc, width)?;
         let borders = Borders::new(alloc, N)?;
         let banks = Banks::<N>::zeros(alloc, width)?;
-        let left = vec![in alloc; Left::none(); N]?;
-        let left_earlier = vec![in alloc; Left::none(); N]?;
+        let left = vec![in alloc; BordersLeft::none(); N]?;
+        let left_before_last = vec![in alloc; BordersLeft::none(); N]?;
         Ok(LaneDecoder {
             views,
             engine,
             borders,
             banks,
             left,
-            left_earlier,
+            left_before_last,
         })
     }
 }
@@ -84,7 +84,7 @@ impl<const N: usize> HalfDecoder for LaneDecoder<'_, N> {
             mut borders,
             mut banks,
             left,
-            mut left_earlier,
+            mut left_before_last,
         } = self;
         decode_half(
             &views,
@@ -95,15 +95,15 @@ impl<const N: usize> HalfDecoder for LaneDecoder<'_, N> {
             borders.ahead.as_mut_slice(),
             borders.back.as_mut_slice(),
             &mut banks,
-            left_earlier.as_mut_slice(),
+            left_before_last.as_mut_slice(),
         );
         LaneDecoder {
             views,
             engine,
             borders,
             banks,
-            left: left_earlier,
-            left_earlier: left,
+            left: left_before_last,
+            left_before_last: left,
         }
     }
 

@@ -7,7 +7,7 @@ use crate::banks::Banks;
 use crate::borders::{leave, take_left};
 use crate::lane_views::LaneViews;
 use crate::work::Engine;
-use serial_decode::left::Left;
+use serial_decode::left::BordersLeft;
 use window_decode::Border;
 
 /// Decodes half `h` of a code block: leaves the new cells. `left` has the borders that each window left two halves
@@ -21,7 +21,7 @@ pub fn decode_half<const N: usize>(
     ahead: &mut [Border],
     back: &mut [Border],
     banks: &mut Banks<N>,
-    left: &mut [Left],
+    left: &mut [BordersLeft],
 )
     requires room { window_width views.now.views.shape ≤ engine.old.kernel }
     requires cells { length banks.old ≡ views.now.views.shape.k }

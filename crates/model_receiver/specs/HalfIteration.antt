@@ -67,45 +67,45 @@ abbrev pub tail_border : SoftStreams → ℕ → ℕ → Border
 tail_border soft k h = tail (tail_inputs soft k h) (tail_parities soft k h)
 
 -- the borders that a window left
-pub record Left : Type 0 where
+pub record BordersLeft : Type 0 where
   pub forward : Border
   pub backward : Border
 
-abbrev pub none_left : Left
+abbrev pub none_left : BordersLeft
 none_left = record { forward = unknown; backward = unknown }
 
 -- the borders that window t left, of a list with one entry for each window
-abbrev pub left_by : List Left → ℕ → Left
+abbrev pub left_by : List BordersLeft → ℕ → BordersLeft
 left_by left t = slice_index_or left t none_left
 
 -- what a half starts from: the cell of each place, and the borders that each window left in the half before
 -- and in the one before that
 pub record Before : Type 0 where
   pub cells : List Extrinsic
-  pub left : List Left
-  pub left_earlier : List Left
+  pub left : List BordersLeft
+  pub left_before_last : List BordersLeft
 
 -- all cells are 0, and no borders are known
 abbrev pub opening : Shape → Before
 opening shape = record {
   cells = replicate shape.k zero_cell;
   left = replicate shape.windows none_left;
-  left_earlier = replicate shape.windows none_left;
+  left_before_last = replicate shape.windows none_left;
 }
 
 -- the borders with which window t of some windows starts and ends, by those that each window left
-abbrev pub start_by : List Left → ℕ → Border
+abbrev pub start_by : List BordersLeft → ℕ → Border
 start_by left t = if t == 0 then known else (left_by left (t - 1)).forward
 
-abbrev pub end_by : ℕ → List Left → Border → ℕ → Border
+abbrev pub end_by : ℕ → List BordersLeft → Border → ℕ → Border
 end_by windows left tail t = if t + 1 == windows then tail else (left_by left (t + 1)).backward
 
 -- the same in a half: its neighbours left them two halves ago, in the half of the same order
 abbrev pub start_border : Before → ℕ → Border
-start_border b t = start_by b.left_earlier t
+start_border b t = start_by b.left_before_last t
 
 abbrev pub end_border : SoftStreams → Shape → ℕ → Before → ℕ → Border
-end_border soft shape h b t = end_by shape.windows b.left_earlier (tail_border soft shape.k h) t
+end_border soft shape h b t = end_by shape.windows b.left_before_last (tail_border soft shape.k h) t
 
 -- the cells at the positions of window t
 abbrev pub cells_in : Shape → ℕ → Before → ℕ → List Extrinsic
@@ -128,7 +128,7 @@ renewed soft shape h b i =
 abbrev pub position_of : ℕ → ℕ → ℕ → ℕ
 position_of k h n = unwrap_or (find (λ i. order k h i == n) (range_with_len 0 k)) 0
 
-abbrev pub left_after : SoftStreams → Shape → ℕ → Before → ℕ → Left
+abbrev pub left_after : SoftStreams → Shape → ℕ → Before → ℕ → BordersLeft
 left_after soft shape h b t = record {
   forward = forward_left (window soft shape h b t);
   backward = backward_left (window soft shape h b t);
@@ -139,5 +139,5 @@ abbrev pub after : SoftStreams → Shape → ℕ → Before → Before
 after soft shape h b = record {
   cells = map (λ n. renewed soft shape h b (position_of shape.k h n)) (range_with_len 0 shape.k);
   left = map (left_after soft shape h b) (range_with_len 0 shape.windows);
-  left_earlier = b.left;
+  left_before_last = b.left;
 }

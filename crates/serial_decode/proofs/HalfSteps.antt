@@ -9,7 +9,7 @@ use Rattle.lte_bits.specs.declared.block.SoftStreams.{SoftStreams}
 use Rattle.model_receiver.specs.Borders.{Border, known}
 use Rattle.model_receiver.specs.Paths.{Window}
 use Rattle.model_receiver.specs.Windows.{Extrinsic, window_between, zero_cell, cell_at, new_cells}
-use Rattle.model_receiver.specs.HalfIteration.{Shape, Before, Left, window_width, positions, order, position_of, systematic_at, parity_at, none_left, tail_border, left_by, start_border, end_border, window, renewed, left_after, after}
+use Rattle.model_receiver.specs.HalfIteration.{Shape, Before, BordersLeft, window_width, positions, order, position_of, systematic_at, parity_at, none_left, tail_border, left_by, start_border, end_border, window, renewed, left_after, after}
 use Rattle.model_receiver.proofs.PlacesOfPositions.{position-is}
 use Rattle.serial_decode.specs.Runs.{start_of, window_from, left_of, IsReplaced, IsPartDone}
 use Rattle.serial_decode.specs.Views.{AreWhole}
@@ -24,8 +24,8 @@ same-by_range f g a n d same =
     (λ i lt. let h : i < n = omega (arith, length-map-range_with_len f a n, lt) in
     get_or-map-range_with_len f a n i (a + i) d h refl ∙ (same i h ∙ sym (get_or-map-range_with_len g a n i (a + i) d h refl)))
 
-pub none_done : (soft : SoftStreams) (shape : Shape) (h : ℕ) (b : Before) → length b.cells ≡ shape.k → length b.left_earlier ≡ shape.windows
-    → IsPartDone soft shape h b 0 b.cells b.left_earlier known
+pub none_done : (soft : SoftStreams) (shape : Shape) (h : ℕ) (b : Before) → length b.cells ≡ shape.k → length b.left_before_last ≡ shape.windows
+    → IsPartDone soft shape h b 0 b.cells b.left_before_last known
 none_done soft shape h b long windows = record {
   long = long;
   done = λ i lt. absurd (omega (arith, lt));
@@ -37,7 +37,7 @@ none_done soft shape h b long windows = record {
 }
 
 -- window t reads what it reads of the half's start
-pub window-is : (soft : SoftStreams) (shape : Shape) (h : ℕ) (b : Before) (t : ℕ) (cells : List Extrinsic) (left : List Left) (start end : Border)
+pub window-is : (soft : SoftStreams) (shape : Shape) (h : ℕ) (b : Before) (t : ℕ) (cells : List Extrinsic) (left : List BordersLeft) (start end : Border)
     → AreWhole shape → t < shape.windows → IsPartDone soft shape h b t cells left start → end ≡ end_border soft shape h b t
     → window_from soft shape h t start end cells ≡ window soft shape h b t
 window-is soft shape h b t cells left start end whole lt part e =
@@ -49,15 +49,15 @@ window-is soft shape h b t cells left start end whole lt part e =
     (λ i li. part.to_do (t * window_width shape + i) (omega arith) (position-inside shape t i whole lt li))))
 
 -- the border with which window t ends, by the borders so far
-pub end-is : (soft : SoftStreams) (shape : Shape) (h : ℕ) (b : Before) (t : ℕ) (cells : List Extrinsic) (left : List Left) (start : Border)
+pub end-is : (soft : SoftStreams) (shape : Shape) (h : ℕ) (b : Before) (t : ℕ) (cells : List Extrinsic) (left : List BordersLeft) (start : Border)
     → IsPartDone soft shape h b t cells left start → end_border soft shape h (start_of [] left) t ≡ end_border soft shape h b t
 end-is soft shape h b t cells left start part =
-    ap (λ (x : Left). cond (t + 1 == shape.windows) (tail_border soft shape.k h) x.backward) (part.left_to_do (t + 1) (omega arith))
+    ap (λ (x : BordersLeft). cond (t + 1 == shape.windows) (tail_border soft shape.k h) x.backward) (part.left_to_do (t + 1) (omega arith))
 
-start_border-more : (b : Before) (t : ℕ) → start_border b (t + 1) ≡ (left_by b.left_earlier t).forward
+start_border-more : (b : Before) (t : ℕ) → start_border b (t + 1) ≡ (left_by b.left_before_last t).forward
 start_border-more b t =
-    ap (λ (q : Bool). cond q known (left_by b.left_earlier (t + 1 - 1)).forward) (not-equal (t + 1) 0 (λ e. absurd (omega (arith, e))))
-    ∙ ap (λ (n : ℕ). (left_by b.left_earlier n).forward) (let e : t + 1 - 1 ≡ t = omega arith in e)
+    ap (λ (q : Bool). cond q known (left_by b.left_before_last (t + 1 - 1)).forward) (not-equal (t + 1) 0 (λ e. absurd (omega (arith, e))))
+    ∙ ap (λ (n : ℕ). (left_by b.left_before_last n).forward) (let e : t + 1 - 1 ≡ t = omega arith in e)
 
 pub renewed-in_window : (soft : SoftStreams) (shape : Shape) (h : ℕ) (b : Before) (t j : ℕ) → j < window_width shape
     → renewed soft shape h b (t * window_width shape + j) ≡ cell_at (new_cells (window soft shape h b t)) j
@@ -65,7 +65,7 @@ renewed-in_window soft shape h b t j lt =
     ap (λ (q : ℕ). cell_at (new_cells (window soft shape h b q)) ((t * window_width shape + j) % window_width shape)) (div-mul-add t (window_width shape) j lt)
     ∙ ap (λ (r : ℕ). cell_at (new_cells (window soft shape h b t)) r) (mod-mul-add t (window_width shape) j lt)
 
-pub one_more_done : (soft : SoftStreams) (shape : Shape) (h : ℕ) (b : Before) (t : ℕ) (cells new : List Extrinsic) (left : List Left) (start next : Border) (w : Window) (l : Left)
+pub one_more_done : (soft : SoftStreams) (shape : Shape) (h : ℕ) (b : Before) (t : ℕ) (cells new : List Extrinsic) (left : List BordersLeft) (start next : Border) (w : Window) (l : BordersLeft)
     → t < shape.windows → IsPartDone soft shape h b t cells left start → w ≡ window soft shape h b t
     → IsReplaced shape h t w cells new → l ≡ left_of w → next ≡ (left_by left t).forward
     → IsPartDone soft shape h b (t + 1) new (set left t l) next
@@ -76,7 +76,7 @@ one_more_done soft shape h b t cells new left start next w l lt part ew r el en 
   left_long = length-set left t l ∙ part.left_long;
   left_done = λ u lu. by_window u lu (cases_eq u t);
   left_to_do = λ u le. get_or-set_other left t u l none_left (λ e. absurd (omega (arith, e, le))) ∙ part.left_to_do u (omega (arith, le));
-  begins = en ∙ (ap (λ (x : Left). x.forward) (part.left_to_do t (omega arith)) ∙ sym (start_border-more b t));
+  begins = en ∙ (ap (λ (x : BordersLeft). x.forward) (part.left_to_do t (omega arith)) ∙ sym (start_border-more b t));
 }
   where
     not_before : (i w : ℕ) → (t + 1) * w ≤ i → t * w ≤ i
@@ -99,13 +99,13 @@ one_more_done soft shape h b t cells new left start next w l lt part ew r el en 
     by_window u lu (inl e) = rw e (get_or-set_same left t l none_left (omega (arith, part.left_long)) ∙ (el ∙ ap left_of ew))
     by_window u lu (inr ne) = get_or-set_other left t u l none_left ne ∙ part.left_done u (omega (arith, ne))
 
-pub cells-all_done : (soft : SoftStreams) (shape : Shape) (h : ℕ) (b : Before) (cells : List Extrinsic) (left : List Left) (start : Border)
+pub cells-all_done : (soft : SoftStreams) (shape : Shape) (h : ℕ) (b : Before) (cells : List Extrinsic) (left : List BordersLeft) (start : Border)
     → AreWhole shape → IsPartDone soft shape h b shape.windows cells left start → cells ≡ (after soft shape h b).cells
 cells-all_done soft shape h b cells left start whole part =
     fill_by_all (λ n. renewed soft shape h b (position_of shape.k h n)) cells shape.k zero_cell part.long
     (λ n lt. let p = position-is shape.k h n whole.size lt in
     ap (cell_at cells) (sym p.1) ∙ part.done (position_of shape.k h n) (omega (arith, p.0, whole.whole)))
 
-pub left-all_done : (soft : SoftStreams) (shape : Shape) (h : ℕ) (b : Before) (cells : List Extrinsic) (left : List Left) (start : Border)
+pub left-all_done : (soft : SoftStreams) (shape : Shape) (h : ℕ) (b : Before) (cells : List Extrinsic) (left : List BordersLeft) (start : Border)
     → IsPartDone soft shape h b shape.windows cells left start → left ≡ (after soft shape h b).left
 left-all_done soft shape h b cells left start part = fill_by_all (left_after soft shape h b) left shape.windows none_left part.left_long part.left_done

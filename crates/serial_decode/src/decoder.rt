@@ -5,7 +5,7 @@ ghost use Rattle.model_receiver.specs.HalfIteration.{window_width};
 use crate::bits::decide;
 use crate::block::HalfDecoder;
 use crate::half::decode_half;
-use crate::left::Left;
+use crate::left::BordersLeft;
 use crate::views::Views;
 use lte_bits::{Bit, NoMemory, SoftStreams};
 use std::alloc::Global;
@@ -18,12 +18,12 @@ pub struct SerialDecoder<'a> {
     views: Views<'a>,
     work: Work,
     cells: Vec<Ext>,
-    left: Vec<Left>,
-    left_earlier: Vec<Left>,
+    left: Vec<BordersLeft>,
+    left_before_last: Vec<BordersLeft>,
     ghost room: { window_width views.shape ≤ work },
     ghost all_places: { length cells.items ≡ views.shape.k },
     ghost all_windows: { length left.items ≡ views.shape.windows },
-    ghost all_windows_earlier: { length left_earlier.items ≡ views.shape.windows },
+    ghost all_windows_earlier: { length left_before_last.items ≡ views.shape.windows },
 }
 
 impl<'a> SerialDecoder<'a> {
@@ -46,14 +46,14 @@ impl<'a> SerialDecoder<'a> {
         let windows = views.windows();
         let work = Work::new(alloc, views.width())?;
         let cells = vec![in alloc; Ext::ZERO; shape.k()]?;
-        let left = vec![in alloc; Left::none(); windows]?;
-        let left_earlier = vec![in alloc; Left::none(); windows]?;
+        let left = vec![in alloc; BordersLeft::none(); windows]?;
+        let left_before_last = vec![in alloc; BordersLeft::none(); windows]?;
         Ok(SerialDecoder {
             views,
             work,
             cells,
             left,
-            left_earlier,
+            left_before_last,
         })
     }
 }
@@ -73,15 +73,15 @@ impl HalfDecoder for SerialDecoder<'_> {
             mut work,
             cells,
             left,
-            mut left_earlier,
+            mut left_before_last,
         } = self;
-        let cells = decode_half(&mut work, &views, h, cells, left_earlier.as_mut_slice());
+        let cells = decode_half(&mut work, &views, h, cells, left_before_last.as_mut_slice());
         SerialDecoder {
             views,
             work,
             cells,
-            left: left_earlier,
-            left_earlier: left,
+            left: left_before_last,
+            left_before_last: left,
         }
     }
 

@@ -3,7 +3,7 @@ ghost use Rattle.std.specs.Prelude.{◌≡◌, ◌≤◌, length};
 ghost use Rattle.model_receiver.specs.HalfIteration.{window_width, after};
 ghost use Rattle.serial_decode.specs.Runs.{start_of};
 
-use crate::left::{Left, end_of};
+use crate::left::{BordersLeft, end_of};
 use crate::views::Views;
 use crate::window::decode_window;
 use window_decode::{Border, Ext, Work};
@@ -15,7 +15,7 @@ pub fn decode_half(
     views: &Views<'_>,
     h: usize,
     cells: Vec<Ext>,
-    left: &mut [Left],
+    left: &mut [BordersLeft],
 ) -> Vec<Ext>
     requires room { window_width views.now.shape ≤ work.old }
     requires cells { length cells.items ≡ views.now.shape.k }

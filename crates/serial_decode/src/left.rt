@@ -8,13 +8,13 @@ use window_decode::Border;
 /// The borders that a window left: the forward one to the next window, the backward one to the window
 /// before.
 #[derive(Clone, Copy)]
-pub struct Left {
+pub struct BordersLeft {
     pub forward: Border,
     pub backward: Border,
 }
 
-impl Model for Left {
-    ghost use Rattle.model_receiver.specs.HalfIteration.{Left as Borders};
+impl Model for BordersLeft {
+    ghost use Rattle.model_receiver.specs.HalfIteration.{BordersLeft as Borders};
 
     ghost Value = { Borders };
 
@@ -23,12 +23,12 @@ impl Model for Left {
     ghost inverse = { λ l. record { forward = l.forward; backward = l.backward } };
 }
 
-impl Left {
+impl BordersLeft {
     /// Before the first half nothing is known.
-    pub fn none() -> Left
+    pub fn none() -> BordersLeft
         ensures { result ≡ none_left }
     {
-        Left {
+        BordersLeft {
             forward: Border::unknown(),
             backward: Border::unknown(),
         }
@@ -37,7 +37,7 @@ impl Left {
 
 /// The border with which window `t` of so many ends: that after the last position, or the one that the
 /// next window left.
-pub fn end_of(windows: usize, left: &[Left], tail: Border, t: usize) -> Border
+pub fn end_of(windows: usize, left: &[BordersLeft], tail: Border, t: usize) -> Border
     requires window { t < windows }
     requires left { length left.now ≡ windows }
     ensures { result ≡ end_by windows left.now tail t }

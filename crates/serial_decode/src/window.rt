@@ -3,7 +3,7 @@ ghost use Rattle.std.specs.Prelude.{◌≡◌, ◌<◌, ◌≤◌, length};
 ghost use Rattle.model_receiver.specs.HalfIteration.{window_width};
 ghost use Rattle.serial_decode.specs.Runs.{window_from, left_of, IsReplaced};
 
-use crate::left::Left;
+use crate::left::BordersLeft;
 use crate::strip::ListStrip;
 use crate::views::Views;
 use window_decode::{Border, Ext, Work, run_window};
@@ -18,7 +18,7 @@ pub fn decode_window(
     start: &Border,
     end: &Border,
     cells: Vec<Ext>,
-) -> (Vec<Ext>, Left)
+) -> (Vec<Ext>, BordersLeft)
     requires room { window_width views.now.shape ≤ work.old }
     requires window { t < views.now.shape.windows }
     requires cells { length cells.items ≡ views.now.shape.k }
@@ -32,5 +32,5 @@ pub fn decode_window(
     let mut strip = views.strip(h, t, cells);
     let (forward, backward) = run_window(work, start, end, &mut strip);
     let ListStrip { cells, .. } = strip;
-    (cells, Left { forward, backward })
+    (cells, BordersLeft { forward, backward })
 }

@@ -8,7 +8,7 @@ use Rattle.window_decode.specs.contracts.ext.Ext as Ext
 use Rattle.window_decode.specs.contracts.border.Border as Border
 use Rattle.window_decode.specs.contracts.shape.Shape as Shape
 use Rattle.window_decode.specs.contracts.work.Work as Work
-use Rattle.serial_decode.specs.contracts.left.Left as Left
+use Rattle.serial_decode.specs.contracts.left.BordersLeft as BordersLeft
 use Rattle.cell_shares.specs.contracts.share.Share as Share
 use Rattle.cell_shares.proofs.part.Part.TheSendSync.{the_send as part}
 use Rattle.cell_shares.proofs.right.FreeRight.TheSendSync.{the_send as right}
@@ -36,8 +36,8 @@ Shape-send = search (sendable, crosses) depth 20
 pub Work-send : IsSend Work.the_row
 Work-send = search (sendable, crosses) depth 20
 
-pub Left-send : IsSend Left.the_row
-Left-send = search (sendable, crosses, Border-send) depth 20
+pub BordersLeft-send : IsSend BordersLeft.the_row
+BordersLeft-send = search (sendable, crosses, Border-send) depth 20
 
 pub Share-send : IsSend (Share.the_row Ext.the_row)
 Share-send = search (sendable, crosses, part, right, Ext-send) depth 20
@@ -46,13 +46,13 @@ pub WindowView-send : IsSend WindowView.the_row
 WindowView-send = search (sendable, crosses, Soft-send) depth 20
 
 pub Tools-send : IsSend Tools.the_row
-Tools-send = search (sendable, crosses, WindowView-send, Work-send, Left-send) depth 20
+Tools-send = search (sendable, crosses, WindowView-send, Work-send, BordersLeft-send) depth 20
 
 pub WindowPiece-send : IsSend WindowPiece.the_row
 WindowPiece-send = declared_send WindowPiece.the_type (Share-send, (Tools-send, (Border-send, (Border-send, tt))))
 
 pub Progress-send : IsSend (Progress.the_field).row
-Progress-send = search (sendable, crosses, Shape-send, Border-send, Left-send) depth 20
+Progress-send = search (sendable, crosses, Shape-send, Border-send, BordersLeft-send) depth 20
 
 pub Rooms-send : IsSend (Rooms.the_field).row
 Rooms-send = search (sendable, crosses, Share-send, Tools-send) depth 20

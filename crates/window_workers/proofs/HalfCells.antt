@@ -32,8 +32,8 @@ module _ (soft : SoftStreams) (shape : Shape) where
       ∙ length-map-range_with_len (left_after soft shape h (before soft shape h)) 0 shape.windows
 
   -- the borders of two halves ago are those of the half before that the earlier half had
-  pub left-earlier : (h : ℕ) → (before soft shape (suc h)).left_earlier ≡ (before soft shape h).left
-  left-earlier h = ap (λ (b : Before). b.left_earlier) (before-more soft shape h (suc h) refl)
+  pub left-earlier : (h : ℕ) → (before soft shape (suc h)).left_before_last ≡ (before soft shape h).left
+  left-earlier h = ap (λ (b : Before). b.left_before_last) (before-more soft shape h (suc h) refl)
 
   pub left-is : (h : ℕ) → (before soft shape (suc h)).left ≡ map (left_after soft shape h (before soft shape h)) (range_with_len 0 shape.windows)
   left-is h = ap (λ (b : Before). b.left) (before-more soft shape h (suc h) refl)

@@ -6,7 +6,7 @@ use Rattle.std.proofs.lemmas.List.{append_assoc, map-append, reverse-append}
 use Rattle.serial_decode.proofs.Orders.{not-equal}
 use Rattle.window_workers.proofs.Somes.{some-same}
 use Rattle.model_receiver.specs.Borders.{Border, known}
-use Rattle.model_receiver.specs.HalfIteration.{Left, left_by, start_by, end_by}
+use Rattle.model_receiver.specs.HalfIteration.{BordersLeft, left_by, start_by, end_by}
 use Rattle.window_workers.specs.declared.piece.WindowPiece.{WindowPiece}
 
 pub reverse-pushed : {X : Type 0} (xs : List X) (x : X) → reverse (xs ++ x ∷ []) ≡ x ∷ reverse xs
@@ -21,11 +21,11 @@ over f ps p ys y e =
     ∙ ap (λ l. map f ps ++ l) (ap (λ z. z ∷ reverse ys) e ∙ sym (reverse-pushed ys y)))
 
 -- the borders of the first pieces of so many windows
-abbrev pub AreBorderedOf : ℕ → List Left → Border → List WindowPiece → Type 0
+abbrev pub AreBorderedOf : ℕ → List BordersLeft → Border → List WindowPiece → Type 0
 AreBorderedOf windows left tail ps = (t : ℕ) (p : WindowPiece) → get_elem? ps t ≡ some p
     → (p.start ≡ start_by left t) × (p.end ≡ end_by windows left tail t)
 
-pub one_more_bordered : (windows : ℕ) (left : List Left) (tail : Border) (ps : List WindowPiece) (p : WindowPiece) → AreBorderedOf windows left tail ps
+pub one_more_bordered : (windows : ℕ) (left : List BordersLeft) (tail : Border) (ps : List WindowPiece) (p : WindowPiece) → AreBorderedOf windows left tail ps
     → p.start ≡ start_by left (length ps) → p.end ≡ end_by windows left tail (length ps) → AreBorderedOf windows left tail (ps ++ p ∷ [])
 one_more_bordered windows left tail ps p all s e t q is =
     elim (last_or ps p t q is) [
@@ -45,7 +45,7 @@ one_more_bordered windows left tail ps p all s e t q is =
         ]
 
 -- the border with which the next window starts
-pub start-more : (left : List Left) (t : ℕ) → start_by left (t + 1) ≡ (left_by left t).forward
+pub start-more : (left : List BordersLeft) (t : ℕ) → start_by left (t + 1) ≡ (left_by left t).forward
 start-more left t =
     ap (λ (q : Bool). cond q known (left_by left (t + 1 - 1)).forward) (not-equal (t + 1) 0 (λ e. absurd (omega (arith, e))))
     ∙ ap (λ (n : ℕ). (left_by left n).forward) (let e : t + 1 - 1 ≡ t = omega arith in e)

@@ -5,7 +5,7 @@ use Rattle.std.proofs.lemmas.List.{length-reverse}
 use Rattle.lte_bits.specs.declared.block.SoftStreams.{SoftStreams}
 use Rattle.model_receiver.specs.Borders.{Border}
 use Rattle.model_receiver.specs.Windows.{Extrinsic, zero_cell}
-use Rattle.model_receiver.specs.HalfIteration.{Shape, Before, Left}
+use Rattle.model_receiver.specs.HalfIteration.{Shape, Before, BordersLeft}
 use Rattle.serial_decode.proofs.Stopping.{before-none}
 use Rattle.cell_shares.specs.declared.cells.Cells.{Cells}
 use Rattle.cell_shares.specs.declared.order.Order.{Order}
@@ -71,7 +71,7 @@ opened-job job own [] lawful ready e = let a = ready.0 in let b = lawful.shape.s
 opened-job job own (p ∷ ps) lawful ready e = sym (ap (job_or job) e) ∙ job-of_held job 0 0 p (ready.1 0 p refl).held
 
 -- the pieces of a new decoding's cells, put together, are ready
-pub first-ready : (job : DecodingJob) (order : Order) (cells : Cells Extrinsic) (shares : List (Share Extrinsic)) (tools : List Tools) (ps : List WindowPiece) (left : List Left) (last : Border)
+pub first-ready : (job : DecodingJob) (order : Order) (cells : Cells Extrinsic) (shares : List (Share Extrinsic)) (tools : List Tools) (ps : List WindowPiece) (left : List BordersLeft) (last : Border)
     (p : Progress) → IsJob job → IsOrderIn job.shape.k 0 order → name_of cells ≡ job.name → cell_values cells ≡ replicate job.shape.k zero_cell
     → AreAllOf (name_of cells) order shares → map share_values shares ≡ deal order (name_of cells).windows (cell_values cells)
     → map share_of ps ≡ shares → map tools_of ps ≡ reverse tools → AreAllTools job tools → AreBordered left last ps → left ≡ p.left.items
@@ -81,5 +81,5 @@ first-ready job order cells shares tools ps left last p lawful is name zeros all
     (values ∙ (ap (λ n. deal order n.windows (cell_values cells)) name ∙ (ap (λ (m : ℕ). deal order m (cell_values cells)) lawful.windows
     ∙ ap (deal order job.shape.windows) (zeros ∙ sym (ap (λ (b : Before). b.cells) (before-none job.streams job.shape))))))
     et all_tools bordered
-    (el ∙ (was.left ∙ (ap (λ (b : Before). b.left) (before-none job.streams job.shape) ∙ sym (ap (λ (b : Before). b.left_earlier) (before-none job.streams job.shape)))))
+    (el ∙ (was.left ∙ (ap (λ (b : Before). b.left) (before-none job.streams job.shape) ∙ sym (ap (λ (b : Before). b.left_before_last) (before-none job.streams job.shape)))))
     (elast ∙ was.even_tail)

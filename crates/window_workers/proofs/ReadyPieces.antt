@@ -4,7 +4,7 @@ use Rattle.std.specs.List.{range_with_len}
 use Rattle.lte_bits.specs.declared.block.SoftStreams.{SoftStreams}
 use Rattle.model_receiver.specs.Borders.{Border, at, tail}
 use Rattle.model_receiver.specs.Windows.{Extrinsic}
-use Rattle.model_receiver.specs.HalfIteration.{Left, tail_border, cells_in, left_after, start_by, end_by}
+use Rattle.model_receiver.specs.HalfIteration.{BordersLeft, tail_border, cells_in, left_after, start_by, end_by}
 use Rattle.cell_shares.specs.declared.order.Order.{Order}
 use Rattle.cell_shares.specs.declared.share.Share.{Share}
 use Rattle.cell_shares.specs.Names.{Name}
@@ -53,9 +53,9 @@ module _ (job : DecodingJob) (h : ℕ) (order : Order) (lawful : IsJob job) (is 
       (told share_values (cells_in job.shape h (before_half job h)) job.shape.windows shares
       (e ∙ dealt-is job h order lawful is (before_half job h) (cells-long job.streams job.shape h)))
 
-  pub ready-pieces : (tools : List Tools) (left : List Left) (last : Border) → map share_values shares ≡ deal order job.shape.windows (before_half job h).cells
+  pub ready-pieces : (tools : List Tools) (left : List BordersLeft) (last : Border) → map share_values shares ≡ deal order job.shape.windows (before_half job h).cells
       → map tools_of ps ≡ tools → AllPieces job.shape.windows (λ t x. AreTools job t x) tools → AreBordered left last ps
-      → left ≡ (before_half job h).left_earlier → last ≡ tail_border job.streams job.shape.k h → AreAllReady job h ps
+      → left ≡ (before_half job h).left_before_last → last ≡ tail_border job.streams job.shape.k h → AreAllReady job h ps
   ready-pieces tools left last values et all_tools bordered el elast = (
     labels-are.0,
     λ t p at. let l = labels-are.1 t p at in let b = bordered t p at in
@@ -68,9 +68,9 @@ module _ (job : DecodingJob) (h : ℕ) (order : Order) (lawful : IsJob job) (is 
             order = ap (λ x. row_for x.1.0) l ∙ is;
           };
           cells = (cells-are values).1 t p at;
-          start = b.0 ∙ ap (λ (ls : List Left). start_by ls t) el;
+          start = b.0 ∙ ap (λ (ls : List BordersLeft). start_by ls t) el;
           end = b.1 ∙ (ap (λ (n : ℕ). end_by n left last t) labels-are.0
-              ∙ (ap (λ (ls : List Left). end_by job.shape.windows ls last t) el ∙ ap (λ (x : Border). end_by job.shape.windows (before_half job h).left_earlier x t) elast));
+              ∙ (ap (λ (ls : List BordersLeft). end_by job.shape.windows ls last t) el ∙ ap (λ (x : Border). end_by job.shape.windows (before_half job h).left_before_last x t) elast));
         },
   )
 

@@ -3,7 +3,7 @@ use Rattle.std.specs.Prelude.{◌≡◌, ℕ, suc, ◌+◌, ◌-◌, ◌==◌, i
 use mathlib.Core.Option.{some}
 use lib.ListN.{get_elem?}
 use Rattle.model_receiver.specs.Borders.{Border}
-use Rattle.model_receiver.specs.HalfIteration.{Left, left_after, start_by, end_by}
+use Rattle.model_receiver.specs.HalfIteration.{BordersLeft, left_after, start_by, end_by}
 use Rattle.phase_board.specs.Slots.{AllPieces}
 use Rattle.window_workers.specs.declared.job.DecodingJob.{DecodingJob}
 use Rattle.window_workers.specs.declared.piece.Tools.{Tools}
@@ -15,7 +15,7 @@ use Rattle.window_workers.specs.Pieces.{AreTools, IsReady, IsDone}
 use Rattle.window_workers.specs.Commons.{IsRunning, IsResultAt}
 
 -- each piece has the borders of its window
-abbrev pub AreBordered : List Left → Border → List WindowPiece → Type 0
+abbrev pub AreBordered : List BordersLeft → Border → List WindowPiece → Type 0
 AreBordered left tail ps = (t : ℕ) (p : WindowPiece) → get_elem? ps t ≡ some p
     → (p.start ≡ start_by left t) × (p.end ≡ end_by (length ps) left tail t)
 

@@ -1,6 +1,6 @@
 -- The piece of a window: held for a half, ready for its draw, and done.
 use Rattle.std.specs.Prelude.{◌≡◌, ℕ, suc, ◌≤◌, map}
-use Rattle.model_receiver.specs.HalfIteration.{Left, window_width, positions, order, systematic_at, parity_at, start_border, end_border, cells_in, left_after}
+use Rattle.model_receiver.specs.HalfIteration.{BordersLeft, window_width, positions, order, systematic_at, parity_at, start_border, end_border, cells_in, left_after}
 use Rattle.model_receiver.specs.Windows.{Extrinsic}
 use Rattle.cell_shares.specs.declared.share.Share.{Share}
 use Rattle.cell_shares.specs.Shares.{share_name, share_number, share_order, share_values}
@@ -26,7 +26,7 @@ abbrev pub tools_of : WindowPiece → Tools
 tools_of p = p.tools
 
 -- the borders that its window left last
-abbrev pub left_of_piece : WindowPiece → Left
+abbrev pub left_of_piece : WindowPiece → BordersLeft
 left_of_piece p = p.tools.left
 
 -- window t, as the halves read it that have the order of half h: the soft values and the place of each

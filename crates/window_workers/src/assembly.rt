@@ -7,7 +7,7 @@ ghost use Rattle.window_workers.specs.HalfEnds.{AreBordered};
 use crate::common::Rooms;
 use crate::piece::{Tools, WindowPiece};
 use cell_shares::Share;
-use serial_decode::left::{Left, end_of};
+use serial_decode::left::{BordersLeft, end_of};
 use window_decode::{Border, Ext};
 
 /// The shares of pieces, in order, and their tools, from last to first.
@@ -46,7 +46,7 @@ pub(crate) fn put_together(
     pieces: &mut Vec<WindowPiece>,
     shares: Vec<Share<Ext>>,
     tools: Vec<Tools>,
-    left: &[Left],
+    left: &[BordersLeft],
     tail: Border,
 ) -> Rooms
     requires none { pieces.old.items ≡ [] }
@@ -83,7 +83,7 @@ pub(crate) fn put_together(
 }
 
 /// Leaves the borders that the windows of pieces left last.
-pub(crate) fn take_left(pieces: &[WindowPiece], left: &mut [Left])
+pub(crate) fn take_left(pieces: &[WindowPiece], left: &mut [BordersLeft])
     requires { length left.old ≡ length pieces.now }
     ensures { left.new ≡ map left_of_piece pieces.now }
 {

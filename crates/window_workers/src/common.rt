@@ -5,7 +5,7 @@ use crate::piece::Tools;
 use cell_shares::Share;
 use lte_bits::Bit;
 use qpp_table::interleaver::Qpp;
-use serial_decode::left::Left;
+use serial_decode::left::BordersLeft;
 use window_decode::{Border, CodeResult, Ext, Shape};
 
 /// A decoding in a half: the tail borders, the borders that each window left in the half before, and the
@@ -16,7 +16,7 @@ pub struct Progress {
     pub(crate) interleaver: Qpp,
     pub(crate) even_tail: Border,
     pub(crate) odd_tail: Border,
-    pub(crate) left: Vec<Left>,
+    pub(crate) left: Vec<BordersLeft>,
     pub(crate) bits: Vec<Bit>,
 }
 

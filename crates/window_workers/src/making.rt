@@ -20,7 +20,7 @@ use crate::view::WindowView;
 use cell_shares::Cells;
 use lte_bits::{Bit, List, NoMemory, SoftStreams};
 use qpp_table::qpp;
-use serial_decode::left::Left;
+use serial_decode::left::BordersLeft;
 use serial_decode::views::Views;
 use std::alloc::Global;
 use std::snapshot::Snapshot;
@@ -42,7 +42,7 @@ fn tools_of_window(alloc: Global, views: &Views<'_>, t: usize) -> Result<Tools, 
         natural,
         interleaved,
         work,
-        left: Left::none(),
+        left: BordersLeft::none(),
     })
 }
 
@@ -72,7 +72,7 @@ fn first_progress(alloc: Global, views: &Views<'_>) -> Result<Progress, NoMemory
         interleaver,
         even_tail: views.tail(0),
         odd_tail: views.tail(1),
-        left: vec![in alloc; Left::none(); shape.windows()]?,
+        left: vec![in alloc; BordersLeft::none(); shape.windows()]?,
         bits: vec![in alloc; Bit::Zero; shape.k()]?,
     })
 }

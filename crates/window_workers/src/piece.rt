@@ -7,7 +7,7 @@ use crate::view::WindowView;
 use cell_shares::Share;
 use lte_bits::SoftStreams;
 use phase_board::Piece;
-use serial_decode::left::Left;
+use serial_decode::left::BordersLeft;
 use std::snapshot::Snapshot;
 use window_decode::{Border, Ext, Shape, Work};
 
@@ -19,7 +19,7 @@ pub struct Tools {
     pub(crate) natural: WindowView,
     pub(crate) interleaved: WindowView,
     pub(crate) work: Work,
-    pub(crate) left: Left,
+    pub(crate) left: BordersLeft,
 }
 
 /// A window of a half: its share of the cells, its soft values in both orders, and its borders.

@@ -10,7 +10,7 @@ use crate::piece::WindowPiece;
 use crate::strip::ShareStrip;
 use crate::view::{WindowView, of_half};
 use cell_shares::Share;
-use serial_decode::left::Left;
+use serial_decode::left::BordersLeft;
 use window_decode::{Border, Ext, Work, run_window};
 
 /// Runs a window over a share between two borders: gives the share with the new cells, and the borders
@@ -21,7 +21,7 @@ fn run_share(
     start: &Border,
     end: &Border,
     share: Share<Ext>,
-) -> (Share<Ext>, Left)
+) -> (Share<Ext>, BordersLeft)
     requires least { 8 ≤ length (share_values share) }
     requires room { length (share_values share) ≤ work.old }
     requires systematic { length view.now.systematic.items ≡ length (share_values share) }
@@ -48,7 +48,7 @@ fn run_share(
         places: _,
         share,
     } = strip;
-    (share, Left { forward, backward })
+    (share, BordersLeft { forward, backward })
 }
 
 /// Runs the window of a piece that is ready for a half.

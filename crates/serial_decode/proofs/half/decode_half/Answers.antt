@@ -1,7 +1,7 @@
 use Rattle.std.proofs.Common.{◌≡◌, ℕ, ◌<◌, ◌∙◌, ap, subst, arith}
 use Rattle.std.proofs.lemmas.List.{get_or_default}
 use Rattle.model_receiver.specs.Borders.{Border}
-use Rattle.model_receiver.specs.HalfIteration.{Left, none_left, end_by}
+use Rattle.model_receiver.specs.HalfIteration.{BordersLeft, none_left, end_by}
 use Rattle.serial_decode.specs.Runs.{start_of, IsPartDone}
 use Rattle.serial_decode.proofs.HalfSteps.{window-is, one_more_done, end-is, cells-all_done, left-all_done}
 use Rattle.serial_decode.proofs.half.decode_half.Goals as goal
@@ -25,7 +25,7 @@ loop-t-preserved c =
           ∙ end-is v.streams.now v.shape c.args.h b l.t l.cells.items l.left l.start part))))
           c.decode_window-new_cells.ensures.cells
           c.decode_window-new_cells.ensures.left
-          (ap (λ (x : Left). x.forward) (c.earlier.view_is ∙ (c.index-left-t.is ∙ get_or_default l.left l.t c.index-left-t.result none_left (omega (arith, more, part.left_long)))));
+          (ap (λ (x : BordersLeft). x.forward) (c.earlier.view_is ∙ (c.index-left-t.is ∙ get_or_default l.left l.t c.index-left-t.result none_left (omega (arith, more, part.left_long)))));
     }
 
 pub returns-clause-cells : goal.returns-clause-cells

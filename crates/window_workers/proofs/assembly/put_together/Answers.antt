@@ -1,6 +1,6 @@
 use Rattle.std.proofs.Common.{◌≡◌, ◌+◌, ◌++◌, [], ◌∷◌, length, map, reverse, ℕ, sym, ap, ◌∙◌, subst, refl, arith, length-append}
 use Rattle.std.proofs.lemmas.List.{get_or_default}
-use Rattle.model_receiver.specs.HalfIteration.{Left, none_left, start_by, end_by}
+use Rattle.model_receiver.specs.HalfIteration.{BordersLeft, none_left, start_by, end_by}
 use Rattle.window_workers.specs.Pieces.{share_of, tools_of}
 use Rattle.window_workers.proofs.MovedOver.{over, one_more_bordered, AreBorderedOf, start-more}
 use Rattle.window_workers.proofs.assembly.put_together.Goals as goal
@@ -22,7 +22,7 @@ loop-t-preserved c =
       (let a = inv.5 in let b = share.capacity in omega (arith, a, b)),
       (let a = inv.6 in let b = tools.capacity in omega (arith, a, b)),
       (let a = inv.7 in let b = pushed.capacity in omega (arith, a, b)),
-      ap (λ (x : Left). x.forward) (c.earlier.view_is ∙ (c.index-left-t.is ∙ get_or_default c.args.left.now l.t c.index-left-t.result none_left
+      ap (λ (x : BordersLeft). x.forward) (c.earlier.view_is ∙ (c.index-left-t.is ∙ get_or_default c.args.left.now l.t c.index-left-t.result none_left
           (let a = c.loop-t-test.true in let b = c.requires.left in let e = l.auto.t-end in omega (arith, a, b, e, windows))))
           ∙ sym (start-more c.args.left.now l.t),
       subst (AreBorderedOf (length c.args.shares.items) c.args.left.now c.args.tail) (sym pushed.items)

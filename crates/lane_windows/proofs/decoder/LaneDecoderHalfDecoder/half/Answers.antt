@@ -1,6 +1,6 @@
 use Rattle.std.proofs.Common.{◌≡◌, ℕ, ◌++◌, List, length, take, drop, sym, ap, ◌∙◌, arith}
 use Rattle.std.proofs.lemmas.List.FromFn.{length-map-range_with_len}
-use Rattle.model_receiver.specs.HalfIteration.{Left, position_of, renewed, after}
+use Rattle.model_receiver.specs.HalfIteration.{BordersLeft, position_of, renewed, after}
 use Rattle.serial_decode.specs.Runs.{start_of}
 use Rattle.serial_decode.proofs.Parts.{written}
 use Rattle.lane_windows.proofs.decoder.LaneDecoderHalfDecoder.half.Goals as goal
@@ -24,15 +24,15 @@ invariant_of-result g c =
       };
       all_places = ap length half.ensures.cells
           ∙ length-map-range_with_len (λ i. renewed d.views.views.streams.now d.views.views.shape c.args.h (start_of d.banks c.as_mut_slice-5.result.now) (position_of d.views.views.shape.k c.args.h i)) 0 d.views.views.shape.k;
-      all_windows = still n d.left_earlier.len half.new.left c.as_mut_slice-5.result.now d.left_earlier.items d.left_earlier.ok.0 c.as_mut_slice-5.ensures.value half.auto.left d.all_windows_earlier;
+      all_windows = still n d.left_before_last.len half.new.left c.as_mut_slice-5.result.now d.left_before_last.items d.left_before_last.ok.0 c.as_mut_slice-5.ensures.value half.auto.left d.all_windows_earlier;
       all_windows_earlier = d.all_windows;
     }
 
 pub returns-clause-before : goal.returns-clause-before
 returns-clause-before g c =
     let d = c.args.self in let half = c.decode_half in let v = d.views.views in
-    let after-start = λ (left : List Left). after v.streams.now v.shape c.args.h (start_of d.banks left) in
-    let cells = half.ensures.cells ∙ ap (λ (left : List Left). (after-start left).cells) c.as_mut_slice-5.ensures.value in
-    let left = written d.left_earlier.len half.new.left d.left_earlier.items (half.auto.left ∙ (ap length c.as_mut_slice-5.ensures.value ∙ sym d.left_earlier.ok.0))
-    ∙ (half.ensures.left ∙ ap (λ (left : List Left). (after-start left).left) c.as_mut_slice-5.ensures.value) in
-    λ i. record { cells = cells i; left = left i; left_earlier = d.left.items }
+    let after-start = λ (left : List BordersLeft). after v.streams.now v.shape c.args.h (start_of d.banks left) in
+    let cells = half.ensures.cells ∙ ap (λ (left : List BordersLeft). (after-start left).cells) c.as_mut_slice-5.ensures.value in
+    let left = written d.left_before_last.len half.new.left d.left_before_last.items (half.auto.left ∙ (ap length c.as_mut_slice-5.ensures.value ∙ sym d.left_before_last.ok.0))
+    ∙ (half.ensures.left ∙ ap (λ (left : List BordersLeft). (after-start left).left) c.as_mut_slice-5.ensures.value) in
+    λ i. record { cells = cells i; left = left i; left_before_last = d.left.items }

@@ -14,6 +14,6 @@ invariant_of-result-clause-all_places c =
 pub invariant_of-result-clause-all_windows : goal.invariant_of-result-clause-all_windows
 invariant_of-result-clause-all_windows c =
     let d = c.args.self in let half = c.decode_half-cells in
-    let many : length d.left_earlier.items ≡ d.views.shape.windows = d.all_windows_earlier in
-    let long : length half.new.left ≡ length d.left_earlier.items = half.auto.left ∙ ap length c.as_mut_slice.ensures.value in
-    ap length (written d.left_earlier.len half.new.left d.left_earlier.items (long ∙ sym d.left_earlier.ok.0)) ∙ (long ∙ many)
+    let many : length d.left_before_last.items ≡ d.views.shape.windows = d.all_windows_earlier in
+    let long : length half.new.left ≡ length d.left_before_last.items = half.auto.left ∙ ap length c.as_mut_slice.ensures.value in
+    ap length (written d.left_before_last.len half.new.left d.left_before_last.items (long ∙ sym d.left_before_last.ok.0)) ∙ (long ∙ many)
