@@ -1,4 +1,4 @@
--- Where the loop of `split` stands after t shares.
+-- Where the loop of `split` is after t shares.
 use Rattle.std.proofs.Common.{◌≡◌, ℕ, suc, ◌+◌, ◌-◌, ◌*◌, ◌/◌, ◌<◌, List, [], ◌∷◌, ◌++◌, length, map, refl, sym, ap, ◌∙◌, subst, arith}
 use lib.ListN.{take, drop}
 use Rattle.std.specs.List.{range_with_len}
@@ -66,7 +66,8 @@ module _ {X : Type 0} (s : Cells X) (order : Order) where
             start = p ∙ d.start;
             count = k ∙ d.count;
             left = λ n e.
-                let e' : suc n + t ≡ s.windows = (let x : suc n + t ≡ n + (t + 1) = omega arith in x) ∙ e in let a : suc n * s.width ≡ s.width + n * s.width = omega arith in let b : t * s.width + s.width ≡ (t + 1) * s.width = omega arith in
+                let e' : suc n + t ≡ s.windows = (let x : suc n + t ≡ n + (t + 1) = omega arith in x) ∙ e in let a : suc n * s.width ≡ s.width + n * s.width = omega arith in
+                let b : t * s.width + s.width ≡ (t + 1) * s.width = omega arith in
                 ap places cells ∙ (places-drop place (t * s.width) s.width (n * s.width) rest.cells (d.left (suc n) e' ∙ ap (λ (m : ℕ). map place (range_with_len (t * s.width) m)) a)
                 ∙ ap (λ (m : ℕ). map place (range_with_len m (n * s.width))) b);
             told = subst (Tells (cell_values s)) (sym cells) (tells_drop (cell_values s) s.width rest.cells d.told);
@@ -83,12 +84,14 @@ module _ {X : Type 0} (s : Cells X) (order : Order) where
 
         long : length (cell_values s) / s.windows ≡ s.width
         long =
-            ap (λ (k : ℕ). k / s.windows) (sym (values-long 0 s.count s.part.cells s.numbered) ∙ s.whole) ∙ mul-div_cancel_left s.width (let some : 0 < s.windows = omega (arith, s.some_window) in some)
+            ap (λ (k : ℕ). k / s.windows) (sym (values-long 0 s.count s.part.cells s.numbered) ∙ s.whole)
+            ∙ mul-div_cancel_left s.width (let some : 0 < s.windows = omega (arith, s.some_window) in some)
 
         pub all_values : share.part.cells ≡ rest.cells → map share_values (shares ++ share ∷ []) ≡ deal order s.windows (cell_values s)
         all_values mine =
             pushed share_values given t shares share d.dealt (given-is rest.cells mine d.told (last_places e)) ∙ ap (λ (m : ℕ). map given (range_with_len 0 m)) m-is
             ∙ ap (λ (w : ℕ). map (λ t. values_at (cell_values s) (share_places order w t)) (range_with_len 0 s.windows)) (sym long)
 
-  pub label_of : (t : ℕ) (share : Share X) → share.part.ptr ≡ s.part.ptr → share.part.count ≡ s.part.count → share.split.windows ≡ s.windows → share.split.order ≡ order → share.number ≡ t → share_label share ≡ label t
+  pub label_of : (t : ℕ) (share : Share X) → share.part.ptr ≡ s.part.ptr → share.part.count ≡ s.part.count → share.split.windows ≡ s.windows → share.split.order ≡ order → share.number ≡ t →
+      share_label share ≡ label t
   label_of t share p k m o n = λ i. (record { start = p i; count = k i; windows = m i }, (o i, n i))

@@ -1,4 +1,4 @@
--- Which value stands where in a deal.
+-- Which value is where in a deal.
 use Rattle.std.proofs.Common.{◌≡◌, ℕ, zero, suc, ◌+◌, ◌*◌, ◌/◌, ◌<◌, List, [], ◌∷◌, ◌++◌, length, get_or, map, refl, ap, ◌∙◌, subst, arith}
 use Prim.Native.Nat.{◌∣◌}
 use lib.ListN.{take, drop}

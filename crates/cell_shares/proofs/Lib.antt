@@ -3,7 +3,7 @@ mod Apart
 mod Changed
 mod Dealing
 pub mod Dealt
-mod Gathering
+mod JoinSteps
 pub mod Labels
 mod Leases
 mod Lent

@@ -1,4 +1,4 @@
--- Cells that stand at the places from k on, in order.
+-- Cells that are at the places from k on, in order.
 use Rattle.std.proofs.Common.{◌≡◌, ℕ, zero, suc, ◌+◌, List, [], ◌∷◌, length, get_or, refl, sym, ap, ◌∙◌, arith}
 use lib.ListN.{drop, length-map}
 use Rattle.std.specs.List.{range_with_len}

@@ -50,7 +50,8 @@ shuffle_to f (suc n) a xs long has apart =
     let rest_long : length r.rest ≡ n = let l : suc (length r.rest) ≡ suc n = sym r.long ∙ long in omega (arith, l) in
     then_on xs (f a ∷ r.rest) (map f (range_with_len a (suc n))) r.shuffled (under (f a) r.rest (map f (range_with_len (a + 1) n))
     (shuffle_to f n (a + 1) r.rest rest_long
-    (λ i low high. r.stays (f i) (λ e. let is : i ≡ a = apart i a (omega (arith, low)) (omega (arith, high)) (omega arith) (omega arith) e in absurd (omega (arith, is, low))) (has i (omega (arith, low)) (omega (arith, high))))
+    (λ i low high. r.stays (f i) (λ e. let is : i ≡ a = apart i a (omega (arith, low)) (omega (arith, high)) (omega arith) (omega arith) e in absurd (omega (arith, is, low)))
+    (has i (omega (arith, low)) (omega (arith, high))))
     (λ i j li hi lj hj. apart i j (omega (arith, li)) (omega (arith, hi)) (omega (arith, lj)) (omega (arith, hj)))))
 
 has_range : (n a x : ℕ) → a ≤ x → x < a + n → Has x (range_with_len a n)

@@ -1,4 +1,4 @@
--- Which cell stands where, in a share and in all cells.
+-- Which cell is where, in a share and in all cells.
 use Rattle.std.proofs.Common.{◌≡◌, ℕ, suc, ◌+◌, ◌*◌, ◌<◌, ◌≤◌, length, sym, ap, ◌∙◌, subst, arith}
 use Rattle.std.proofs.Math.Nat.{mul-le-mul_left}
 use lib.ListN.{length-map}
@@ -33,7 +33,7 @@ module _ {X : Type 0} (s : Share X) where
         let b = in_window s.number s.split.windows s.split.width j s.numbered in_width in let f = s.begins in let w = s.split.whole in
         subst (λ (n : ℕ). s.first + j < n) (sym w) (subst (λ (n : ℕ). n + j < s.split.windows * s.split.width) (sym f) b)
 
-    -- cell j stands at the place of position first + j
+    -- cell j is at the place of position first + j
     cell_here : (x : X) × IsCell s.part.cells j (place_in s.split.order (s.first + j)) x
     cell_here =
         subst (λ (n : ℕ). (x : X) × IsCell s.part.cells j (place_in s.split.order (n + j)) x) (sym s.begins)
@@ -51,7 +51,7 @@ module _ {X : Type 0} (s : Share X) where
           subst (λ (k : ℕ). (x : X) × IsCell s.part.cells j k x) here cell_here,
         )
 
--- cell n of all cells stands at place n
+-- cell n of all cells is at place n
 pub cell_at : {X : Type 0} (c : Cells X) (n : ℕ) → n < length (cell_values c) → (n < c.part.count) × ((x : X) × IsCell c.part.cells n n x)
 cell_at c n h =
     let k = c.count in let low : n < k = subst (λ (m : ℕ). n < m) (sym (values-long 0 k c.part.cells c.numbered)) h in let z : 0 + n ≡ n = omega arith in (

@@ -35,7 +35,8 @@ part_of R p n cells = record { ptr = p; count = n; cells = cells }
 
 module _ (R : RattleType) {M : Type 1} {𝓤 : Ura M} {𝓛 : Logic 𝓤} {K : Type 0} {Γ : List (Item 𝓤)} {G : Goal 𝓤 𝓛.H} where
   -- a part gives its cells
-  pub opened : Laws R → K → (d : (PartOf R).Denot) (vs : List Val) → ((s : Site R d.ptr d.count) → vs ≡ word R s ∷ [] → Seq K 𝓛 (‵ (lie R s d.cells) ∷ Γ) G) → Seq K 𝓛 (‵ ((PartOf R).own_val d vs) ∷ Γ) G
+  pub opened : Laws R → K → (d : (PartOf R).Denot) (vs : List Val) → ((s : Site R d.ptr d.count) → vs ≡ word R s ∷ [] → Seq K 𝓛 (‵ (lie R s d.cells) ∷ Γ) G) →
+      Seq K 𝓛 (‵ ((PartOf R).own_val d vs) ∷ Γ) G
   opened L t d vs k = peeks t (PartOf R) (Is (PartOf R)) (shows 𝓛 (PartOf R)) d vs (λ is.
       fsplit t $ leave t $ fsplit t $ flt_l t (λ lawful. in_a_block t d.ptr (λ p. in_block p (cells_at R p d.cells)) (id⊢ 𝓤 (never 𝓤)) (λ b o here.
       k (record { block = b; offset = o; here = here; lawful = lawful }) ((lowers R L).val_is d vs is ∙ ap (λ (p : Ptr). vstruct (vcons (ptr_val p) vnil) ∷ []) here))))

@@ -75,12 +75,14 @@ map-append f (x ∷ xs) ys = ap (λ (l : List _). f x ∷ l) (map-append f xs ys
 pub pushed : {X Y : Type 0} (g : X → Y) (h : ℕ → Y) (t : ℕ) (xs : List X) (x : X) → map g xs ≡ map h (range_with_len 0 t) → g x ≡ h t
     → map g (xs ++ x ∷ []) ≡ map h (range_with_len 0 (t + 1))
 pushed g h t xs x e is =
-    map-append g xs (x ∷ []) ∙ ((λ i. e i ++ is i ∷ []) ∙ (sym (map-append h (range_with_len 0 t) (t ∷ [])) ∙ ap (map h) (sym (range-append 0 t 1 ∙ ap (λ (n : ℕ). range_with_len 0 t ++ n ∷ []) (let z : 0 + t ≡ t = omega arith in z)))))
+    map-append g xs (x ∷ []) ∙ ((λ i. e i ++ is i ∷ [])
+    ∙ (sym (map-append h (range_with_len 0 t) (t ∷ [])) ∙ ap (map h) (sym (range-append 0 t 1 ∙ ap (λ (n : ℕ). range_with_len 0 t ++ n ∷ []) (let z : 0 + t ≡ t = omega arith in z)))))
 
 module _ {X Y : Type 0} (g : X → Y) (h : ℕ → Y) (t : ℕ) (xs : List X) (x : X) (e : map g (xs ++ x ∷ []) ≡ map h (range_with_len 0 (t + 1))) where
   both : map g xs ++ g x ∷ [] ≡ map h (range_with_len 0 t) ++ h t ∷ []
   both =
-      sym (map-append g xs (x ∷ [])) ∙ (e ∙ (ap (map h) (range-append 0 t 1 ∙ ap (λ (n : ℕ). range_with_len 0 t ++ n ∷ []) (let z : 0 + t ≡ t = omega arith in z)) ∙ map-append h (range_with_len 0 t) (t ∷ [])))
+      sym (map-append g xs (x ∷ [])) ∙ (e ∙ (ap (map h) (range-append 0 t 1 ∙ ap (λ (n : ℕ). range_with_len 0 t ++ n ∷ []) (let z : 0 + t ≡ t = omega arith in z))
+      ∙ map-append h (range_with_len 0 t) (t ∷ [])))
 
   before-long : length (map g xs) ≡ length (map h (range_with_len 0 t))
   before-long =
@@ -119,9 +121,11 @@ module _ {X : Type 0} (f : ℕ → ℕ) (a w n : ℕ) (cs : List (ℕ × X)) (at
   pub places-take : places (take w cs) ≡ map f (range_with_len a w)
   places-take =
       map-take w cs ∙ ap (take w) (at ∙ run-append f a w n)
-      ∙ ap (λ (k : ℕ). take k (map f (range_with_len a w) ++ map f (range_with_len (a + w) n))) (sym (run-long f a w)) ∙ take-append_seam (map f (range_with_len a w)) (map f (range_with_len (a + w) n))
+      ∙ ap (λ (k : ℕ). take k (map f (range_with_len a w) ++ map f (range_with_len (a + w) n))) (sym (run-long f a w))
+      ∙ take-append_seam (map f (range_with_len a w)) (map f (range_with_len (a + w) n))
 
   pub places-drop : places (drop w cs) ≡ map f (range_with_len (a + w) n)
   places-drop =
       map-drop w cs ∙ ap (drop w) (at ∙ run-append f a w n)
-      ∙ ap (λ (k : ℕ). drop k (map f (range_with_len a w) ++ map f (range_with_len (a + w) n))) (sym (run-long f a w)) ∙ drop-append_seam (map f (range_with_len a w)) (map f (range_with_len (a + w) n))
+      ∙ ap (λ (k : ℕ). drop k (map f (range_with_len a w) ++ map f (range_with_len (a + w) n))) (sym (run-long f a w))
+      ∙ drop-append_seam (map f (range_with_len a w)) (map f (range_with_len (a + w) n))

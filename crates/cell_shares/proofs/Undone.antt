@@ -20,7 +20,8 @@ module _ {X : Type 0} where
   values-append v (x ∷ xs) ys = ap (λ (l : List X). take 1 (drop x v) ++ l) (values-append v xs ys) ∙ sym (append_assoc (take 1 (drop x v)) (values_at v xs) (values_at v ys))
 
   -- the lists of shares, one after the other
-  all_given : (order : Order) (v : List X) (w n t : ℕ) → flat_map (λ l. l) (map (λ t. values_at v (share_places order w t)) (range_with_len t n)) ≡ values_at v (map (λ i. place_in order i) (range_with_len (t * w) (n * w)))
+  all_given : (order : Order) (v : List X) (w n t : ℕ) →
+      flat_map (λ l. l) (map (λ t. values_at v (share_places order w t)) (range_with_len t n)) ≡ values_at v (map (λ i. place_in order i) (range_with_len (t * w) (n * w)))
   all_given order v w zero t = let z : 0 ≡ 0 * w = omega arith in ap (λ (k : ℕ). values_at v (map (λ i. place_in order i) (range_with_len (t * w) k))) z
   all_given order v w (suc n) t =
       let place = (λ (i : ℕ). place_in order i) in let a : (t + 1) * w ≡ t * w + w = omega arith in let b : w + n * w ≡ suc n * w = omega arith in

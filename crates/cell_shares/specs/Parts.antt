@@ -1,4 +1,4 @@
--- Cells: values with the places at which they stand.
+-- Cells: values with the places at which they are.
 use Rattle.std.specs.Prelude.{◌≡◌, ℕ, zero, suc, ◌+◌, List, [], ◌∷◌, map}
 
 -- the values, numbered from k on
@@ -12,7 +12,7 @@ places cells = map (λ c. c.0) cells
 abbrev pub values : {X : Type 0} → List (ℕ × X) → List X
 values cells = map (λ c. c.1) cells
 
--- the j-th cell stands at the place n and has the value x
+-- the j-th cell is at the place n and has the value x
 abbrev pub IsCell : {X : Type 0} → List (ℕ × X) → ℕ → ℕ → X → Type 0
 IsCell [] j n x = ⊥
 IsCell (c ∷ cs) zero n x = (c.0 ≡ n) × (c.1 ≡ x)

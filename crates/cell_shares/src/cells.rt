@@ -1,5 +1,6 @@
 //! Cells in one buffer, which are split into shares and joined again.
-ghost use Rattle.std.specs.Prelude.{◌≡◌, ◌≢◌, ℕ, ◌+◌, ◌-◌, ◌*◌, ◌/◌, ◌^◌, ◌<◌, ◌≤◌, [], map, length, slice_index_or, vec_capacity, OnOk, IfOk};
+ghost use Rattle.std.specs.Prelude.{◌≡◌, ◌≢◌, ℕ, ◌+◌, ◌-◌, ◌*◌, ◌/◌, ◌^◌, ◌<◌, ◌≤◌, []};
+ghost use Rattle.std.specs.Prelude.{map, length, slice_index_or, vec_capacity, OnOk, IfOk};
 ghost use Prim.Native.Nat.{◌∣◌};
 ghost use Rattle.std.specs.List.{range_with_len};
 ghost use Rattle.core.specs.Mem.{type_size};
@@ -17,7 +18,7 @@ use core::slots::{Slots, release, reserve};
 use lte_bits::{List, NoMemory};
 use std::alloc::Global;
 
-/// K values in M banks of W = K/M: cell n stands in bank n / W, row n mod W.
+/// K values in M banks of W = K/M: cell n is in bank n / W, row n mod W.
 pub struct Cells<T: Copy> {
     pub(crate) part: Part<T>,
     pub(crate) right: FreeRight<T>,

@@ -7,9 +7,9 @@ use qpp_table::interleaver::Qpp;
 /// An order of places: that of the places themselves, or that of an interleaver of as many places.
 #[derive(Clone, Copy, Debug, PartialEq, Eq)]
 pub enum Order {
-    /// Position i stands at place i.
+    /// Position i is at place i.
     Natural,
-    /// Position i stands at place Pi(i) of the internal interleaver (36.212 5.1.3.2.3).
+    /// Position i is at place Pi(i) of the internal interleaver (36.212 5.1.3.2.3).
     Interleaved(Qpp),
 }
 

@@ -78,7 +78,7 @@ impl<T> Part<T> {
         Part { ptr }
     }
 
-    /// The value of cell `_j`, which stands at `place`.
+    /// The value of cell `_j`, which is at `place`.
     pub(crate) fn get(&self, _j: usize, place: usize) -> &T
         requires { (place < self.now.count) × ((x : T) × IsCell self.now.cells _j place x) }
         ensures { IsCell self.now.cells _j place result.now }
@@ -86,7 +86,7 @@ impl<T> Part<T> {
         unsafe { &*self.ptr.add(place) }
     }
 
-    /// Writes cell `_j`, which stands at `place`. The value that it had is forgotten.
+    /// Writes cell `_j`, which is at `place`. The value that it had is forgotten.
     pub(crate) fn set(&mut self, _j: usize, place: usize, x: T)
         requires { (place < self.old.count) × ((y : T) × IsCell self.old.cells _j place y) }
         ensures { IsPartOf self.old.ptr self.old.count (changed self.old.cells _j x) self.new }

@@ -42,7 +42,8 @@ pub struct Share<T: Copy> {
 }
 
 impl<T: Copy> Share<T> {
-    ghost use Rattle.cell_shares.specs.Shares.{share_name, share_order, share_number, share_values, share_place};
+    ghost use Rattle.cell_shares.specs.Shares.{share_name, share_order, share_number};
+    ghost use Rattle.cell_shares.specs.Shares.{share_values, share_place};
 
     /// The share of a number, which has these cells, and the right to free the buffer if it is the
     /// first.

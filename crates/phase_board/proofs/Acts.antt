@@ -30,7 +30,7 @@ module _ {S : Type 0} where
   at_seam (x ∷ front) rest y zero e = absurd (omega arith)
   at_seam (x ∷ front) rest y (suc k) e = at_seam front rest y k (omega arith)
 
-  -- what stands after all are taken, where the slots below k stay
+  -- what is there after all are taken, where the slots below k stay
   pub emptied : (front : List (Option S)) (k : ℕ) (xs : List S) (c : List (ℕ × S)) → length front ≡ k → homes_after (front ++ map some xs) c (take_from k xs) ≡ front ++ nones xs
   emptied front k [] c e = refl
   emptied front k (x ∷ xs) c e =
@@ -62,7 +62,8 @@ module _ {S : Type 0} where
   given_valid [] h d = tt
   given_valid (x ∷ c) h d = (tt, given_valid c _ _)
 
-  pub filled : (front old : List (Option S)) (k : ℕ) (xs : List S) → length front ≡ k → length old ≡ length xs → homes_after (front ++ old) (numbered k xs) (give_all (numbered k xs)) ≡ front ++ map some xs
+  pub filled : (front old : List (Option S)) (k : ℕ) (xs : List S) → length front ≡ k → length old ≡ length xs →
+      homes_after (front ++ old) (numbered k xs) (give_all (numbered k xs)) ≡ front ++ map some xs
   filled front [] k [] e w = refl
   filled front (y ∷ old) k [] e w = absurd (omega arith)
   filled front [] k (x ∷ xs) e w = absurd (omega arith)
@@ -70,4 +71,5 @@ module _ {S : Type 0} where
       let assoc : (ys : List (Option S)) (y : Option S) → front ++ y ∷ ys ≡ (front ++ y ∷ []) ++ ys = λ ys y. sym (append_assoc front (y ∷ []) ys) in
       let n : length (front ++ some x ∷ []) ≡ suc k = length-append front (some x ∷ []) ∙ (omega arith) in
       let put : set (front ++ y ∷ old) k (some x) ≡ (front ++ some x ∷ []) ++ old = (λ i. set (front ++ y ∷ old) (sym e i) (some x)) ∙ set-append_seam front y old (some x) ∙ assoc old (some x) in
-      ap (λ (h : List (Option S)). homes_after h (numbered (suc k) xs) (give_all (numbered (suc k) xs))) put ∙ filled (front ++ some x ∷ []) old (suc k) xs n (omega arith) ∙ sym (assoc (map some xs) (some x))
+      ap (λ (h : List (Option S)). homes_after h (numbered (suc k) xs) (give_all (numbered (suc k) xs))) put ∙ filled (front ++ some x ∷ []) old (suc k) xs n (omega arith)
+      ∙ sym (assoc (map some xs) (some x))

@@ -27,9 +27,18 @@ module _ {J P C : Type 0} (windows : J → ℕ) (ready done : J → ℕ → ℕ 
       let v : V = me.0 in let m : ℕ = windows job in let c : ℕ = claim windows ready done common ended job s r in let w : V = record v { activity = Reset } in
       let mine = r.each_seat id v at in
       let kn : Knows windows job r.half r.at r.phase id v Turning = subst (Knows windows job r.half r.at r.phase id v) turns mine.knows in
-      let now : InPhase windows ready done common ended job s.homes r.half r.n r.mask r.stop r.at (turning id) = subst (InPhase windows ready done common ended job s.homes r.half r.n r.mask r.stop r.at) kn.0 r.in_phase in
+      let now : InPhase windows ready done common ended job s.homes r.half r.n r.mask r.stop r.at (turning id) = subst
+      (InPhase windows ready done common ended job s.homes r.half r.n r.mask r.stop r.at) kn.0 r.in_phase in
       let mine' : Seated windows job c r.half r.at (resetting id) id w =
-      record { found_is = mine.found_is; found_drawn = mine.found_drawn; loaded_is = mine.loaded_is; loaded_drawn = mine.loaded_drawn; below = mine.below; job_is = subst (HasJob job w) (sym is) refl; knows = (refl, kn.1) } in (
+      record {
+        found_is = mine.found_is;
+        found_drawn = mine.found_drawn;
+        loaded_is = mine.loaded_is;
+        loaded_drawn = mine.loaded_drawn;
+        below = mine.below;
+        job_is = subst (HasJob job w) (sym is) refl;
+        knows = (refl, kn.1);
+      } in (
         w,
         keeps,
         tt,
@@ -47,7 +56,8 @@ module _ {J P C : Type 0} (windows : J → ℕ) (ready done : J → ℕ → ℕ 
           size = r.size;
           slots = r.slots;
           draws = λ x. let t = total_set (λ (u : V). times x u.drawn) s.views id v w at in let d = r.draws x in omega arith;
-          dones = λ x. (let t = total_set (λ (u : V). times x u.done) s.views id v w at in let e : total (λ (u : V). times x u.done) (set s.views id w) ≡ total (λ (u : V). times x u.done) s.views = omega arith in e)
+          dones = λ x. (let t = total_set (λ (u : V). times x u.done) s.views id v w at in
+              let e : total (λ (u : V). times x u.done) (set s.views id w) ≡ total (λ (u : V). times x u.done) s.views = omega arith in e)
               ∙ r.dones x ∙ ap (λ (z : Phase). done_once m r.half r.mask z x) kn.0 ∙ all_marked (r.half * m) m r.mask x r.mask_small now.2 ∙ ap (once_below x) (sym (next_half r.half m));
           in_phase = (now.0, now.1, refl, now.3);
           in_hands = at_here s.views id v w Reset at refl;
@@ -60,7 +70,8 @@ module _ {J P C : Type 0} (windows : J → ℕ) (ready done : J → ℕ → ℕ 
                 loaded_drawn = old.loaded_drawn;
                 below = old.below;
                 job_is = old.job_is;
-                knows = alone windows job id r.phase (λ e. let f : turning id ≡ running = sym kn.0 ∙ e in cc) (λ j d e. d (let f : turning id ≡ turning j = sym kn.0 ∙ e in cc)) (λ j d e. let f : turning id ≡ resetting j = sym kn.0 ∙ e in cc)
+                knows = alone windows job id r.phase (λ e. let f : turning id ≡ running = sym kn.0 ∙ e in cc) (λ j d e. d (let f : turning id ≡ turning j = sym kn.0 ∙ e in cc))
+                    (λ j d e. let f : turning id ≡ resetting j = sym kn.0 ∙ e in cc)
                     r.half r.half r.at r.at (resetting id) i u u.activity ne old.knows;
               });
         },

@@ -25,7 +25,8 @@ module _ {J P C : Type 0} (windows : J → ℕ) (ready done : J → ℕ → ℕ 
   abbrev S : Type 0
   S = Slot P C
 
-  over : (s : St windows ready done common ended job) (r : Law windows ready done common ended job s) (ph : Phase) → InPhase windows ready done common ended job s.homes r.half r.n r.mask r.stop r.at ph → r.stop ≡ true → ph ≡ stopped
+  over : (s : St windows ready done common ended job) (r : Law windows ready done common ended job s) (ph : Phase) →
+      InPhase windows ready done common ended job s.homes r.half r.n r.mask r.stop r.at ph → r.stop ≡ true → ph ≡ stopped
   over s r running q e = let f : false ≡ true = sym q.0 ∙ e in cc
   over s r (turning j) q e = let f : false ≡ true = sym q.0 ∙ e in cc
   over s r (resetting j) q e = let f : false ≡ true = sym q.0 ∙ e in cc
@@ -33,7 +34,8 @@ module _ {J P C : Type 0} (windows : J → ℕ) (ready done : J → ℕ → ℕ 
 
   -- in the last state a seat that found a stopped word has seen all of it, and the slots of the pieces are empty
   pub closes : (s : St windows ready done common ended job) (id : ℕ) (v : View J) → Seen (Law windows ready done common ended job) id v s → IsStopped v.found
-      → ((c : C) × (room : Vec P Global) × (get_elem? s.homes 0 ≡ some (some (Common c room))) × ended job (half_of v.found) c × (room.items ≡ []) × StoppedState windows ready done common ended job (half_of v.found) id v c s)
+      → ((c : C) × (room : Vec P Global) × (get_elem? s.homes 0 ≡ some (some (Common c room))) × ended job (half_of v.found) c × (room.items ≡ [])
+      × StoppedState windows ready done common ended job (half_of v.found) id v c s)
       × ((t : ℕ) → t < windows job → get_elem? s.homes (suc t) ≡ some (some Empty)) × (half_of v.found ≤ 1000000) × DrawnOnce (windows job) v
   closes s id v seen says =
       let r = seen.0 in let m : ℕ = windows job in let mine = r.each_seat id v seen.1 in
@@ -42,7 +44,8 @@ module _ {J P C : Type 0} (windows : J → ℕ) (ready done : J → ℕ → ℕ 
       let is : v.found ≡ c = mine.found_is.1 says in
       let set : r.stop ≡ true = is_set r.stop r.half r.n r.small size (subst IsStopped is says) in
       let ph : r.phase ≡ stopped = over s r r.phase r.in_phase set in
-      let now : InPhase windows ready done common ended job s.homes r.half r.n r.mask r.stop r.at stopped = subst (InPhase windows ready done common ended job s.homes r.half r.n r.mask r.stop r.at) ph r.in_phase in
+      let now : InPhase windows ready done common ended job s.homes r.half r.n r.mask r.stop r.at stopped = subst (InPhase windows ready done common ended job s.homes r.half r.n r.mask r.stop r.at) ph
+      r.in_phase in
       let half : half_of v.found ≡ r.half = ap half_of is ∙ half_word r.stop r.half r.n r.small size in
       let count : (half_of v.found + 1) * m ≡ r.half * m + r.n = ap (λ (h : ℕ). (h + 1) * m) half ∙ (let a = next_half r.half m in let b = now.1 in omega arith) in
       let full : r.half * m + m ≡ (half_of v.found + 1) * m = (let b = now.1 in omega arith) in (
@@ -69,7 +72,8 @@ module _ {J P C : Type 0} (windows : J → ℕ) (ready done : J → ℕ → ℕ 
 
   -- the same of the values that come out of the slots
   pub closed_slots : (ws : List ℕ) (xs : List S) (id : ℕ) (v : View J) → Final (Seen (Law windows ready done common ended job) id v) ws xs → IsStopped v.found
-      → ((c : C) × (room : Vec P Global) × (get_elem? xs 0 ≡ some (Common c room)) × ended job (half_of v.found) c × (room.items ≡ []) × ((s : St windows ready done common ended job) × StoppedState windows ready done common ended job (half_of v.found) id v c s))
+      → ((c : C) × (room : Vec P Global) × (get_elem? xs 0 ≡ some (Common c room)) × ended job (half_of v.found) c × (room.items ≡ [])
+      × ((s : St windows ready done common ended job) × StoppedState windows ready done common ended job (half_of v.found) id v c s))
       × ((t : ℕ) → t < windows job → get_elem? xs (suc t) ≡ some Empty) × (windows job + 1 ≡ length xs) × (half_of v.found ≤ 1000000) × DrawnOnce (windows job) v
   closed_slots ws xs id v last says =
       let t = closes last.0 id v last.1 says in let size = last.1.0.slots in

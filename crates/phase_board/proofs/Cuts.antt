@@ -40,10 +40,20 @@ module _ {J P C : Type 0} (windows : J → ℕ) (ready done : J → ℕ → ℕ 
       let same : views' ≡ set s.views id v ++ twin v ∷ [] = sym (ap (λ (l : List V). l ++ twin v ∷ []) (set_again s.views id v at)) in
       let old = r.each_seat id v at in
       let mine : (j : ℕ) → Seated windows job (claim windows ready done common ended job s r) r.half r.at r.phase j (twin v) = λ j.
-      record { found_is = old.found_is; found_drawn = old.found_drawn; loaded_is = old.loaded_is; loaded_drawn = old.loaded_drawn; below = λ x le. refl; job_is = subst (HasJob job (twin v)) (sym is) refl; knows = tt } in
-      subst (λ (l : List V). L record { words = s.words; homes = s.homes; views = l }) same (reviewed windows ready done common ended job s r views' (λ x. counted (λ u. u.drawn) s.views (twin v) x refl) (λ x. counted (λ u. u.done) s.views (twin v) x refl)
+      record {
+        found_is = old.found_is;
+        found_drawn = old.found_drawn;
+        loaded_is = old.loaded_is;
+        loaded_drawn = old.loaded_drawn;
+        below = λ x le. refl;
+        job_is = subst (HasJob job (twin v)) (sym is) refl;
+        knows = tt;
+      } in
+      subst (λ (l : List V). L record { words = s.words; homes = s.homes; views = l }) same
+      (reviewed windows ready done common ended job s r views' (λ x. counted (λ u. u.drawn) s.views (twin v) x refl) (λ x. counted (λ u. u.done) s.views (twin v) x refl)
       (λ j x ne h. (h.0, at_longer s.views (twin v ∷ []) j h.0 h.1, h.2))
-      (λ j u e. ⊎_elim (λ (was : get_elem? s.views j ≡ some u). r.each_seat j u was) (λ (new : twin v ≡ u). subst (Seated windows job (claim windows ready done common ended job s r) r.half r.at r.phase j) new (mine j))
+      (λ j u e. ⊎_elim (λ (was : get_elem? s.views j ≡ some u). r.each_seat j u was)
+      (λ (new : twin v ≡ u). subst (Seated windows job (claim windows ready done common ended job s r) r.half r.at r.phase j) new (mine j))
       (at_snoc s.views (twin v) u j e)))
 
   pub joins : (id : ℕ) (v : V) (other : ℕ) (w : V) → v.job ≡ Some job → v.activity ≡ Idle → w.activity ≡ Idle → Joins L id v other w (merged v w) spent_view
@@ -65,7 +75,16 @@ module _ {J P C : Type 0} (windows : J → ℕ) (ready done : J → ℕ → ℕ 
         knows = subst (Knows windows job r.half r.at r.phase id both) (sym rests) tt;
       } in
       let seat_spent : S other spent_view =
-      record { found_is = (omega arith, λ h. absurd (omega arith)); found_drawn = omega arith; loaded_is = (omega arith, λ _. refl); loaded_drawn = omega arith; below = λ x le. refl; job_is = refl; knows = tt } in
-      reviewed windows ready done common ended job s r (set mid other spent_view) (λ x. moved (λ u. u.drawn) s.views id other v w both spent_view x at at' refl refl) (λ x. moved (λ u. u.done) s.views id other v w both spent_view x at at' refl refl)
+      record {
+        found_is = (omega arith, λ h. absurd (omega arith));
+        found_drawn = omega arith;
+        loaded_is = (omega arith, λ _. refl);
+        loaded_drawn = omega arith;
+        below = λ x le. refl;
+        job_is = refl;
+        knows = tt;
+      } in
+      reviewed windows ready done common ended job s r (set mid other spent_view) (λ x. moved (λ u. u.drawn) s.views id other v w both spent_view x at at' refl refl)
+      (λ x. moved (λ u. u.done) s.views id other v w both spent_view x at at' refl refl)
       (λ j x ne h. at_kept mid other w spent_view j x at' (not_idle w x rests' ne) (at_kept s.views id v both j x at (not_idle v x rests ne) h))
       (set_each S mid other spent_view seat_spent (λ j u ne e. set_each S s.views id both seat_both (λ i q d f. r.each_seat i q f) j u e))

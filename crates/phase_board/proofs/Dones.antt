@@ -1,4 +1,4 @@
--- How often a number stands in the done lists, where the mask changes.
+-- How often a number is in the done lists, where the mask changes.
 use Rattle.std.proofs.Common.{◌≡◌, ◌≢◌, ℕ, suc, ◌+◌, ◌-◌, ◌*◌, ◌^◌, ◌<◌, ◌≤◌, ◌∷◌, [], if◌then◌else◌, ltb, sym, ap, ◌∙◌, suc-mul, arith}
 use Rattle.std.proofs.lemmas.Bool.Decides.{nat_tests}
 use native.Mathlib.Decide.{ℕ_discrete, dec_le}

@@ -57,14 +57,16 @@ module _ {J P C : Type 0} (windows : J → ℕ) (ready done : J → ℕ → ℕ 
     keep (out j) t ne h = ((let a = h.0 in omega arith), h.1, set_else homes (suc n) (suc t) none (up_ne t n ne) ∙ h.2)
     keep home t ne h = ((let a = h.0 in omega arith), h.1, (h.2.0, set_else homes (suc n) (suc t) none (up_ne t n ne) ∙ h.2.1, h.2.2))
 
-  knows_else : (half n id : ℕ) (at : ℕ → Where) (ph : Phase) (j : ℕ) (v : V) (x : Activity) → at n ≡ waits → Knows windows job half at ph j v x → Knows windows job half (moved_to at n (out id)) ph j v x
+  knows_else : (half n id : ℕ) (at : ℕ → Where) (ph : Phase) (j : ℕ) (v : V) (x : Activity) → at n ≡ waits → Knows windows job half at ph j v x →
+      Knows windows job half (moved_to at n (out id)) ph j v x
   knows_else half n id at ph j v Idle free h = tt
   knows_else half n id at ph j v (Working t) free h =
       (h.0, moved_case at n (out id) (λ p. p ≡ out j) t (λ e. let f : waits ≡ out j = sym free ∙ ap at (sym e) ∙ h.1 in cc) (λ _. h.1), h.2, h.3)
   knows_else half n id at ph j v Turning free h = h
   knows_else half n id at ph j v Reset free h = h
 
-  pub draws_one : (s : T) (r : L s) (id : ℕ) (me : Me S V) → get_elem? s.views id ≡ some me.0 → me.0.job ≡ Some job → me.0.activity ≡ Idle → me.1 ≡ [] → me.0.loaded ≡ claim windows ready done common ended job s r → me.0.found ≡ claim windows ready done common ended job s r
+  pub draws_one : (s : T) (r : L s) (id : ℕ) (me : Me S V) → get_elem? s.views id ≡ some me.0 → me.0.job ≡ Some job → me.0.activity ≡ Idle → me.1 ≡ [] →
+      me.0.loaded ≡ claim windows ready done common ended job s r → me.0.found ≡ claim windows ready done common ended job s r
       → claim windows ready done common ended job s r < 2 ^ 63 → r.n ≢ windows job
       → (w : V) × (a : Act S) × Valid s.homes me.1 a × L (stepped s 0 (claim windows ready done common ended job s r + 1) id me.1 w a) × Draws windows ready job me (w, carried_after me.1 a)
   draws_one s r id me at is rests free seen found low more =
@@ -86,7 +88,8 @@ module _ {J P C : Type 0} (windows : J → ℕ) (ready done : J → ℕ → ℕ 
       let next : c + 1 ≡ word_of r.stop h (n + 1) = omega arith in
       let up : c + 1 < 2 ^ 63 = (let g = ap (λ (b : Bool). word_of b h n) going in let q = r.small in omega arith) in
       let found_w : w.found ≡ c + 1 = ap (λ (z : ℕ). z + 1) seen in
-      let old_below : (x : ℕ) → x0 ≤ x → times x me.0.drawn ≡ 0 = λ x le. (r.each_seat id me.0 at).below x (let z : next_number m me.0.found ≡ x0 = ap (next_number m) (found ∙ sym seen) in omega arith) in
+      let old_below : (x : ℕ) → x0 ≤ x → times x me.0.drawn ≡ 0 = λ x le. (r.each_seat id me.0 at).below x
+      (let z : next_number m me.0.found ≡ x0 = ap (next_number m) (found ∙ sym seen) in omega arith) in
       let mine : Seated windows job (c + 1) h at' running id w =
       record {
         found_is = subst (λ (z : ℕ). NotNewer z (c + 1)) (sym found_w) (same_newer (c + 1));
@@ -94,7 +97,8 @@ module _ {J P C : Type 0} (windows : J → ℕ) (ready done : J → ℕ → ℕ 
         loaded_is = subst (λ (z : ℕ × ℕ). NotNewer z.0 z.1) (λ i. (sym seen i, sym found_w i)) (goes_up c c up (same_newer c));
         loaded_drawn = (r.each_seat id me.0 at).loaded_drawn;
         below = λ x le.
-            let nx : next_number m w.found ≡ h * m + (n + 1) = ap (next_number m) (found_w ∙ next) ∙ (λ i. half_word r.stop h (n + 1) r.small (let q = r.size in omega arith) i * m + drawn_word r.stop h (n + 1) r.small (let q = r.size in omega arith) i) in
+            let nx : next_number m w.found ≡ h * m + (n + 1) = ap (next_number m) (found_w ∙ next)
+            ∙ (λ i. half_word r.stop h (n + 1) r.small (let q = r.size in omega arith) i * m + drawn_word r.stop h (n + 1) r.small (let q = r.size in omega arith) i) in
             let b : times x me.0.drawn ≡ 0 = old_below x (omega arith) in
             let a : times x (x0 ∷ []) ≡ 0 = not_there x x0 (omega arith) in
             let t : times x (me.0.drawn ++ x0 ∷ []) ≡ times x me.0.drawn + times x (x0 ∷ []) = times_append x me.0.drawn (x0 ∷ []) in omega arith;
@@ -120,7 +124,8 @@ module _ {J P C : Type 0} (windows : J → ℕ) (ready done : J → ℕ → ℕ 
             let e : times x (x0 ∷ []) ≡ times x ((h * m + n) ∷ []) = ap (λ (z : ℕ). times x (z ∷ [])) number in
             let g : times x (me.0.drawn ++ x0 ∷ []) ≡ times x me.0.drawn + times x (x0 ∷ []) = times_append x me.0.drawn (x0 ∷ []) in
             let k : once_below x (h * m + (n + 1)) ≡ once_below x (h * m + n + 1) = ap (once_below x) (omega arith) in omega arith;
-        dones = λ x. (let t = total_set (λ (u : V). times x u.done) s.views id me.0 w at in let e : total (λ (u : V). times x u.done) views' ≡ total (λ (u : V). times x u.done) s.views = omega arith in e)
+        dones = λ x. (let t = total_set (λ (u : V). times x u.done) s.views id me.0 w at in
+            let e : total (λ (u : V). times x u.done) views' ≡ total (λ (u : V). times x u.done) s.views = omega arith in e)
             ∙ r.dones x ∙ ap (λ (ph : Phase). done_once m h r.mask ph x) runs.0;
         in_phase = (
           going,

@@ -30,7 +30,8 @@ module _ {J P C : Type 0} (windows : J → ℕ) (ready done : J → ℕ → ℕ 
   abbrev Goes : T → ℕ → Me S V → (ℕ → Me S V → Type 0) → ℕ → Type 0
   Goes s id me tells new = (w : V) × (a : Act S) × Valid s.homes me.1 a × L (stepped s 0 new id me.1 w a) × tells (slice_index s.words 0) (w, carried_after me.1 a)
 
-  pub exchanges : (slots id : ℕ) (me : Me S V) (old new : ℕ) → me.0.job ≡ Some job → me.0.activity ≡ Idle → me.1 ≡ [] → me.0.loaded ≡ old → me.0.found ≡ old → old < 2 ^ 63 → drawn_of old ≢ windows job → new ≡ old + 1
+  pub exchanges : (slots id : ℕ) (me : Me S V) (old new : ℕ) → me.0.job ≡ Some job → me.0.activity ≡ Idle → me.1 ≡ [] → me.0.loaded ≡ old → me.0.found ≡ old → old < 2 ^ 63 →
+      drawn_of old ≢ windows job → new ≡ old + 1
       → Allows L slots id me 0 (λ n. either (eqb n old) new n) (drew windows ready (step slots 0 old new none) me)
   exchanges slots id me old new is rests free seen found low more next s r wide at small =
       let y : ℕ = slice_index s.words 0 in let c : ℕ = claim windows ready done common ended job s r in let c_is : y ≡ c = claim_is windows ready done common ended job s r in

@@ -104,21 +104,25 @@ module _ {J P C : Type 0} (windows : J → ℕ) (ready done : J → ℕ → ℕ 
           after,
           gives,
           tt,
-          step_to windows ready done common ended job s r id v at t mask' kn.0 kn.2 low mask_is mine_out.1 after running at' homes' refl refl refl refl is (length-set s.homes (suc t) (some (Piece p)) ∙ r.slots) (λ x. refl) (
-            runs.0,
-            λ i l. moved_case r.at t home (Stands (ready job r.half) (done job r.half) homes' r.n mask' i) i
-                (λ e. subst (λ (z : ℕ). Stands (ready job r.half) (done job r.half) homes' r.n mask' z home) (sym e) here)
-                (λ d. stands (ready job r.half) (done job r.half) s.homes r.n r.mask mask' t p bit_there (r.at i) i d (runs.1 i l)),
-            zero_bit,
-            (runs.3.0, runs.3.1, set_else s.homes (suc t) 0 (some (Piece p)) (λ e. omega arith) ∙ runs.3.2, runs.3.3),
-          )
+          step_to windows ready done common ended job s r id v at t mask' kn.0 kn.2 low mask_is mine_out.1 after running at' homes' refl refl refl refl is
+              (length-set s.homes (suc t) (some (Piece p)) ∙ r.slots) (λ x. refl) (
+                runs.0,
+                λ i l. moved_case r.at t home (Stands (ready job r.half) (done job r.half) homes' r.n mask' i) i
+                    (λ e. subst (λ (z : ℕ). Stands (ready job r.half) (done job r.half) homes' r.n mask' z home) (sym e) here)
+                    (λ d. stands (ready job r.half) (done job r.half) s.homes r.n r.mask mask' t p bit_there (r.at i) i d (runs.1 i l)),
+                zero_bit,
+                (runs.3.0, runs.3.1, set_else s.homes (suc t) 0 (some (Piece p)) (λ e. omega arith) ∙ runs.3.2, runs.3.3),
+              )
               (λ i j l. moved_case r.at t home (λ y. y ≡ out j → IsAt (set s.views id after) j (Working i)) i (λ e q. cc)
               (λ d q. at_kept s.views id v after j (Working i) at (λ e. d (let f : Working t ≡ Working i = sym works ∙ e in cc)) (subst (InHands s.views m r.at) kn.0 r.in_hands i j l q)))
               tt (λ j u d q. work_on windows job r.half id t r.at r.phase kn.0 kn.1 j u u.activity d q),
           subst (IsFor _) (sym is) (
             sym r.slots,
             λ t' e. let same : t ≡ t' = (let f : Working t ≡ Working t' = sym works ∙ e in cc) in (
-              (λ _. (ap (λ (z : ℕ). let x : Me S V = (after_finish m z found v, []) in x) same, (zero_bit.0, zero_bit.1, (λ q. lacks (q ∙ sym same)), ap (λ (z : ℕ). bit_at z zero_bit.0) found_is ∙ sym (bit_there zero_bit.0 lacks) ∙ zero_bit.2))),
+              (λ _. (
+                ap (λ (z : ℕ). let x : Me S V = (after_finish m z found v, []) in x) same,
+                (zero_bit.0, zero_bit.1, (λ q. lacks (q ∙ sym same)), ap (λ (z : ℕ). bit_at z zero_bit.0) found_is ∙ sym (bit_there zero_bit.0 lacks) ∙ zero_bit.2),
+              )),
               (λ all. absurd (ne all)),
             ),
           ),
@@ -133,7 +137,8 @@ module _ {J P C : Type 0} (windows : J → ℕ) (ready done : J → ℕ → ℕ 
         let full : r.n ≡ m = whole other (ℕ_discrete r.n m) in
         let at_home : (i : ℕ) → i < m → (q : P) × (get_elem? homes' (suc i) ≡ some (some (Piece q))) × done job r.half i q = λ i l. here other i l (ℕ_discrete i t) in
         let long : length homes' ≡ m + 1 = length-set s.homes (suc t) (some (Piece p)) ∙ r.slots in
-        let got = all_home (common job r.half) (done job r.half) m homes' long (runs.3.0, runs.3.1, set_else s.homes (suc t) 0 (some (Piece p)) (λ q. omega arith) ∙ runs.3.2, runs.3.3.0, runs.3.3.1) at_home in
+        let got = all_home (common job r.half) (done job r.half) m homes' long (runs.3.0, runs.3.1, set_else s.homes (suc t) 0 (some (Piece p)) (λ q. omega arith) ∙ runs.3.2, runs.3.3.0, runs.3.3.1)
+        at_home in
         let xs : List S = Common got.0 got.1 ∷ map Piece got.2 in
         let left : homes_after homes' [] (take_from 0 xs) ≡ nones xs = ap (λ (h : List (maybe.Option S)). homes_after h [] (take_from 0 xs)) got.3 ∙ emptied [] 0 xs [] refl in
         let size : length xs ≡ m + 1 = plus_one (length (map Piece got.2)) m (length-map got.2 Piece ∙ got.6.0) in
@@ -143,7 +148,8 @@ module _ {J P C : Type 0} (windows : J → ℕ) (ready done : J → ℕ → ℕ 
           w,
           chain gives (take_from 0 xs),
           (tt, subst (λ (h : List (maybe.Option S)). Valid h [] (take_from 0 xs)) (sym got.3) (valid [] 0 xs [] refl)),
-          step_to windows ready done common ended job s r id v at t mask' kn.0 kn.2 low mask_is mine_out.1 w (turning id) r.at (homes_after homes' [] (take_from 0 xs)) refl refl refl refl is (ap length left ∙ (length-map xs _ ∙ size)) (λ x. refl)
+          step_to windows ready done common ended job s r id v at t mask' kn.0 kn.2 low mask_is mine_out.1 w (turning id) r.at (homes_after homes' [] (take_from 0 xs)) refl refl refl refl is
+              (ap length left ∙ (length-map xs _ ∙ size)) (λ x. refl)
               (runs.0, full, all, λ i l. ap (λ (h : List (maybe.Option S)). get_elem? h i) left ∙ nones_at xs i (omega arith)) (at_here s.views id v w Turning at refl) (refl, kn.2)
               (λ j u d q. none_works windows job r.half id t r.at r.phase kn.0 kn.1 none_out j u u.activity d q),
           subst (IsFor _) (sym is) (
@@ -153,7 +159,15 @@ module _ {J P C : Type 0} (windows : J → ℕ) (ready done : J → ℕ → ℕ 
               (λ _. (
                 ap (λ (z : ℕ). let x : V = record (after_finish m z found v) { activity = Turning } in x) same,
                 (λ i l d. ap (λ (z : ℕ). bit_at z i) found_is ∙ sym (bit_there i (λ z. d (z ∙ same))) ∙ all i l),
-                (got.0, got.1, got.2, carried 0 xs [] ∙ append-nil (numbered 0 xs), got.4, subst (λ (z : ℕ). common job z got.0) (sym kn.2) got.5, (got.6.0, λ i q a. subst (λ (z : ℕ). done job z i q) (sym kn.2) (got.6.1 i q a))),
+                (
+                  got.0,
+                  got.1,
+                  got.2,
+                  carried 0 xs [] ∙ append-nil (numbered 0 xs),
+                  got.4,
+                  subst (λ (z : ℕ). common job z got.0) (sym kn.2) got.5,
+                  (got.6.0, λ i q a. subst (λ (z : ℕ). done job z i q) (sym kn.2) (got.6.1 i q a)),
+                ),
               )),
             ),
           ),

@@ -12,7 +12,8 @@ use Rattle.phase_board.proofs.Acts.{nones}
 
 module _ {P C : Type 0} where
   -- the slots of pieces, all at home
-  pieces_home : (G : ℕ → P → Type 0) (hs : List (maybe.Option (Slot P C))) → ((t : ℕ) → t < length hs → (q : P) × (get_elem? hs t ≡ some (some (Piece q))) × G t q) → (ps : List P) × (hs ≡ map some (map Piece ps)) × AllPieces (length hs) G ps
+  pieces_home : (G : ℕ → P → Type 0) (hs : List (maybe.Option (Slot P C))) → ((t : ℕ) → t < length hs → (q : P) × (get_elem? hs t ≡ some (some (Piece q))) × G t q) →
+      (ps : List P) × (hs ≡ map some (map Piece ps)) × AllPieces (length hs) G ps
   pieces_home G [] each = ([], refl, (refl, λ t x e. absurd (some-ne-none x (sym e))))
   pieces_home G (h ∷ hs) each =
       let first = each zero (omega arith) in
@@ -24,7 +25,8 @@ module _ {P C : Type 0} where
       go y fy ys fs (suc t) x e = fs t x e
 
   -- all slots at home: the common value's, and one for each piece
-  pub all_home : (F : C → Type 0) (G : ℕ → P → Type 0) (m : ℕ) (hs : List (maybe.Option (Slot P C))) → length hs ≡ m + 1 → ((c : C) × (room : Vec P Global) × (get_elem? hs 0 ≡ some (some (Common c room))) × F c × HasRoom m room)
+  pub all_home : (F : C → Type 0) (G : ℕ → P → Type 0) (m : ℕ) (hs : List (maybe.Option (Slot P C))) → length hs ≡ m + 1 →
+      ((c : C) × (room : Vec P Global) × (get_elem? hs 0 ≡ some (some (Common c room))) × F c × HasRoom m room)
       → ((t : ℕ) → t < m → (q : P) × (get_elem? hs (suc t) ≡ some (some (Piece q))) × G t q)
       → (c : C) × (room : Vec P Global) × (ps : List P) × (hs ≡ map some (Common c room ∷ map Piece ps)) × HasRoom m room × F c × AllPieces m G ps
   all_home F G m [] long shared each = absurd (omega arith)

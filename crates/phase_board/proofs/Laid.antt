@@ -18,7 +18,8 @@ module _ (P C : Type 0) where
   all_of ps ss = holding ps ++ reverse ss
 
   pub over : (ps : List P) (p : P) (ss : List S) → all_of (ps ++ p ∷ []) ss ≡ all_of ps (ss ++ Piece p ∷ [])
-  over ps p ss = ap (λ (l : List S). l ++ reverse ss) (map-append _ ps (p ∷ [])) ∙ append_assoc (holding ps) (Piece p ∷ []) (reverse ss) ∙ ap (λ (l : List S). holding ps ++ l) (sym (reverse-append ss (Piece p ∷ [])))
+  over ps p ss = ap (λ (l : List S). l ++ reverse ss) (map-append _ ps (p ∷ [])) ∙ append_assoc (holding ps) (Piece p ∷ []) (reverse ss)
+      ∙ ap (λ (l : List S). holding ps ++ l) (sym (reverse-append ss (Piece p ∷ [])))
 
   piece_at : (ns : List P) (ys : List S) (x : S) (ps : List P) → holding ns ++ x ∷ ys ≡ holding ps → (p : P) × (x ≡ Piece p)
   piece_at [] ys x [] e = absurd (let f : suc (length ys) ≡ 0 = ap length e in omega arith)

@@ -8,7 +8,7 @@ pub mod Dones
 pub mod Draws
 pub mod Exchanges
 pub mod Finishes
-pub mod Gathers
+pub mod TakesOut
 pub mod Homes
 pub mod Laid
 pub mod Looks
@@ -18,7 +18,7 @@ pub mod Moves
 pub mod Newer
 pub mod Opens
 pub mod Rule
-pub mod Scatters
+pub mod PutsBack
 pub mod Settles
 pub mod Stays
 pub mod Stops

@@ -29,7 +29,8 @@ module _ {J P C : Type 0} (windows : J → ℕ) (ready done : J → ℕ → ℕ 
   abbrev pub after : T → ℕ → V → T
   after s id w = record { words = set s.words 0 (slice_index s.words 0); homes = s.homes; views = set s.views id w }
 
-  pub stays : (s : T) (r : L s) (id : ℕ) (v w : V) → get_elem? s.views id ≡ some v → v.activity ≡ Idle → w.activity ≡ Idle → w.drawn ≡ v.drawn → w.done ≡ v.done → v.job ≡ Some job → w.job ≡ Some job → w.found ≡ slice_index s.words 0
+  pub stays : (s : T) (r : L s) (id : ℕ) (v w : V) → get_elem? s.views id ≡ some v → v.activity ≡ Idle → w.activity ≡ Idle → w.drawn ≡ v.drawn → w.done ≡ v.done → v.job ≡ Some job → w.job ≡ Some job →
+      w.found ≡ slice_index s.words 0
       → NotNewer w.loaded w.found → drawn_of w.loaded ≤ windows job → L (after s id w) × DrawnOnce (windows job) w
   stays s r id v w at rests rests' same same' has has' sees older within =
       let c : ℕ = claim windows ready done common ended job s r in
@@ -49,7 +50,8 @@ module _ {J P C : Type 0} (windows : J → ℕ) (ready done : J → ℕ → ℕ 
       } in
       let again : s.words ≡ set s.words 0 (slice_index s.words 0) = r.words ∙ sym (ap (λ (l : List ℕ). set l 0 (slice_index l 0)) r.words) in
       let law : L record { words = s.words; homes = s.homes; views = set s.views id w } =
-      reviewed windows ready done common ended job s r (set s.views id w) (λ x. let t = total_set (λ (u : V). times x u.drawn) s.views id v w at in let e : times x w.drawn ≡ times x v.drawn = ap (times x) same in omega arith)
+      reviewed windows ready done common ended job s r (set s.views id w)
+      (λ x. let t = total_set (λ (u : V). times x u.drawn) s.views id v w at in let e : times x w.drawn ≡ times x v.drawn = ap (times x) same in omega arith)
       (λ x. let t = total_set (λ (u : V). times x u.done) s.views id v w at in let e : times x w.done ≡ times x v.done = ap (times x) same' in omega arith)
       (λ j x ne. at_kept s.views id v w j x at (not_idle v x rests ne)) (set_each (Seated windows job c r.half r.at r.phase) s.views id w mine' (λ j u ne e. r.each_seat j u e)) in
       let law' : L (after s id w) = subst (λ (l : List ℕ). L record { words = l; homes = s.homes; views = set s.views id w }) again law in

@@ -31,7 +31,8 @@ module _ {J P C : Type 0} (windows : J → ℕ) (ready done : J → ℕ → ℕ 
     abbrev m : ℕ
     m = windows job
 
-    seated : (w : V) (ph : Phase) (pl : ℕ → Where) → w.found ≡ v.found → w.loaded ≡ v.loaded → w.drawn ≡ v.drawn → w.job ≡ Some job → Knows windows job r.half pl ph id w w.activity → Seated windows job (claim windows ready done common ended job s r) r.half pl ph id w
+    seated : (w : V) (ph : Phase) (pl : ℕ → Where) → w.found ≡ v.found → w.loaded ≡ v.loaded → w.drawn ≡ v.drawn → w.job ≡ Some job → Knows windows job r.half pl ph id w w.activity →
+        Seated windows job (claim windows ready done common ended job s r) r.half pl ph id w
     seated w ph pl f l d j know = let old = r.each_seat id v at in
         record {
           found_is = subst (λ (z : ℕ). NotNewer z (claim windows ready done common ended job s r)) (sym f) old.found_is;
@@ -44,8 +45,10 @@ module _ {J P C : Type 0} (windows : J → ℕ) (ready done : J → ℕ → ℕ 
         }
 
     -- what the step makes of the rule, for the view and the phase that follow
-    pub step_to : (w : V) (ph : Phase) (pl : ℕ → Where) (homes : List (maybe.Option (Slot P C))) → w.found ≡ v.found → w.loaded ≡ v.loaded → w.drawn ≡ v.drawn → w.done ≡ v.done ++ (half_of v.loaded * m + t) ∷ [] → w.job ≡ Some job → length homes ≡ m + 1
-        → ((x : ℕ) → done_once m r.half mask' ph x ≡ by_mask (r.half * m) mask' x) → InPhase windows ready done common ended job homes r.half r.n mask' r.stop pl ph → InHands (set s.views id w) m pl ph
+    pub step_to : (w : V) (ph : Phase) (pl : ℕ → Where) (homes : List (maybe.Option (Slot P C))) → w.found ≡ v.found → w.loaded ≡ v.loaded → w.drawn ≡ v.drawn →
+        w.done ≡ v.done ++ (half_of v.loaded * m + t) ∷ [] → w.job ≡ Some job → length homes ≡ m + 1
+        → ((x : ℕ) → done_once m r.half mask' ph x ≡ by_mask (r.half * m) mask' x) → InPhase windows ready done common ended job homes r.half r.n mask' r.stop pl ph →
+        InHands (set s.views id w) m pl ph
         → Knows windows job r.half pl ph id w w.activity → ((j : ℕ) (u : V) → j ≢ id → Knows windows job r.half r.at r.phase j u u.activity → Knows windows job r.half pl ph j u u.activity)
         → L record { words = set s.words 1 mask'; homes = homes; views = set s.views id w }
     step_to w ph pl homes f l d e j long by_it phase_is hands know others =
@@ -66,12 +69,22 @@ module _ {J P C : Type 0} (windows : J → ℕ) (ready done : J → ℕ → ℕ 
           dones = λ x.
               let q = total_set (λ (u : V). times x u.done) s.views id v w at in
               let o : total (λ (u : V). times x u.done) s.views ≡ by_mask (r.half * m) r.mask x = r.dones x ∙ ap (λ (z : Phase). done_once m r.half r.mask z x) runs in
-              let g : times x w.done ≡ times x v.done + times x ((r.half * m + t) ∷ []) = ap (times x) e ∙ times_append x v.done ((half_of v.loaded * m + t) ∷ []) ∙ ap (λ (z : ℕ). times x v.done + times x ((z * m + t) ∷ [])) half_is in
-              let b : by_mask (r.half * m) mask' x ≡ by_mask (r.half * m) r.mask x + times x ((r.half * m + t) ∷ []) = ap (λ (z : ℕ). by_mask (r.half * m) z x) mask_is ∙ marked (r.half * m) r.mask t x zero in
+              let g : times x w.done ≡ times x v.done + times x ((r.half * m + t) ∷ []) = ap (times x) e ∙ times_append x v.done ((half_of v.loaded * m + t) ∷ [])
+              ∙ ap (λ (z : ℕ). times x v.done + times x ((z * m + t) ∷ [])) half_is in
+              let b : by_mask (r.half * m) mask' x ≡ by_mask (r.half * m) r.mask x + times x ((r.half * m + t) ∷ []) = ap (λ (z : ℕ). by_mask (r.half * m) z x) mask_is
+              ∙ marked (r.half * m) r.mask t x zero in
               (let sum : total (λ (u : V). times x u.done) (set s.views id w) ≡ by_mask (r.half * m) mask' x = omega arith in sum) ∙ sym (by_it x);
           in_phase = phase_is;
           in_hands = hands;
           each_seat = set_each (Seated windows job (claim windows ready done common ended job s r) r.half pl ph) s.views id w (seated w ph pl f l d j know)
               (λ i u ne q. let old = r.each_seat i u q in
-              record { found_is = old.found_is; found_drawn = old.found_drawn; loaded_is = old.loaded_is; loaded_drawn = old.loaded_drawn; below = old.below; job_is = old.job_is; knows = others i u ne old.knows });
+              record {
+                found_is = old.found_is;
+                found_drawn = old.found_drawn;
+                loaded_is = old.loaded_is;
+                loaded_drawn = old.loaded_drawn;
+                below = old.below;
+                job_is = old.job_is;
+                knows = others i u ne old.knows;
+              });
         }

@@ -45,7 +45,8 @@ module _ {J P C : Type 0} (own : P → J) (windows : J → ℕ) (ready done : J 
         dones = λ x. sym (none_marked (0 * m) x ∙ beyond_is (0 * m) x (omega arith));
         in_phase = (
           refl,
-          λ t l. let p = there ps t (let a = count in omega arith) in (omega arith, bit_at-zero t, (p.0, at_map some (map Piece ps) t (Piece p.0) (at_map Piece ps t p.0 p.1), (given.2.1 t p.0 p.1).1)),
+          λ t l. let p = there ps t (let a = count in omega arith) in
+              (omega arith, bit_at-zero t, (p.0, at_map some (map Piece ps) t (Piece p.0) (at_map Piece ps t p.0 p.1), (given.2.1 t p.0 p.1).1)),
           (0, given.0, bit_at-zero 0),
           (c, room, refl, (given.3, subst (λ (k : ℕ). HasRoom k room) count fits)),
         );

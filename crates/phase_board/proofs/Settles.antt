@@ -24,7 +24,8 @@ low_claim stop h n e a b = let f : word_of stop h n ≡ word_of false h n = ap (
 
 module _ {J : Type 0} (windows : J → ℕ) (job : J) where
   -- while a seat turns, the others are idle, and know the same of whatever follows
-  pub alone : (id : ℕ) (ph : Phase) → ph ≢ running → ((j : ℕ) → j ≢ id → ph ≢ turning j) → ((j : ℕ) → j ≢ id → ph ≢ resetting j) → (half half' : ℕ) (at at' : ℕ → Where) (ph' : Phase) (j : ℕ) (u : View J) (x : Activity) → j ≢ id
+  pub alone : (id : ℕ) (ph : Phase) → ph ≢ running → ((j : ℕ) → j ≢ id → ph ≢ turning j) → ((j : ℕ) → j ≢ id → ph ≢ resetting j) →
+      (half half' : ℕ) (at at' : ℕ → Where) (ph' : Phase) (j : ℕ) (u : View J) (x : Activity) → j ≢ id
       → Knows windows job half at ph j u x → Knows windows job half' at' ph' j u x
   alone id ph a b c half half' at at' ph' j u Idle ne q = tt
   alone id ph a b c half half' at at' ph' j u (Working t) ne q = absurd (a q.0)
@@ -41,10 +42,12 @@ module _ {J P C : Type 0} (windows : J → ℕ) (ready done : J → ℕ → ℕ 
   abbrev L : T → Type 0
   L = Law windows ready done common ended job
 
-  pub settle : (s : T) (r : L s) (id : ℕ) (v : V) (new half n : ℕ) (stop : Bool) (at : ℕ → Where) (ph : Phase) (homes : List (maybe.Option (Slot P C))) → get_elem? s.views id ≡ some v → v.job ≡ Some job → r.stop ≡ false → new ≡ word_of stop half n
+  pub settle : (s : T) (r : L s) (id : ℕ) (v : V) (new half n : ℕ) (stop : Bool) (at : ℕ → Where) (ph : Phase) (homes : List (maybe.Option (Slot P C))) → get_elem? s.views id ≡ some v →
+      v.job ≡ Some job → r.stop ≡ false → new ≡ word_of stop half n
       → claim windows ready done common ended job s r % 2 ^ 63 ≤ new % 2 ^ 63 → half ≤ 1000000 → n ≤ windows job → half * windows job + n ≡ r.half * windows job + r.n → length homes ≡ windows job + 1
       → ((x : ℕ) → done_once (windows job) half r.mask ph x ≡ done_once (windows job) r.half r.mask r.phase x) → InPhase windows ready done common ended job homes half n r.mask stop at ph
-      → InHands (set s.views id (record v { activity = Idle; found = new })) (windows job) at ph → ((j : ℕ) (u : V) → j ≢ id → Knows windows job r.half r.at r.phase j u u.activity → Knows windows job half at ph j u u.activity)
+      → InHands (set s.views id (record v { activity = Idle; found = new })) (windows job) at ph →
+      ((j : ℕ) (u : V) → j ≢ id → Knows windows job r.half r.at r.phase j u u.activity → Knows windows job half at ph j u u.activity)
       → L record { words = set s.words 0 new; homes = homes; views = set s.views id (record v { activity = Idle; found = new }) }
   settle s r id v new half n stop at ph homes there is going new_is up small most same long dones phase_is hands others =
       let m : ℕ = windows job in let c : ℕ = claim windows ready done common ended job s r in let w : V = record v { activity = Idle; found = new } in
@@ -74,11 +77,21 @@ module _ {J P C : Type 0} (windows : J → ℕ) (ready done : J → ℕ → ℕ 
         most = most;
         size = r.size;
         slots = long;
-        draws = λ x. let t = total_set (λ (u : V). times x u.drawn) s.views id v w there in let d = r.draws x in let e : once_below x (half * m + n) ≡ once_below x (r.half * m + r.n) = ap (once_below x) same in omega arith;
-        dones = λ x. (let t = total_set (λ (u : V). times x u.done) s.views id v w there in let e : total (λ (u : V). times x u.done) (set s.views id w) ≡ total (λ (u : V). times x u.done) s.views = omega arith in e) ∙ r.dones x ∙ sym (dones x);
+        draws = λ x. let t = total_set (λ (u : V). times x u.drawn) s.views id v w there in let d = r.draws x in
+            let e : once_below x (half * m + n) ≡ once_below x (r.half * m + r.n) = ap (once_below x) same in omega arith;
+        dones = λ x. (let t = total_set (λ (u : V). times x u.done) s.views id v w there in
+            let e : total (λ (u : V). times x u.done) (set s.views id w) ≡ total (λ (u : V). times x u.done) s.views = omega arith in e) ∙ r.dones x ∙ sym (dones x);
         in_phase = phase_is;
         in_hands = hands;
         each_seat = λ j u e. subst (λ (z : ℕ). Seated windows job z half at ph j u) new_is (set_each (Seated windows job new half at ph) s.views id w mine'
             (λ i q ne f. let old = r.each_seat i q f in
-            record { found_is = rises q.found c new low up old.found_is; found_drawn = old.found_drawn; loaded_is = old.loaded_is; loaded_drawn = old.loaded_drawn; below = old.below; job_is = old.job_is; knows = others i q ne old.knows }) j u e);
+            record {
+              found_is = rises q.found c new low up old.found_is;
+              found_drawn = old.found_drawn;
+              loaded_is = old.loaded_is;
+              loaded_drawn = old.loaded_drawn;
+              below = old.below;
+              job_is = old.job_is;
+              knows = others i q ne old.knows;
+            }) j u e);
       }

@@ -37,7 +37,8 @@ module _ {J : Type 0} (windows : J → ℕ) (job : J) (half id t : ℕ) (at : �
   work_on j u Reset ne q = let f : running ≡ resetting j = sym runs ∙ q.0 in cc
 
   -- where no other window is out, no other works
-  pub none_works : ((j i : ℕ) → i < windows job → i ≢ t → at i ≡ out j → ⊥) → (j : ℕ) (u : View J) (x : Activity) → j ≢ id → Knows windows job half at ph j u x → Knows windows job half at (turning id) j u x
+  pub none_works : ((j i : ℕ) → i < windows job → i ≢ t → at i ≡ out j → ⊥) → (j : ℕ) (u : View J) (x : Activity) → j ≢ id → Knows windows job half at ph j u x →
+      Knows windows job half at (turning id) j u x
   none_works none_out j u Idle ne q = tt
   none_works none_out j u (Working i) ne q = absurd (none_out j i q.3 (apart j i ne q.1) q.1)
   none_works none_out j u Turning ne q = let f : running ≡ turning j = sym runs ∙ q.0 in cc

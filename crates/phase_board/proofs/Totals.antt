@@ -1,4 +1,4 @@
--- Sums over all views, where one view changes, and how often a number stands in a list.
+-- Sums over all views, where one view changes, and how often a number is in a list.
 use Rattle.std.proofs.Common.{◌≡◌, ℕ, zero, suc, ◌+◌, ◌<◌, ◌≤◌, List, [], ◌∷◌, ◌++◌, set, sym, ap, arith}
 use mathlib.Core.Option.{some, some-injective, some-ne-none}
 use lib.ListN.{get_elem?}

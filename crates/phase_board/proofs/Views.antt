@@ -33,7 +33,8 @@ module _ {J : Type 0} where
   pub not_idle : (v : View J) (x : Activity) → v.activity ≡ Idle → x ≢ Idle → v.activity ≢ x
   not_idle v x is ne e = ne (sym e ∙ is)
 
-  pub hands : (views views' : List (View J)) (m : ℕ) (at : ℕ → Where) → ((j : ℕ) (x : Activity) → x ≢ Idle → IsAt views j x → IsAt views' j x) → (ph : Phase) → InHands views m at ph → InHands views' m at ph
+  pub hands : (views views' : List (View J)) (m : ℕ) (at : ℕ → Where) → ((j : ℕ) (x : Activity) → x ≢ Idle → IsAt views j x → IsAt views' j x) → (ph : Phase) → InHands views m at ph →
+      InHands views' m at ph
   hands views views' m at keep running h = λ t j l e. keep j (Working t) (λ q. cc) (h t j l e)
   hands views views' m at keep (turning j) h = keep j Turning (λ q. cc) h
   hands views views' m at keep (resetting j) h = keep j Reset (λ q. cc) h

@@ -34,7 +34,7 @@ module _ {J P C : Type 0} (windows : J → ℕ) (ready done : J → ℕ → ℕ 
     pub dones : (x : ℕ) → total (λ u. times x u.done) s.views ≡ once_below x ((h + 1) * windows job)
 
 module _ {P C J : Type 0} {G : Ghosts P C J} where
-  -- in a state that was stopped at this half the seat stands at its own place, beside the common value
+  -- in a state that was stopped at this half the seat is at its own place, beside the common value
   abbrev pub AllDrawnAndDone : J → ℕ → Idle P C J G → C → Type 0
   AllDrawnAndDone job half seat c = (s : State (Slot P C) (View J))
       × StoppedState G.windows G.ready G.done G.common G.ended job half seat.seat.id (idle_view seat) c s

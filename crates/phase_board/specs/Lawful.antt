@@ -70,7 +70,7 @@ module _ {J : Type 0} where
   InHands views windows at (resetting j) = IsAt views j Reset
   InHands views windows at stopped = Unit {0}
 
--- how often a number stands in all done lists: those below half * windows once, and half * windows + t once
+-- how often a number is in all done lists: those below half * windows once, and half * windows + t once
 -- where window t is done
 abbrev pub done_once : ℕ → ℕ → ℕ → Phase → ℕ → ℕ
 done_once windows half mask running x =
@@ -81,7 +81,7 @@ done_once windows half mask (resetting j) x = once_below x ((half + 1) * windows
 done_once windows half mask stopped x =
     if ltb x (half * windows) then 1 else bit_at mask (x - half * windows)
 
--- where the piece of window t stands, and what it is
+-- where the piece of window t is, and what it is
 module _ {P C : Type 0} (ready done : ℕ → P → Type 0) (homes : List (maybe.Option (Slot P C)))
     (n mask t : ℕ) where
   abbrev pub Stands : Where → Type 0

@@ -1,4 +1,4 @@
--- How often a number stands in lists.
+-- How often a number is in lists.
 use Rattle.std.specs.Prelude.{◌≡◌, ℕ, ◌+◌, ◌≤◌, List, [], ◌∷◌, if◌then◌else◌, ◌==◌, ltb}
 
 abbrev pub times : ℕ → List ℕ → ℕ
@@ -10,7 +10,7 @@ abbrev pub total : {A : Type 0} → (A → ℕ) → List A → ℕ
 total f [] = 0
 total f (x ∷ xs) = f x + total f xs
 
--- each number below the bound stands once, and no other
+-- each number below the bound once, and no other
 abbrev pub once_below : ℕ → ℕ → ℕ
 once_below x bound = if ltb x bound then 1 else 0
 

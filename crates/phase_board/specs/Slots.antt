@@ -31,7 +31,7 @@ module _ {P C : Type 0} (windows : ℕ) where
       × AllPieces windows G ps
 
   -- the first i of the pieces are in the vector, and the others in the slots that a seat has
-  abbrev pub Gathering : (ℕ → P → Type 0) → ℕ → List (ℕ × Slot P C) → Vec P Global → Type 0
-  Gathering G i c v = (ps : List P) × AllPieces windows G ps
+  abbrev pub TakingOut : (ℕ → P → Type 0) → ℕ → List (ℕ × Slot P C) → Vec P Global → Type 0
+  TakingOut G i c v = (ps : List P) × AllPieces windows G ps
       × (c ≡ numbered (i + 1) (map Piece (drop i ps)) ++ (0, Empty) ∷ numbered 1 (replicate i Empty))
       × (v.items ≡ take i ps) × (windows ≤ vec_capacity v)

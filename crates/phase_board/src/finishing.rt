@@ -37,6 +37,6 @@ impl<P: Piece> Board<P> {
         if old | bit != self.all() {
             return Finish::Given(Idle { seat, found: stale });
         }
-        Finish::Last(self.gather(seat, half))
+        Finish::Last(self.take_out(seat, half))
     }
 }

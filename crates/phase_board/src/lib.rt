@@ -8,13 +8,13 @@ mod claiming;
 mod closed;
 mod closing;
 mod finishing;
-mod gathering;
 mod making;
 mod piece;
 mod plays;
-mod scattering;
+mod putting_back;
 mod seating;
 mod seats;
+mod taking_out;
 mod turning;
 mod view;
 

@@ -51,7 +51,8 @@ module _ {J D : Type 0} (answers : J → D → Type 0) where
         → (views' : List (Option (List J))) (j : ℕ) (u : Option (List J)) → get_elem? (set views pass v) j ≡ some u → KnowsJobs answers r.jobs items' views' u
     stays items items' views r at views' j u e =
         ⊎_elim (λ (q : (j ≡ pass) × (v ≡ u)). subst (KnowsJobs answers r.jobs items' views') (sym is ∙ q.1) (known items views r at))
-        (λ (q : (j ≢ pass) × (get_elem? views j ≡ some u)). others r.jobs items items' views views' u (r.knows j u q.1) (λ lone. q.0 (only_one views j pass u v lone q.1 at))) (at_set views pass j v u e)
+        (λ (q : (j ≢ pass) × (get_elem? views j ≡ some u)). others r.jobs items items' views views' u (r.knows j u q.1) (λ lone. q.0 (only_one views j pass u v lone q.1 at)))
+        (at_set views pass j v u e)
 
     pub tells_one : (n : ℕ) (x : Slip J D) → IsSlipFor answers jobs x → Pushes (IsAnswered answers) n pass v x (λ w. w ≡ v)
     tells_one n x fits items views room r at = (

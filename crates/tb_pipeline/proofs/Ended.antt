@@ -9,7 +9,7 @@ use Rattle.tb_pipeline.specs.Relays.{all_items, times, times_taken, EndsBy, IsRe
 use Rattle.tb_pipeline.proofs.Lists.{at_place, below_once, once_at, times_last, total_at}
 
 module _ (items : List Item) (views : List Known) (state : IsRelayed items views) (count hands : ℕ) (some_has : SomeHasEnded count hands views) where
-  -- the end mark that it popped stands behind the numbers
+  -- the end mark that it popped is after the numbers
   pub numbers_popped : count < state.g
   numbers_popped =
       let j = some_has.0 in let v = some_has.1 in let here = some_has.2 in
@@ -19,7 +19,7 @@ module _ (items : List Item) (views : List Known) (state : IsRelayed items views
       let most = total_at (λ (u : Known). times last u.places) views j v here in let sum = state.taken last in
       let popped : last < state.g = below_once last state.g (omega arith) in
       ⊎_elim (λ (p : (Number last ≡ EndMark) × (last < count)). let f = p.0 in cc)
-      (λ (p : (EndMark ≡ EndMark) × (count ≤ last) × (last < count + hands)). let behind = p.1 in omega arith) (at_place count hands last EndMark mark)
+      (λ (p : (EndMark ≡ EndMark) × (count ≤ last) × (last < count + hands)). let past = p.1 in omega arith) (at_place count hands last EndMark mark)
 
   pub number_taken : (number : ℕ) → number < count → times_taken number views ≡ 1
   number_taken number below = let more = numbers_popped in state.taken number ∙ once_at number state.g (omega arith)

@@ -35,16 +35,17 @@ pub times_append : (x : ℕ) (xs ys : List ℕ) → times x (xs ++ ys) ≡ times
 times_append x [] ys = omega arith
 times_append x (y ∷ xs) ys = let t = times_append x xs ys in omega arith
 
--- whoever stands in a list stands there once at least
+-- what is in a list is there once at least
 pub times_last : (places : List ℕ) (x : ℕ) → 1 ≤ times x (places ++ x ∷ [])
 times_last places x = let t = times_append x places (x ∷ []) in let one : times x (x ∷ []) ≡ 1 = grind (arith, nat_tests) in omega arith
 
--- a number is above a list in which neither it nor a greater one stands
+-- a number is above a list in which neither it nor a greater one is
 pub above_each : (places : List ℕ) (place : ℕ) → ((k : ℕ) → place ≤ k → times k places ≡ 0) → IsAbove places place
 above_each [] place none = All-nil (λ (earlier : ℕ). earlier < place)
 above_each (y ∷ places) place none =
     All-cons (λ (earlier : ℕ). earlier < place) y places
-    (⊎_elim (λ (below : y < place). below) (λ (above : place ≤ y). absurd (let n : times y (y ∷ places) ≡ 0 = none y above in let o : times y (y ∷ []) ≡ 1 = grind (arith, nat_tests) in omega arith)) (cases_lt y place))
+    (⊎_elim (λ (below : y < place). below) (λ (above : place ≤ y). absurd (let n : times y (y ∷ places) ≡ 0 = none y above in let o : times y (y ∷ []) ≡ 1 = grind (arith, nat_tests) in omega arith))
+    (cases_lt y place))
     (above_each places place (λ k le. let n : times k (y ∷ places) ≡ 0 = none k le in omega arith))
 
 pub once_more : (x n : ℕ) → once_below x (n + 1) ≡ once_below x n + times x (n ∷ [])
@@ -93,7 +94,7 @@ at_number zero j x e = absurd (some-ne-none x (sym e))
 at_number (suc n) j x e = ⊎_elim (λ (p : get_elem? (numbers n) j ≡ some x). let t = at_number n j x p in (t.0, (let l = t.1 in omega arith)))
     (λ (p : (j ≡ length (numbers n)) × (Number n ≡ x)). let same : j ≡ n = p.0 ∙ length_numbers n in (ap Number same ∙ p.1, omega arith)) (at_end (numbers n) (Number n) x j e)
 
--- what stands at a place: its number below the count, and else an end mark
+-- what is at a place: its number below the count, and else an end mark
 pub at_place : (count hands j : ℕ) (x : Item) → get_elem? (all_items count hands) j ≡ some x
     → ((Number j ≡ x) × (j < count)) ⊎ ((EndMark ≡ x) × (count ≤ j) × (j < count + hands))
 at_place count zero j x e = inl (at_number count j x e)

@@ -50,7 +50,8 @@ pops_one pass v takes going_on x items views r at =
         items_are = first.1 ∙ (let e : suc r.g ≡ r.g + 1 = omega arith in ap (λ (k : ℕ). drop k r.put) e);
         within = (let a = first.2 in omega arith);
         taken = λ y. let t = total_set (λ (u : Known). times y u.places) views pass v w at in let d = r.taken y in let o = once_more y r.g in let g = times_append y v.places (r.g ∷ []) in omega arith;
-        knows = λ j u e. ⊎_elim (λ (q : (j ≡ pass) × (w ≡ u)). ap (λ (z : Known). z.all) (sym q.1) ∙ all_is) (λ (q : (j ≢ pass) × (get_elem? views j ≡ some u)). r.knows j u q.1) (at_set views pass j w u e);
+        knows = λ j u e. ⊎_elim (λ (q : (j ≡ pass) × (w ≡ u)). ap (λ (z : Known). z.all) (sym q.1) ∙ all_is) (λ (q : (j ≢ pass) × (get_elem? views j ≡ some u)). r.knows j u q.1)
+            (at_set views pass j w u e);
         ends = λ j u e. ⊎_elim (λ (q : (j ≡ pass) × (w ≡ u)). subst (λ (z : Known). EndsBy z.ended z.all z.places) q.1 (ends_more v.all v.places r.g x here before))
             (λ (q : (j ≢ pass) × (get_elem? views j ≡ some u)). r.ends j u q.1) (at_set views pass j w u e);
         alone = λ j u e o. ⊎_elim (λ (q : (j ≡ pass) × (w ≡ u)). let f : Taking ≡ Filling = sym takes ∙ ap (λ (z : Known). z.role) q.1 ∙ o in cc)
@@ -83,10 +84,13 @@ puts_one n pass v x fills order items views room r at =
         items_are = ap (λ (l : List Item). l ++ x ∷ []) r.items_are ∙ sym (drop-append-le r.g r.put (x ∷ []) r.within);
         within = (let a = r.within in let b = length-append r.put (x ∷ []) in omega arith);
         taken = λ y. let t = total_set (λ (u : Known). times y u.places) views pass v w at in let d = r.taken y in let z : times y v.places ≡ 0 = ap (times y) none in omega arith;
-        knows = λ j u e. ⊎_elim (λ (q : (j ≡ pass) × (w ≡ u)). ap (λ (z : Known). z.all) (sym q.1)) (λ (q : (j ≢ pass) × (get_elem? views j ≡ some u)). absurd (q.0 (only_one views j pass u v lone q.1 at))) (at_set views pass j w u e);
-        ends = λ j u e. ⊎_elim (λ (q : (j ≡ pass) × (w ≡ u)). subst (λ (z : Known). EndsBy z.ended z.all z.places) q.1 tt) (λ (q : (j ≢ pass) × (get_elem? views j ≡ some u)). r.ends j u q.1) (at_set views pass j w u e);
+        knows = λ j u e. ⊎_elim (λ (q : (j ≡ pass) × (w ≡ u)). ap (λ (z : Known). z.all) (sym q.1))
+            (λ (q : (j ≢ pass) × (get_elem? views j ≡ some u)). absurd (q.0 (only_one views j pass u v lone q.1 at))) (at_set views pass j w u e);
+        ends = λ j u e. ⊎_elim (λ (q : (j ≡ pass) × (w ≡ u)). subst (λ (z : Known). EndsBy z.ended z.all z.places) q.1 tt) (λ (q : (j ≢ pass) × (get_elem? views j ≡ some u)). r.ends j u q.1)
+            (at_set views pass j w u e);
         alone = λ j u e o. length-set views pass w ∙ lone;
-        hands_pop = λ j u e o. ⊎_elim (λ (q : (j ≡ pass) × (w ≡ u)). ap (λ (z : Known). z.places) (sym q.1)) (λ (q : (j ≢ pass) × (get_elem? views j ≡ some u)). r.hands_pop j u q.1 o) (at_set views pass j w u e);
+        hands_pop = λ j u e o. ⊎_elim (λ (q : (j ≡ pass) × (w ≡ u)). ap (λ (z : Known). z.places) (sym q.1)) (λ (q : (j ≢ pass) × (get_elem? views j ≡ some u)). r.hands_pop j u q.1 o)
+            (at_set views pass j w u e);
       },
       (refl, ap (λ (l : List Item). l ++ x ∷ []) (sym is)),
     )
@@ -101,9 +105,11 @@ deals_one pass v fills items views r at =
       items_are = r.items_are;
       within = r.within;
       taken = λ y. let t = total_set (λ (u : Known). times y u.places) views pass v left at in let s = total_snoc (λ (u : Known). times y u.places) mid (hand_of v) in let d = r.taken y in omega arith;
-      knows = λ j u e. ⊎_elim (λ (m : get_elem? mid j ≡ some u). ⊎_elim (λ (q : (j ≡ pass) × (left ≡ u)). ap (λ (z : Known). z.all) (sym q.1) ∙ r.knows pass v at) (λ (q : (j ≢ pass) × (get_elem? views j ≡ some u)). r.knows j u q.1) (at_set views pass j left u m))
+      knows = λ j u e. ⊎_elim (λ (m : get_elem? mid j ≡ some u). ⊎_elim (λ (q : (j ≡ pass) × (left ≡ u)). ap (λ (z : Known). z.all) (sym q.1) ∙ r.knows pass v at)
+          (λ (q : (j ≢ pass) × (get_elem? views j ≡ some u)). r.knows j u q.1) (at_set views pass j left u m))
           (λ (q : hand_of v ≡ u). ap (λ (z : Known). z.all) (sym q) ∙ r.knows pass v at) (at_snoc mid (hand_of v) u j e);
-      ends = λ j u e. ⊎_elim (λ (m : get_elem? mid j ≡ some u). ⊎_elim (λ (q : (j ≡ pass) × (left ≡ u)). subst (λ (z : Known). EndsBy z.ended z.all z.places) q.1 (r.ends pass v at)) (λ (q : (j ≢ pass) × (get_elem? views j ≡ some u)). r.ends j u q.1) (at_set views pass j left u m))
+      ends = λ j u e. ⊎_elim (λ (m : get_elem? mid j ≡ some u). ⊎_elim (λ (q : (j ≡ pass) × (left ≡ u)). subst (λ (z : Known). EndsBy z.ended z.all z.places) q.1 (r.ends pass v at))
+          (λ (q : (j ≢ pass) × (get_elem? views j ≡ some u)). r.ends j u q.1) (at_set views pass j left u m))
           (λ (q : hand_of v ≡ u). subst (λ (z : Known). EndsBy z.ended z.all z.places) q tt) (at_snoc mid (hand_of v) u j e);
       alone = λ j u e o. ⊎_elim (λ (m : get_elem? mid j ≡ some u). ⊎_elim (λ (q : (j ≡ pass) × (left ≡ u)). let f : Filled ≡ Filling = ap (λ (z : Known). z.role) q.1 ∙ o in cc)
           (λ (q : (j ≢ pass) × (get_elem? views j ≡ some u)). absurd (q.0 (only_one views j pass u v (r.alone j u q.1 o) q.1 at))) (at_set views pass j left u m))

@@ -26,7 +26,7 @@ abbrev pub total : {A : Type 0} → (A → ℕ) → List A → ℕ
 total f [] = 0
 total f (x ∷ xs) = f x + total f xs
 
--- how often x stands in a list
+-- how often x is in a list
 abbrev pub times : ℕ → List ℕ → ℕ
 times x [] = 0
 times x (y ∷ ys) = (if y == x then 1 else 0) + times x ys
@@ -39,11 +39,11 @@ abbrev pub is_end_mark : Item → Bool
 is_end_mark (Number n) = false
 is_end_mark EndMark = true
 
--- at this place stands an end mark
+-- at this place is an end mark
 abbrev pub IsEndAt : List Item → ℕ → Type 0
 IsEndAt all place = get_elem? all place ≡ some EndMark
 
--- at none of these places stands an end mark
+-- at none of these places is an end mark
 abbrev pub NoEndAt : List Item → List ℕ → Type 0
 NoEndAt all [] = ⊤
 NoEndAt all (place ∷ places) = ¬ IsEndAt all place × NoEndAt all places
@@ -65,13 +65,13 @@ IsFiller v = ¬ (v.role ≡ Taking)
 abbrev pub hand_of : Known → Known
 hand_of v = record { all = v.all; role = Taking; places = []; ended = false }
 
--- how often the place x stands in the lists of all hands
+-- how often the place x is in the lists of all hands
 abbrev pub times_taken : ℕ → List Known → ℕ
 times_taken x views = total (λ v. times x v.places) views
 
 -- Of all items that were put, in order, g were popped, and the queue holds the others. Each place below g
--- stands once in the lists of all hands, and no other place does. A hand has ended exactly where an end mark
--- stands at the last of its places. Who fills is alone, and pops nothing.
+-- is once in the lists of all hands, and no other place does. A hand has ended exactly where an end mark
+-- is at the last of its places. Who fills is alone, and pops nothing.
 pub record IsRelayed (items : List Item) (views : List Known) : Type 0 where
   pub put : List Item
   pub g : ℕ

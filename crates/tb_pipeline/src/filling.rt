@@ -61,7 +61,8 @@ pub(crate) fn deal(queue: &Line, filler: &mut Pass<Item, Known>, hands: usize, m
     ensures queue { IsPassOf queue.now filler.new }
     ensures all { (view filler.new).all ≡ (view filler.old).all }
     ensures count { length made.new.items ≡ hands }
-    ensures made { All (λ h. IsPassOf queue.now h.pass × (hand_view h ≡ hand_of (view filler.old))) made.new.items }
+    ensures made { All (λ h. IsPassOf queue.now h.pass × (hand_view h ≡ hand_of (view filler.old)))
+        made.new.items }
 {
     for _ in 0..hands {
         made.push_reserved(Hand {

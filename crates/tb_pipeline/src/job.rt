@@ -1,6 +1,6 @@
 //! Jobs, and what a worker passes before each.
 
-/// A job. Threads share it. One that needs memory holds the allocator that it uses, and its want of
+/// A job. Threads share it. One that needs memory holds the allocator that it uses, and its running out of
 /// memory is a value of its `Done`.
 pub trait Job {
     /// What a job gives.

@@ -7,7 +7,7 @@ use crossbeam_queue::protocol::{Outcome, Protocol, Split};
 use std::alloc::Global;
 use std::collections::LinkedList;
 
-/// What stands in the queue of a relay.
+/// What the queue of a relay holds.
 #[derive(Clone, Copy)]
 pub enum Item {
     /// The number of a job.

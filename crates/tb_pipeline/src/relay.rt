@@ -1,7 +1,7 @@
 //! A relay hands out the numbers of jobs.
 ghost use Rattle.std.specs.Prelude.{◌≡◌, ◌+◌, ◌≤◌, false, length, All, IfOk};
-ghost use Rattle.tb_pipeline.specs.Hands.{IsHandOf, IsNewHandOf, IsNextOf, hand_view, relay_count, relay_hands};
-ghost use Rattle.tb_pipeline.specs.Hands.{relay_items, relay_room};
+ghost use Rattle.tb_pipeline.specs.Hands.{IsHandOf, IsNewHandOf, IsNextOf, hand_view};
+ghost use Rattle.tb_pipeline.specs.Hands.{relay_count, relay_hands, relay_items, relay_room};
 ghost use Rattle.tb_pipeline.specs.Relays.{all_items};
 
 use crate::filling::{deal, fill};
@@ -42,7 +42,7 @@ impl Relay {
         Ok((relay, made))
     }
 
-    /// Takes what stands first in the queue, however often other hands are in the way.
+    /// Takes what is first in the queue, however often other hands are in the way.
     pub fn take<R: Wait>(&self, rt: &R, hand: Hand) -> Next
         requires hand { IsHandOf self.now hand }
         requires going_on { (hand_view hand).ended ≡ false }

@@ -1,4 +1,4 @@
-//! What stands in the queue of answers, what its passes know, and what a step tells.
+//! What the queue of answers holds, what its passes know, and what a step tells.
 ghost use Rattle.std.specs.Prelude.{◌≡◌, None, ⊤};
 ghost use Rattle.tb_pipeline.specs.Slips.{IsAnswered, asks, came};
 
@@ -10,7 +10,7 @@ use std::collections::LinkedList;
 use std::marker::PhantomData;
 use std::snapshot::Snapshot;
 
-/// What stands in the queue of answers.
+/// What the queue of answers holds.
 #[derive(Drop)]
 pub enum Slip<J, D> {
     /// The jobs that are asked: this comes first.

@@ -77,8 +77,9 @@ where
                 × IsPassOf answers.now.queue teller.pass × (view teller.pass ≡ Some jobs.now) }
         { work(rt, relay, hand, jobs, start, answers, teller) },
         move ||
-            requires { IsSync R.row × IsSync G.row × IsSync J.row × IsSend J.Done.row × (relay_count relay.now ≡ length jobs.now)
-                × All (IsNewHandOf relay.now) hands.items × IsPassOf answers.now.queue other.pass
+            requires { IsSync R.row × IsSync G.row × IsSync J.row × IsSend J.Done.row
+                × (relay_count relay.now ≡ length jobs.now) × All (IsNewHandOf relay.now) hands.items
+                × IsPassOf answers.now.queue other.pass
                 × (view other.pass ≡ Some jobs.now) }
         { work_all(rt, relay, hands, jobs, start, answers, other) },
     );

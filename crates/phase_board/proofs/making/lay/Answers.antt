@@ -17,18 +17,21 @@ loop-i-init g c =
 
 pub push_reserved-requires : goal.push_reserved-requires
 push_reserved-requires g c =
-    let inv = c.loop-i.invariant in let a = c.loop-i.slots.ok.0 in let b = inv.2 in let d = inv.3 in let e = c.loop-i-test.true in let f = c.len-i-end.ensures in let h = c.args.pieces.ok.0 in omega arith
+    let inv = c.loop-i.invariant in let a = c.loop-i.slots.ok.0 in let b = inv.2 in let d = inv.3 in let e = c.loop-i-test.true in let f = c.len-i-end.ensures in let h = c.args.pieces.ok.0 in
+    omega arith
 
 pub unreachable-requires : goal.unreachable-requires
 unreachable-requires g c =
-    let inv = c.loop-i.invariant in let a = c.in-None.ensures.cases.0 in let b = c.loop-i.pieces.ok.0 in let d = inv.1 in let e = c.loop-i-test.true in let f = c.len-i-end.ensures in let h = c.args.pieces.ok.0 in omega arith
+    let inv = c.loop-i.invariant in let a = c.in-None.ensures.cases.0 in let b = c.loop-i.pieces.ok.0 in let d = inv.1 in let e = c.loop-i-test.true in let f = c.len-i-end.ensures in
+    let h = c.args.pieces.ok.0 in omega arith
 
 pub loop-i-preserved : goal.loop-i-preserved
 loop-i-preserved g c =
     let inv = c.loop-i.invariant in let popped = c.in-Some.ensures in let pushed = c.push_reserved.ensures in
     let less : length c.loop-i.pieces.items ≡ length c.pop.new.self.items + 1 = ap length popped.items ∙ length-append c.pop.new.self.items (c.in-Some.piece ∷ []) in
     let more : length c.push_reserved.new.self.items ≡ length c.loop-i.slots.items + 1 = ap length pushed.items ∙ length-append c.loop-i.slots.items (Holds c.in-Some.piece ∷ []) in (
-      ap (λ ss. all_of _ _ c.pop.new.self.items ss) pushed.items ∙ sym (over _ _ c.pop.new.self.items c.in-Some.piece c.loop-i.slots.items) ∙ ap (λ ps. all_of _ _ ps c.loop-i.slots.items) (sym popped.items) ∙ inv.0,
+      ap (λ ss. all_of _ _ c.pop.new.self.items ss) pushed.items ∙ sym (over _ _ c.pop.new.self.items c.in-Some.piece c.loop-i.slots.items)
+          ∙ ap (λ ps. all_of _ _ ps c.loop-i.slots.items) (sym popped.items) ∙ inv.0,
       (let a = inv.1 in omega arith),
       (let a = inv.2 in omega arith),
       (let a = inv.3 in let b = pushed.capacity in omega arith),
@@ -37,7 +40,8 @@ loop-i-preserved g c =
 
 pub push_reserved-requires-2 : goal.push_reserved-requires-2
 push_reserved-requires-2 g c =
-    let inv = c.loop-i.invariant in let a = c.loop-i.slots.ok.0 in let b = inv.2 in let d = inv.3 in let e = c.loop-i.auto.i-end in let f = c.len-i-end.ensures in let h = c.args.pieces.ok.0 in omega arith
+    let inv = c.loop-i.invariant in let a = c.loop-i.slots.ok.0 in let b = inv.2 in let d = inv.3 in let e = c.loop-i.auto.i-end in let f = c.len-i-end.ensures in let h = c.args.pieces.ok.0 in
+    omega arith
 
 pub returns-clause-laid : goal.returns-clause-laid
 returns-clause-laid g c =
@@ -45,6 +49,7 @@ returns-clause-laid g c =
     let none : c.loop-i.pieces.items ≡ [] = none_of c.loop-i.pieces.items (let a = inv.1 in let b = c.loop-i-test.false in let d = c.len-i-end.ensures in let e = c.args.pieces.ok.0 in omega arith) in
     let slots : reverse c.loop-i.slots.items ≡ map (λ p. Holds p) c.args.pieces.items = ap (λ ps. all_of _ _ ps c.loop-i.slots.items) (sym none) ∙ inv.0 in (
       c.loop-i.pieces,
-      c.reverse.ensures.items ∙ ap reverse c.push_reserved-2.ensures.items ∙ reverse-append c.loop-i.slots.items (Keeps c.args.common c.loop-i.pieces ∷ []) ∙ ap (λ l. Keeps c.args.common c.loop-i.pieces ∷ l) slots,
+      c.reverse.ensures.items ∙ ap reverse c.push_reserved-2.ensures.items ∙ reverse-append c.loop-i.slots.items (Keeps c.args.common c.loop-i.pieces ∷ [])
+          ∙ ap (λ l. Keeps c.args.common c.loop-i.pieces ∷ l) slots,
       (none, inv.4),
     )

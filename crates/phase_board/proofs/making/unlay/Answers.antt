@@ -31,12 +31,14 @@ push_reserved-requires g c =
 pub unreachable-requires-in-Some-Empty-pop : goal.unreachable-requires-in-Some-Empty-pop
 unreachable-requires-in-Some-Empty-pop g c =
     let inv = c.loop-i.invariant in let took = c.in-Some-Empty-pop in
-    let t = is_piece g.row.P.Denot g.row.P-Common.Denot c.loop-i.pieces.items c.pop-in-loop-i.new.self.items took.field-0 inv.0 (ap (λ ss. all_of _ _ c.loop-i.pieces.items ss) (sym took.ensures.items) ∙ inv.3) in not_empty _ _ took.field-0 t.0 took.field-0-is t.1
+    let t = is_piece g.row.P.Denot g.row.P-Common.Denot c.loop-i.pieces.items c.pop-in-loop-i.new.self.items took.field-0 inv.0
+    (ap (λ ss. all_of _ _ c.loop-i.pieces.items ss) (sym took.ensures.items) ∙ inv.3) in not_empty _ _ took.field-0 t.0 took.field-0-is t.1
 
 pub unreachable-requires-in-Some-Common-pop : goal.unreachable-requires-in-Some-Common-pop
 unreachable-requires-in-Some-Common-pop g c =
     let inv = c.loop-i.invariant in let took = c.in-Some-Common-pop in
-    let t = is_piece g.row.P.Denot g.row.P-Common.Denot c.loop-i.pieces.items c.pop-in-loop-i.new.self.items took.field-0 inv.0 (ap (λ ss. all_of _ _ c.loop-i.pieces.items ss) (sym took.ensures.items) ∙ inv.3) in not_common _ _ took.field-0 _ _ t.0 took.field-0-is t.1
+    let t = is_piece g.row.P.Denot g.row.P-Common.Denot c.loop-i.pieces.items c.pop-in-loop-i.new.self.items took.field-0 inv.0
+    (ap (λ ss. all_of _ _ c.loop-i.pieces.items ss) (sym took.ensures.items) ∙ inv.3) in not_common _ _ took.field-0 _ _ t.0 took.field-0-is t.1
 
 pub unreachable-requires-in-None-pop : goal.unreachable-requires-in-None-pop
 unreachable-requires-in-None-pop g c =

@@ -7,5 +7,6 @@ use Rattle.phase_board.proofs.making.unlay.Given as goal
 
 abbrev pub invariant-loop-i : goal.invariant-loop-i
 invariant-loop-i g l =
-    (ps : List g.row.P.Denot) × (room : Vec g.row.P.Denot Global) × (l.fn.slots.items ≡ Keeps l.common room ∷ holding _ _ ps) × (all_of _ _ l.pieces.items l.slots.items ≡ holding _ g.row.P-Common.Denot ps)
+    (ps : List g.row.P.Denot) × (room : Vec g.row.P.Denot Global) × (l.fn.slots.items ≡ Keeps l.common room ∷ holding _ _ ps)
+    × (all_of _ _ l.pieces.items l.slots.items ≡ holding _ g.row.P-Common.Denot ps)
     × (length l.pieces.items + length l.slots.items ≡ length ps) × (length ps ≤ vec_capacity l.pieces) × (length l.slots.items + l.i ≡ l.i-end)

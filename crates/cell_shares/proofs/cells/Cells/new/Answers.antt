@@ -21,10 +21,15 @@ invariant_of-result g c =
       some_cell = some_values c.args.values c.len-count.result c.requires.some long;
       small = c.len-count.type_inv;
       some_window = c.requires.least;
-      frees = (ap Rattle.core.specs.Mem.Slots.lease_ptr c.new.ensures ∙ (e.1 ∙ (sym f.start ∙ sym o.0)), ap Rattle.core.specs.Mem.Slots.lease_len c.new.ensures ∙ (e.2 ∙ (e.0 ∙ (ap length (c.as_slice.ensures.value ∙ c.into_vec-values.ensures) ∙ sym long))), ap Rattle.core.specs.Mem.Slots.lease_heap c.new.ensures ∙ e.3);
+      frees = (
+        ap Rattle.core.specs.Mem.Slots.lease_ptr c.new.ensures ∙ (e.1 ∙ (sym f.start ∙ sym o.0)),
+        ap Rattle.core.specs.Mem.Slots.lease_len c.new.ensures ∙ (e.2 ∙ (e.0 ∙ (ap length (c.as_slice.ensures.value ∙ c.into_vec-values.ensures) ∙ sym long))),
+        ap Rattle.core.specs.Mem.Slots.lease_heap c.new.ensures ∙ e.3,
+      );
       empty = c.in-Ok-with_capacity.ensures.items;
       has_room = c.in-Ok-with_capacity.ensures.capacity;
     }
 
 pub returns-clause-values : goal.returns-clause-values
-returns-clause-values g c = let items : slots_items c.fill.new.row ≡ c.args.values = c.fill.ensures.items ∙ (c.as_slice-2.ensures.value ∙ c.into_vec-values.ensures) in ap values c.of.ensures.2 ∙ (values-numbered 0 (slots_items c.fill.new.row) ∙ items)
+returns-clause-values g c = let items : slots_items c.fill.new.row ≡ c.args.values = c.fill.ensures.items ∙ (c.as_slice-2.ensures.value ∙ c.into_vec-values.ensures) in
+    ap values c.of.ensures.2 ∙ (values-numbered 0 (slots_items c.fill.new.row) ∙ items)

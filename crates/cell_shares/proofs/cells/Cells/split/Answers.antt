@@ -12,7 +12,8 @@ use Rattle.cell_shares.proofs.cells.Cells.split.Goals as goal
 pub arrange-rest-requires : goal.arrange-rest-requires
 arrange-rest-requires g c =
     let s = c.args.self in
-    subst (λ (l : List ℕ). Shuffled l (order_places c.args.order s.part.count)) (sym (s.numbered ∙ ap (Rattle.std.specs.List.range_with_len 0) s.counted)) (dealt_places c.args.order s.part.count c.requires.order)
+    subst (λ (l : List ℕ). Shuffled l (order_places c.args.order s.part.count)) (sym (s.numbered ∙ ap (Rattle.std.specs.List.range_with_len 0) s.counted))
+    (dealt_places c.args.order s.part.count c.requires.order)
 
 pub loop-number-init : goal.loop-number-init
 loop-number-init g c =
@@ -55,7 +56,9 @@ push_reserved-requires g c = let inv = c.loop-number.invariant in let room = inv
 
 pub new-requires-2-clause-dealt : goal.new-requires-2-clause-dealt
 new-requires-2-clause-dealt g c =
-    let s = c.args.self in let l = c.loop-number in let last : 1 + l.number ≡ s.windows = (let f = c.loop-number-test.false in let e = l.auto.number-end in let m = s.some_window in omega (arith, f, e, m)) in let t : l.number ≡ s.windows - 1 = omega (arith, last) in
+    let s = c.args.self in let l = c.loop-number in
+    let last : 1 + l.number ≡ s.windows = (let f = c.loop-number-test.false in let e = l.auto.number-end in let m = s.some_window in omega (arith, f, e, m)) in
+    let t : l.number ≡ s.windows - 1 = omega (arith, last) in
     last_places s c.args.order l.number l.rest l.shares.items l.invariant.0 last ∙ ap (share_places c.args.order s.width) t
 
 pub new-requires-2-clause-counted : goal.new-requires-2-clause-counted
@@ -63,23 +66,37 @@ new-requires-2-clause-counted g c = let d = c.loop-number.invariant.0 in c.args.
 
 pub new-requires-2-clause-frees : goal.new-requires-2-clause-frees
 new-requires-2-clause-frees g c =
-    let s = c.args.self in let l = c.loop-number in let last : 1 + l.number ≡ s.windows = (let f = c.loop-number-test.false in let e = l.auto.number-end in let m = s.some_window in omega (arith, f, e, m)) in let t : l.number ≡ s.windows - 1 = omega (arith, last) in let inv = l.invariant in let d = inv.0 in (
+    let s = c.args.self in let l = c.loop-number in
+    let last : 1 + l.number ≡ s.windows = (let f = c.loop-number-test.false in let e = l.auto.number-end in let m = s.some_window in omega (arith, f, e, m)) in
+    let t : l.number ≡ s.windows - 1 = omega (arith, last) in let inv = l.invariant in let d = inv.0 in (
       λ r is. let f = inv.3.0 r is in (sym t ∙ f.0, (f.1.0 ∙ sym d.start, f.1.1, f.1.2)),
       λ is zero. inv.3.1 is (t ∙ zero),
     )
 
 pub push_reserved-requires-2 : goal.push_reserved-requires-2
 push_reserved-requires-2 g c =
-    let s = c.args.self in let l = c.loop-number in let last : 1 + l.number ≡ s.windows = (let f = c.loop-number-test.false in let e = l.auto.number-end in let m = s.some_window in omega (arith, f, e, m)) in let room = l.invariant.1 in let long = l.invariant.2 in omega (arith, room, long, last)
+    let s = c.args.self in let l = c.loop-number in
+    let last : 1 + l.number ≡ s.windows = (let f = c.loop-number-test.false in let e = l.auto.number-end in let m = s.some_window in omega (arith, f, e, m)) in let room = l.invariant.1 in
+    let long = l.invariant.2 in omega (arith, room, long, last)
 
 pub returns-clause-shares : goal.returns-clause-shares
 returns-clause-shares g c =
-    let s = c.args.self in let l = c.loop-number in let last : 1 + l.number ≡ s.windows = (let f = c.loop-number-test.false in let e = l.auto.number-end in let m = s.some_window in omega (arith, f, e, m)) in let n = c.new-2.ensures in let d = l.invariant.0 in
-    let label = label_of s c.args.order l.number c.new-2.result (ap (λ p. p.ptr) n.0 ∙ d.start) (ap (λ p. p.count) n.0 ∙ d.count) (ap (λ x. x.windows) n.2) (ap (λ x. x.order) n.2) (n.3 ∙ (let t : s.windows - 1 ≡ l.number = omega (arith, last) in t)) in
-    (s.some_window, ap (Rattle.std.proofs.Common.map Rattle.cell_shares.specs.Shares.share_label) c.push_reserved-2.ensures.items ∙ all_labels s c.args.order l.number l.rest l.shares.items d c.new-2.result label last)
+    let s = c.args.self in let l = c.loop-number in
+    let last : 1 + l.number ≡ s.windows = (let f = c.loop-number-test.false in let e = l.auto.number-end in let m = s.some_window in omega (arith, f, e, m)) in let n = c.new-2.ensures in
+    let d = l.invariant.0 in
+    let label = label_of s c.args.order l.number c.new-2.result (ap (λ p. p.ptr) n.0 ∙ d.start) (ap (λ p. p.count) n.0 ∙ d.count) (ap (λ x. x.windows) n.2) (ap (λ x. x.order) n.2)
+    (n.3 ∙ (let t : s.windows - 1 ≡ l.number = omega (arith, last) in t)) in (
+      s.some_window,
+      ap (Rattle.std.proofs.Common.map Rattle.cell_shares.specs.Shares.share_label) c.push_reserved-2.ensures.items
+          ∙ all_labels s c.args.order l.number l.rest l.shares.items d c.new-2.result label last,
+    )
 
 pub returns-clause-values : goal.returns-clause-values
 returns-clause-values g c =
-    let s = c.args.self in let l = c.loop-number in let last : 1 + l.number ≡ s.windows = (let f = c.loop-number-test.false in let e = l.auto.number-end in let m = s.some_window in omega (arith, f, e, m)) in let n = c.new-2.ensures in let d = l.invariant.0 in
-    let label = label_of s c.args.order l.number c.new-2.result (ap (λ p. p.ptr) n.0 ∙ d.start) (ap (λ p. p.count) n.0 ∙ d.count) (ap (λ x. x.windows) n.2) (ap (λ x. x.order) n.2) (n.3 ∙ (let t : s.windows - 1 ≡ l.number = omega (arith, last) in t)) in
-    ap (Rattle.std.proofs.Common.map Rattle.cell_shares.specs.Shares.share_values) c.push_reserved-2.ensures.items ∙ all_values s c.args.order l.number l.rest l.shares.items d c.new-2.result label last (ap (λ p. p.cells) n.0)
+    let s = c.args.self in let l = c.loop-number in
+    let last : 1 + l.number ≡ s.windows = (let f = c.loop-number-test.false in let e = l.auto.number-end in let m = s.some_window in omega (arith, f, e, m)) in let n = c.new-2.ensures in
+    let d = l.invariant.0 in
+    let label = label_of s c.args.order l.number c.new-2.result (ap (λ p. p.ptr) n.0 ∙ d.start) (ap (λ p. p.count) n.0 ∙ d.count) (ap (λ x. x.windows) n.2) (ap (λ x. x.order) n.2)
+    (n.3 ∙ (let t : s.windows - 1 ≡ l.number = omega (arith, last) in t)) in
+    ap (Rattle.std.proofs.Common.map Rattle.cell_shares.specs.Shares.share_values) c.push_reserved-2.ensures.items
+    ∙ all_values s c.args.order l.number l.rest l.shares.items d c.new-2.result label last (ap (λ p. p.cells) n.0)

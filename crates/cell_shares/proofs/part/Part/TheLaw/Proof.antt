@@ -48,5 +48,6 @@ module _ (R : RattleType) where
 pub shares : (R : RattleType) (L : Laws R) → statement R L
 shares R L =
     let lives : Lft = (part.the_row R).lives in
-    of_Lends (part.struct R) (part.the_codes R.Denot R.coded) (part.the_heap R) (part.the_lent R) (λ d at. lent_laws R L d.ptr d.count d.cells) (copy_shared RawPtr-field RawPtr-copy, tt) (λ M 𝓤 𝓛 d at.
+    of_Lends (part.struct R) (part.the_codes R.Denot R.coded) (part.the_heap R) (part.the_lent R) (λ d at. lent_laws R L d.ptr d.count d.cells) (copy_shared RawPtr-field RawPtr-copy, tt)
+    (λ M 𝓤 𝓛 d at.
     part_lends R 𝓛 lives (Shares-less 𝓛 R R.lives lives (Incl-trans (meet_⊑_left (R.lives ++ []) _) (meet_⊑_left R.lives [])) (L.shares 𝓛)) d.count d.cells d.ptr)

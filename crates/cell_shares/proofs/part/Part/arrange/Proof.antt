@@ -22,7 +22,8 @@ arrange_spec 𝓤 𝓛 𝓜 𝓡 wired T L =
     let spent : Stays E.signature.params E.kept = (stay_dropped (plain (λ _. PartOf R)) no, (stay_dropped (RefOf (0 ∷ []) tt (plain (λ _. O)) (λ _. tt)) yes, tt)) in
     proved_at 𝓛 E spent c 𝓜 𝓡 (Goes-dropped 𝓛 2 (plain (λ _. PartOf R)) no (λ κs x f. refl), (Goes-dropped 𝓛 2 (RefOf (0 ∷ []) tt (plain (λ _. O)) (λ _. tt)) yes (λ κs x f. refl), tt))
     (#self inst) fn (code.unfolded 𝓤 𝓛.H 𝓜 𝓡 wired (T, tt)) (λ y are.
-    let κ : Lft = y.0.0.0 in let κ₁ : Lft = y.0.0.1.0 in let q : Share = y.0.1.0 in let q₁ : Share = y.0.1.1.0 in let d : (PartOf R).Denot = y.0.3.0 in let r = y.0.3.1.0 in let to : List ℕ = order_places r.now d.count in let vss = y.0.4 in
+    let κ : Lft = y.0.0.0 in let κ₁ : Lft = y.0.0.1.0 in let q : Share = y.0.1.0 in let q₁ : Share = y.0.1.1.0 in let d : (PartOf R).Denot = y.0.3.0 in let r = y.0.3.1.0 in
+    let to : List ℕ = order_places r.now d.count in let vss = y.0.4 in
     let End : Val → SProp 𝓤 = (walk_of 𝓛 E spent c).post y in
     qed 𝓛 (((‵ (flft κ q) ⊛ ‵ (flft κ₁ q₁) ⊛ ‵ ftrue) ⊛ ‵ (owns (types_at E.signature.params y.0.0) y.0.3 vss)) ∷ raw (fact 𝓤 (κ₁ ⊑ T.lives)) ∷ raw (fact 𝓤 (Shuffled (places d.cells) to)) ∷ []) ∵
     move ! (2 ∷ []) $ heard ! (Shuffled (places d.cells) to) (λ mixed. split ! $ move ! (1 ∷ []) $ fsplit ! $ keep ! (0 ∷ 2 ∷ []) $

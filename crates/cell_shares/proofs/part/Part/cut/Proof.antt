@@ -30,7 +30,8 @@ cut_spec 𝓤 𝓛 𝓜 𝓡 wired T L =
     use1 𝓛 (‵ (lie R s xs) ⊛ ‵ (lie R s zs)) (cut_cells R 𝓛 (block_ptr s.block s.offset) xs zs) $ split ! $ closed R ! s xs $ move ! (1 ∷ []) $ closed R ! s zs $
     -- [the others; the first; the token] become the pair
     nothing ! $ move ! (2 ∷ 1 ∷ 0 ∷ []) $ fjoin3 ! $ feq_i ! (List Val) (pair ∷ []) (pair ∷ []) refl $ fjoin ! $
-    fpack ! (Valss (PartOf R ∷ PartOf R ∷ [])) (λ uss. fsep (feq (List Val) (pair ∷ []) (vstruct (of_list (uss.0 ++ (uss.1.0 ++ []))) ∷ [])) (owns (PartOf R ∷ PartOf R ∷ []) (front, (others, tt)) uss)) (u ∷ [], (u ∷ [], tt)) $
+    fpack ! (Valss (PartOf R ∷ PartOf R ∷ []))
+    (λ uss. fsep (feq (List Val) (pair ∷ []) (vstruct (of_list (uss.0 ++ (uss.1.0 ++ []))) ∷ [])) (owns (PartOf R ∷ PartOf R ∷ []) (front, (others, tt)) uss)) (u ∷ [], (u ∷ [], tt)) $
     enter ! 𝓣.C 𝓣.Λ fn us End $ alloc_all ! (λ l. pass_all ! refl ((tt, (tt, tt)), ((tt, record { fits = are.1.0.1 }), tt)) $
     sets ! (of_opd ! (get_in ! (fld ! refl (stop !)) (sub ! 0 refl (whole !)))) refl (tt, tt) $
     sets ! (agg ! (and_then ! (get ! refl) (no_more !))) refl (tt, (tt, tt)) $ sets ! (agg ! (and_then ! (get ! refl) (no_more !))) refl (tt, (tt, tt)) $

@@ -24,7 +24,8 @@ get_spec 𝓤 𝓛 𝓜 𝓡 wired T L =
     let spent : Stays E.signature.params E.kept = (stay_dropped lent yes, (stay_dropped (plain (λ _. usize)) yes, (stay_dropped (plain (λ _. usize)) yes, tt))) in
     proved_at 𝓛 E spent c 𝓜 𝓡 (Goes-dropped 𝓛 2 lent yes (λ κs x f. refl), (number, (number, tt))) (#self types) fn (code.unfolded 𝓤 𝓛.H 𝓜 𝓡 wired (T, tt)) (λ y are.
     let self = y.0.3.0 in let d : (PartOf R).Denot = self.now in let rb : ℕ = self.ref_ptr.0 in let ro : ℕ = self.ref_ptr.1 in let j : ℕ = y.0.3.1.0 in let n : ℕ = y.0.3.1.1.0 in
-    let κ = y.0.0.0 in let us : List Val = vptr rb ro ∷ vint w64 j ∷ vint w64 n ∷ [] in let End : Val → SProp 𝓤 = (walk_of 𝓛 E spent c).post y in let Stands : Type 0 = (n < d.count) × ((x : T.Denot) × IsCell d.cells j n x) in
+    let κ = y.0.0.0 in let us : List Val = vptr rb ro ∷ vint w64 j ∷ vint w64 n ∷ [] in let End : Val → SProp 𝓤 = (walk_of 𝓛 E spent c).post y in
+    let Stands : Type 0 = (n < d.count) × ((x : T.Denot) × IsCell d.cells j n x) in
     qed 𝓛 (((‵ (flft κ y.0.1.0) ⊛ ‵ (flft y.0.0.1.0 y.0.1.1.0) ⊛ ‵ ftrue) ⊛ ‵ (owns (types_at E.signature.params y.0.0) y.0.3 y.0.4)) ∷ raw (fact 𝓤 (y.0.0.1.0 ⊑ T.lives)) ∷ raw (fact 𝓤 Stands) ∷ []) ∵
     suffices ! _ (respelled 𝓤 (λ (vs : List Val). WpFn 𝓤 𝓛.H 𝓣.C 𝓣.Λ fn vs End) us _ (λ i. shr_Tells (named 0) κ (PartOf R) self y.0.4.0 are.0 i ++ (are.1.0.0 i ++ (are.1.1.0.0 i ++ [])))) $
     enter ! 𝓣.C 𝓣.Λ fn us End $ alloc_all ! (λ l. pass_all ! refl ((tt, tt), ((tt, record { fits = are.1.0.1 }), ((tt, record { fits = are.1.1.0.1 }), tt))) $

@@ -33,7 +33,8 @@ into_row_spec 𝓤 𝓛 𝓜 𝓡 wired T L =
     let xs : List T.Denot = values d.cells in let fs : List Bool = replicate (length xs) true in let All : Type 0 = (n ≡ d.count) × (places d.cells ≡ range_with_len 0 n) in
     qed 𝓛 (((‵ (flft y.0.0.0 y.0.1.0) ⊛ ‵ ftrue) ⊛ ‵ (owns (types_at E.signature.params y.0.0) y.0.3 y.0.4)) ∷ raw (fact 𝓤 (y.0.0.0 ⊑ T.lives)) ∷ raw (fact 𝓤 All) ∷ []) ∵
     move ! (2 ∷ []) $ heard ! All (λ all. split ! $ move ! (1 ∷ []) $ fsplit ! $ opened R laws ! d y.0.4.0 (λ s is.
-    let us : List Val = word R s ∷ vint w64 n ∷ [] in let z : G.Ghost = (((y.0.0.0, tt), (y.0.1.0, tt), tt, (block_ptr s.block s.offset, (n, tt)), (pointer R s ∷ [], (vint w64 n ∷ [], tt))), (xs, fs)) in
+    let us : List Val = word R s ∷ vint w64 n ∷ [] in
+    let z : G.Ghost = (((y.0.0.0, tt), (y.0.1.0, tt), tt, (block_ptr s.block s.offset, (n, tt)), (pointer R s ∷ [], (vint w64 n ∷ [], tt))), (xs, fs)) in
     let Made = λ (r : (Row R).Denot). (slots_ptr r ≡ block_ptr s.block s.offset) × (slots_len r ≡ n) × (slots_items r ≡ xs) × (slots_filled r ≡ fs) in
     suffices ! _ (respelled 𝓤 (λ (vs : List Val). WpFn 𝓤 𝓛.H 𝓣.C 𝓣.Λ fn vs End) us _ (λ i. is i ++ (are.1.0.0 i ++ []))) $
     enter ! 𝓣.C 𝓣.Λ fn us End $ alloc_all ! (λ l. pass_all ! refl ((tt, (tt, tt)), ((tt, record { fits = small }), tt)) $
@@ -54,6 +55,7 @@ into_row_spec 𝓤 𝓛 𝓜 𝓡 wired T L =
     -- [the row; the token]
     let pair : Val = pair_word (block_ptr s.block s.offset) n in let got : v ≡ pair = row_word R laws r v seen ∙ (λ i. pair_word (made.0 i) (made.1 i)) in
     let fits : Holds (has_ty (layout (Row R)) v) × WT v = subst (λ (u : Val). Holds (has_ty (layout (Row R)) u) × WT u) (sym got) (tt, (tt, (record { fits = small }, tt))) in
-    lands_last ! refl fits $ exec ! 𝓣.C 𝓣.Λ (env fn.locals l) (after 2 fn.body) (at_ret (env fn.locals l) End) $ sets ! (of_opd ! (get ! refl)) refl fits $ returns ! (look_at ! 0 refl) $ free_all ! refl $
+    lands_last ! refl fits $ exec ! 𝓣.C 𝓣.Λ (env fn.locals l) (after 2 fn.body) (at_ret (env fn.locals l) End) $ sets ! (of_opd ! (get ! refl)) refl fits $ returns ! (look_at ! 0 refl) $
+    free_all ! refl $
     suffices ! _ (ends_at 𝓛 E spent c y v r (tt, (tt, tt)) (tt, (tt, tt))) $ says ! (made.0 ∙ sym s.here, made.1) $
     nothing ! $ nothing ! $ fjoin ! $ nothing ! $ fjoin ! $ keep ! (2 ∷ 0 ∷ 1 ∷ []) $ done !)))))))))

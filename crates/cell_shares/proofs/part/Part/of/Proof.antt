@@ -48,6 +48,7 @@ of_spec 𝓤 𝓛 𝓜 𝓡 wired T L =
     returns ! (look_at ! 0 refl) $ free_all ! refl $
     let first_place : o ≡ o + 0 * bytes_of R = omega arith in rewrite ! 0 (λ (k : ℕ). ‵ (slots R (block_ptr b k) xs fs)) first_place refl $
     let counts = slots_counts r in let long : length fs ≡ length xs = sym counts.1 ∙ counts.0 in
-    use1 𝓛 (‵ (lie R s (numbered 0 xs))) (of_row R 𝓛 (block_ptr b o) b o 0 xs fs refl long (λ j h. full j (omega arith) (let m : n ≡ length fs = counts.1 in omega (arith, h, m)))) $ closed R ! s (numbered 0 xs) $
+    use1 𝓛 (‵ (lie R s (numbered 0 xs))) (of_row R 𝓛 (block_ptr b o) b o 0 xs fs refl long (λ j h. full j (omega arith) (let m : n ≡ length fs = counts.1 in omega (arith, h, m)))) $
+    closed R ! s (numbered 0 xs) $
     suffices ! _ (ends_at 𝓛 E spent c y (word R s) (part_of R (slots_ptr r) n (numbered 0 xs)) (tt, tt) (tt, tt)) $ says ! (refl, refl, refl) $
     nothing ! $ nothing ! $ fjoin ! $ keep ! (2 ∷ 0 ∷ 1 ∷ []) $ done !))))))))))

@@ -30,7 +30,8 @@ set_spec 𝓤 𝓛 𝓜 𝓡 wired T L =
     let value : Alone (layout R) y.0.4.1.1.1.0 = word_of 𝓛 R laws x y.0.4.1.1.1.0 are.1.1.1.0 in
     let us : List Val = vptr rb ro ∷ vint w64 j ∷ vint w64 n ∷ value.word ∷ [] in let End : Val → SProp 𝓤 = (walk_of 𝓛 E kept c).post y in
     let self_is = mut_Tells (named 0) y.0.0.0 (PartOf R) self y.0.4.0 are.0 in let Stands : Type 0 = (n < d.count) × ((z : T.Denot) × IsCell d.cells j n z) in
-    qed 𝓛 (((‵ (flft y.0.0.0 y.0.1.0) ⊛ ‵ (flft y.0.0.1.0 y.0.1.1.0) ⊛ ‵ ftrue) ⊛ ‵ (owns (types_at E.signature.params y.0.0) y.0.3 y.0.4)) ∷ raw (fact 𝓤 (y.0.0.1.0 ⊑ T.lives)) ∷ raw (fact 𝓤 Stands) ∷ []) ∵
+    qed 𝓛 (((‵ (flft y.0.0.0 y.0.1.0) ⊛ ‵ (flft y.0.0.1.0 y.0.1.1.0) ⊛ ‵ ftrue) ⊛ ‵ (owns (types_at E.signature.params y.0.0) y.0.3 y.0.4)) ∷ raw (fact 𝓤 (y.0.0.1.0 ⊑ T.lives)) ∷ raw
+    (fact 𝓤 Stands) ∷ []) ∵
     suffices ! _ (respelled 𝓤 (λ (vs : List Val). WpFn 𝓤 𝓛.H 𝓣.C 𝓣.Λ fn vs End) us _ (λ i. self_is i ++ (are.1.0.0 i ++ (are.1.1.0.0 i ++ (value.is i ++ []))))) $
     move ! (2 ∷ []) $ heard ! Stands (λ stands. split ! $ move ! (1 ∷ []) $ fsplit ! $ fsplit3 ! $ move ! (3 ∷ []) $ fsplit3 ! $ move ! (2 ∷ []) $ fsplit ! $
     rewrite ! 0 (λ (vs : List Val). ‵ (T.own_val x vs)) value.is refl $ move ! (7 ∷ []) $ split ! $ keep ! (7 ∷ 8 ∷ 0 ∷ 2 ∷ 1 ∷ []) $

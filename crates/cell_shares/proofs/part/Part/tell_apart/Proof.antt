@@ -24,14 +24,16 @@ tell_apart_spec 𝓤 𝓛 𝓜 𝓡 wired T L =
     let us : List Val = vptr rb ro ∷ vptr sb so ∷ [] in let End : Val → SProp 𝓤 = (walk_of 𝓛 E kept c).post y in
     let self_is = mut_Tells (named 0) y.0.0.0 (PartOf R) self y.0.4.0 are.0 in let other_is = mut_Tells (named 1) y.0.0.1.0 (PartOf R) other y.0.4.1.0 are.1.0 in
     let Both : Type 0 = ((x : T.Denot) × IsCell d.cells 0 0 x) × ((x : T.Denot) × IsCell f.cells 0 0 x) in
-    qed 𝓛 (((‵ (flft y.0.0.0 y.0.1.0) ⊛ ‵ (flft y.0.0.1.0 y.0.1.1.0) ⊛ ‵ (flft y.0.0.1.1.0 y.0.1.1.1.0) ⊛ ‵ ftrue) ⊛ ‵ (owns (types_at E.signature.params y.0.0) y.0.3 y.0.4)) ∷ raw (fact 𝓤 (y.0.0.1.1.0 ⊑ T.lives)) ∷ raw (fact 𝓤 Both) ∷ []) ∵
+    qed 𝓛 (((‵ (flft y.0.0.0 y.0.1.0) ⊛ ‵ (flft y.0.0.1.0 y.0.1.1.0) ⊛ ‵ (flft y.0.0.1.1.0 y.0.1.1.1.0) ⊛ ‵ ftrue) ⊛ ‵ (owns (types_at E.signature.params y.0.0) y.0.3 y.0.4)) ∷ raw
+    (fact 𝓤 (y.0.0.1.1.0 ⊑ T.lives)) ∷ raw (fact 𝓤 Both) ∷ []) ∵
     suffices ! _ (respelled 𝓤 (λ (vs : List Val). WpFn 𝓤 𝓛.H 𝓣.C 𝓣.Λ fn vs End) us _ (λ i. self_is i ++ (other_is i ++ []))) $
     move ! (2 ∷ []) $ heard ! Both (λ both. split ! $ move ! (1 ∷ []) $ fsplit ! $ fsplit3 ! $ move ! (3 ∷ []) $ fsplit ! $ fsplit3 ! $ move ! (7 ∷ []) $ split ! $ move ! (1 ∷ []) $ split ! $
     keep ! (8 ∷ 9 ∷ 2 ∷ 4 ∷ 5 ∷ 0 ∷ 1 ∷ []) $
     -- [of each part: what stands for its last value, the borrow, its token; the other tokens]
     enter ! 𝓣.C 𝓣.Λ fn us End $ alloc_all ! (λ l. pass_all ! refl ((tt, tt), ((tt, tt), tt)) $
     opens ! tt (PartOf R) {h = d} rb ro (λ vs. move ! (1 ∷ []) $ opened R laws ! d vs (λ s is. rewrite ! 1 (λ (ws : List Val). ‵ (cell_at full_share (PartOf R).mir ws rb ro)) is refl $
-    move ! (5 ∷ 6 ∷ 7 ∷ []) $ opens ! tt (PartOf R) {h = f} sb so (λ ws. move ! (1 ∷ []) $ opened R laws ! f ws (λ z has. rewrite ! 1 (λ (vs : List Val). ‵ (cell_at full_share (PartOf R).mir vs sb so)) has refl $
+    move ! (5 ∷ 6 ∷ 7 ∷ []) $ opens ! tt (PartOf R) {h = f} sb so
+    (λ ws. move ! (1 ∷ []) $ opened R laws ! f ws (λ z has. rewrite ! 1 (λ (vs : List Val). ‵ (cell_at full_share (PartOf R).mir vs sb so)) has refl $
     move ! (5 ∷ 0 ∷ []) $ apart (record { row = T; laws = L }) 𝓛 𝓜 d.cells f.cells both.0.0 both.1.0 both.0.1 both.1.1 ! s z (λ differ.
     closed R ! s d.cells $ move ! (6 ∷ 0 ∷ 7 ∷ 8 ∷ 9 ∷ []) $ closes ! tt (PartOf R) d (word R s ∷ []) rb ro $
     move ! (3 ∷ []) $ closed R ! z f.cells $ move ! (4 ∷ 0 ∷ 5 ∷ 6 ∷ 7 ∷ []) $ closes ! tt (PartOf R) f (word R z ∷ []) sb so $

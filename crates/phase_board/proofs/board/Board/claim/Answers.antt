@@ -18,7 +18,8 @@ compare_exchange-found-requires g c =
     let e = c.load-word.ensures in let t = e.2 in let view = ap (λ m. m.0) t.0 in let facts = subst (IsFor _) c.requires.1 t.2 in let size = c.args.self.now.sized in (
       e.0 ∙ c.requires.0,
       search rules,
-      exchanges _ _ _ _ _ _ _ _ _ _ _ (ap (λ v. v.job) view ∙ c.requires.1) (ap (λ v. v.activity) view ∙ c.args.seat.rests.1) (ap (λ m. m.1) t.0 ∙ c.args.seat.rests.0) (ap (λ v. v.loaded) view) (ap (λ v. v.found) view)
+      exchanges _ _ _ _ _ _ _ _ _ _ _ (ap (λ v. v.job) view ∙ c.requires.1) (ap (λ v. v.activity) view ∙ c.args.seat.rests.1) (ap (λ m. m.1) t.0 ∙ c.args.seat.rests.0) (ap (λ v. v.loaded) view)
+          (ap (λ v. v.found) view)
           c.if-word-ge-STOPPED.false (λ same. c.if-drawn-self.false (let a = facts.0 in let b = size.1 in omega arith)) refl,
     )
 

@@ -54,13 +54,15 @@ take-requires-in-loop-i g c =
 pub unreachable-requires-in-Piece-take : goal.unreachable-requires-in-Piece-take
 unreachable-requires-in-Piece-take g c =
     let t = closed_slots _ _ _ _ _ _ _ _ _ _ c.close_with-closed.ensures.values.2 c.requires.over in let row = c.close_with-closed.result.slots in
-    let lt : c.loop-i.i < g.P.Piece.windows (g.P.Piece.job c.args.self.table.shared.key.value) = (let a = t.2 in let b = row.ok.0 in let d = c.close_with-closed.ensures.counts.1 in let e = c.args.self.sized.1 in let h = c.loop-i-test.true in omega arith) in
+    let lt : c.loop-i.i < g.P.Piece.windows (g.P.Piece.job c.args.self.table.shared.key.value) =
+    (let a = t.2 in let b = row.ok.0 in let d = c.close_with-closed.ensures.counts.1 in let e = c.args.self.sized.1 in let h = c.loop-i-test.true in omega arith) in
     let e = same_place _ _ _ c.loop-i.i _ _ c.loop-i.invariant.0 c.take.ensures.others.0 c.take-in-loop-i.ensures.value (t.1 c.loop-i.i lt) in let f = sym c.in-Piece-take.is ∙ e in cc
 
 pub unreachable-requires-in-Common-take : goal.unreachable-requires-in-Common-take
 unreachable-requires-in-Common-take g c =
     let t = closed_slots _ _ _ _ _ _ _ _ _ _ c.close_with-closed.ensures.values.2 c.requires.over in let row = c.close_with-closed.result.slots in
-    let lt : c.loop-i.i < g.P.Piece.windows (g.P.Piece.job c.args.self.table.shared.key.value) = (let a = t.2 in let b = row.ok.0 in let d = c.close_with-closed.ensures.counts.1 in let e = c.args.self.sized.1 in let h = c.loop-i-test.true in omega arith) in
+    let lt : c.loop-i.i < g.P.Piece.windows (g.P.Piece.job c.args.self.table.shared.key.value) =
+    (let a = t.2 in let b = row.ok.0 in let d = c.close_with-closed.ensures.counts.1 in let e = c.args.self.sized.1 in let h = c.loop-i-test.true in omega arith) in
     let e = same_place _ _ _ c.loop-i.i _ _ c.loop-i.invariant.0 c.take.ensures.others.0 c.take-in-loop-i.ensures.value (t.1 c.loop-i.i lt) in let f = sym c.in-Common-take.is ∙ e in cc
 
 pub loop-i-preserved : goal.loop-i-preserved
@@ -68,7 +70,8 @@ loop-i-preserved g c =
     let inv = c.loop-i.invariant in let row = c.loop-i.closed.slots in let others = c.take-in-loop-i.ensures.others in
     let kept = inv.1 ∙ c.take.ensures.others.2 ∙ c.close_with-closed.ensures.counts.1 ∙ c.args.self.sized.1 in
     let size : c.loop-i.i + 1 < slots_len row = (let a = c.loop-i-test.true in let b = kept in omega arith) in
-    let left = emptied_at (slots_filled row) (slots_filled c.take-in-loop-i.new.self.slots) (c.loop-i.i + 1) (slots_len row) others.1 row.ok.1 size (λ k a b. inv.2 k (omega arith) b) (λ k a. inv.3 k (omega arith)) in
+    let left = emptied_at (slots_filled row) (slots_filled c.take-in-loop-i.new.self.slots) (c.loop-i.i + 1) (slots_len row) others.1 row.ok.1 size (λ k a b. inv.2 k (omega arith) b)
+    (λ k a. inv.3 k (omega arith)) in
     (others.0 ∙ inv.0, others.2 ∙ inv.1, (λ k a b. left.0 k a (let d = others.2 in omega arith)), left.1)
 
 pub free-requires : goal.free-requires
@@ -78,7 +81,8 @@ free-requires g c =
 
 pub overflow_cast-half : goal.overflow_cast-half
 overflow_cast-half g c =
-    let t = closed_slots _ _ _ _ _ _ _ _ _ _ c.close_with-closed.ensures.values.2 c.requires.over in let e : half_of c.args.seat.found ≡ half_of c.args.seat.seat.me.0.found = ap half_of c.args.seat.shows in let a = t.3 in omega arith
+    let t = closed_slots _ _ _ _ _ _ _ _ _ _ c.close_with-closed.ensures.values.2 c.requires.over in
+    let e : half_of c.args.seat.found ≡ half_of c.args.seat.seat.me.0.found = ap half_of c.args.seat.shows in let a = t.3 in omega arith
 
 pub returns-clause-common : goal.returns-clause-common
 returns-clause-common g c =

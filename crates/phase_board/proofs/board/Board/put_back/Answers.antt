@@ -3,8 +3,8 @@ use Rattle.atomic_table.specs.Table.{rest}
 use Rattle.phase_board.specs.declared.view.Slot.TheVariants.{Piece as Holds}
 use Rattle.phase_board.specs.declared.view.Slot.TheVariants.{Common as Keeps}
 use Rattle.phase_board.proofs.Carried.{front}
-use Rattle.phase_board.proofs.Gathers.{same_head}
-use Rattle.phase_board.proofs.Scatters.{none_filled, all_filled, pushed, last_same, all_popped, not_popped}
+use Rattle.phase_board.proofs.TakesOut.{same_head}
+use Rattle.phase_board.proofs.PutsBack.{none_filled, all_filled, pushed, last_same, all_popped, not_popped}
 use Rattle.phase_board.proofs.board.Board.put_back.Goals as goal
 
 pub loop-i-init : goal.loop-i-init
@@ -64,7 +64,8 @@ returns-clause-seat g c = let inv = c.loop-i.invariant in let put = c.exchange.e
 
 pub returns-clause-slots : goal.returns-clause-slots
 returns-clause-slots g c =
-    let inv = c.loop-i.invariant in let put = c.exchange.ensures in let long : length c.args.pieces.items ≡ c.loop-i.i = (let a = c.requires.size in let b = c.loop-i-test.false in let d = c.loop-i.auto.i-end in omega arith) in (
+    let inv = c.loop-i.invariant in let put = c.exchange.ensures in
+    let long : length c.args.pieces.items ≡ c.loop-i.i = (let a = c.requires.size in let b = c.loop-i-test.false in let d = c.loop-i.auto.i-end in omega arith) in (
       c.loop-i.pieces,
       ap (λ m. m.1) put.3 ∙ ap (λ l. (0, Keeps c.args.common c.loop-i.pieces) ∷ rest l) (inv.0 ∙ all_filled _ _ c.args.pieces.items c.loop-i.i long),
       (all_popped _ g.row.P-Common.Denot c.args.pieces.items c.loop-i.pieces.items c.loop-i.i (omega arith) inv.1, (let a = inv.2 in let b = c.requires.size in omega arith)),

@@ -1,6 +1,6 @@
 use Rattle.std.proofs.Common.{◌≡◌, ◌≤◌, length, reverse, drop}
 use Rattle.std.specs.Prelude.{vec_capacity}
-use Rattle.phase_board.proofs.Scatters.{filled_to}
+use Rattle.phase_board.proofs.PutsBack.{filled_to}
 use Rattle.phase_board.proofs.board.Board.put_back.Given as goal
 
 abbrev pub invariant-loop-i : goal.invariant-loop-i

@@ -13,6 +13,7 @@ swap-requires g c =
     let slots = ap (λ m. m.1) put.3 ∙ ap (λ l. (0, Common c.args.seat.common c.args.seat.pieces) ∷ rest l) (c.args.seat.turns.0 ∙ ap emptied size) in (
       put.0 ∙ c.requires.board.0,
       search rules,
-      stops _ _ _ _ _ _ _ _ _ _ c.args.seat.half c.args.self.now.count c.args.seat.common c.args.seat.pieces (ap (λ m. m.0.job) put.3 ∙ c.requires.board.1) (ap (λ m. m.0.activity) put.3 ∙ c.args.seat.turns.1) (sym c.args.self.now.sized.1) slots c.requires.pieces
+      stops _ _ _ _ _ _ _ _ _ _ c.args.seat.half c.args.self.now.count c.args.seat.common c.args.seat.pieces (ap (λ m. m.0.job) put.3 ∙ c.requires.board.1)
+          (ap (λ m. m.0.activity) put.3 ∙ c.args.seat.turns.1) (sym c.args.self.now.sized.1) slots c.requires.pieces
           (c.args.seat.shows ∙ sym (ap (λ m. half_of m.0.loaded) put.3)) (ap (λ (n : ℕ). 2 ^ 63 + n * 256 + c.args.self.now.count) c.from.ensures) c.requires.common,
     )

@@ -18,6 +18,7 @@ swap-requires-2 g c =
     let pos : 0 < m = (let a = c.args.self.now.sized.2 in omega arith) in (
       c.put_back.ensures.seat.0 ∙ c.swap.ensures.0 ∙ c.requires.board.0,
       search rules,
-      turns _ _ _ _ _ _ _ _ _ _ c.args.seat.half c.args.seat.common slots.0 c.args.seat.pieces.items (ap (λ v. v.job) view ∙ c.requires.board.1) (ap (λ v. v.activity) view) slots.1 (subst (λ (n : ℕ). HasRoom n slots.0) size slots.2)
+      turns _ _ _ _ _ _ _ _ _ _ c.args.seat.half c.args.seat.common slots.0 c.args.seat.pieces.items (ap (λ v. v.job) view ∙ c.requires.board.1) (ap (λ v. v.activity) view) slots.1
+          (subst (λ (n : ℕ). HasRoom n slots.0) size slots.2)
           (c.args.seat.shows ∙ sym (ap (λ v. half_of v.loaded) view)) c.requires.limit (ap (λ (n : ℕ). (n + 1) * 256) c.from.ensures) pos c.requires.common c.requires.pieces,
     )

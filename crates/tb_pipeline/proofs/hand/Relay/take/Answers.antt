@@ -14,7 +14,8 @@ try_pop_as-requires-clause-rule g c =
 pub returns-in-Some-Number : goal.returns-in-Some-Number
 returns-in-Some-Number g c =
     let relay = c.args.self.now in let v = hand_view c.args.hand in let w = view c.try_pop_as.new.pass in let number = c.in-Some-Number.number in
-    let told : Popped v (Number number) w = subst (λ u. Popped u (Number number) w) c.loop.invariant.3 (subst (λ y. Popped (view c.loop.pass) y w) c.in-Some-Number.field-0-is c.in-Some-Number.ensures.rule) in
+    let told : Popped v (Number number) w = subst (λ u. Popped u (Number number) w) c.loop.invariant.3
+    (subst (λ y. Popped (view c.loop.pass) y w) c.in-Some-Number.field-0-is c.in-Some-Number.ensures.rule) in
     let same = c.try_pop_as.ensures.queue in let here = c.loop.invariant.2 in let given = c.requires.hand in
     let popped = number_popped relay.count relay.hands v w given.1 number told in (
       ((same.0 ∙ here.0, same.2 ∙ here.1), told.0 ∙ given.1, told.1 ∙ given.2),

@@ -15,7 +15,7 @@ impl<P: Piece> Board<P> {
     ghost use Rattle.phase_board.specs.Boards.{board_id, board_job};
 
     // Takes the common value and all pieces out of the slots that the seat has.
-    pub(crate) fn gather(&self, mut seat: Place<P>, half: u32) -> Turning<P>
+    pub(crate) fn take_out(&self, mut seat: Place<P>, half: u32) -> Turning<P>
         requires board { seat.table_id ≡ board_id self.now }
         requires out { let job = board_job P.job self.now in
             AllOut (P.windows job) (P.common job half) (P.done job half) seat.me.1 }

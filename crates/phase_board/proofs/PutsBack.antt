@@ -5,7 +5,7 @@ use Rattle.atomic_table.specs.Table.{rest, turned}
 use Rattle.phase_board.specs.declared.view.Slot.{Slot}
 use Rattle.phase_board.specs.declared.view.Slot.TheVariants.{Empty, Piece}
 use Rattle.phase_board.specs.Slots.{numbered, emptied}
-use Rattle.phase_board.proofs.Gathers.{next_left}
+use Rattle.phase_board.proofs.TakesOut.{next_left}
 
 numbered_more : {S : Type 0} (k : ℕ) (xs : List S) (y : S) → numbered k xs ++ (k + length xs, y) ∷ [] ≡ numbered k (xs ++ y ∷ [])
 numbered_more k [] y = ap (λ (z : ℕ). (z, y) ∷ []) (omega arith)
@@ -36,11 +36,13 @@ module _ (P C : Type 0) where
   pub all_filled : (ps : List P) (n : ℕ) → length ps ≡ n → filled_to ps n ≡ (0, Empty) ∷ numbered 1 (map holding ps)
   all_filled ps n long = λ i. numbered (n + 1) (blanks (drop_all n ps (omega arith) i)) ++ (0, Empty) ∷ numbered 1 (map holding (take_all n ps (omega arith) i))
 
-  tail_more : (ps : List P) (i : ℕ) (p : P) → i < length ps → take (suc i) ps ≡ take i ps ++ p ∷ [] → numbered 1 (map holding (take i ps)) ++ (i + 1, Piece p) ∷ [] ≡ numbered 1 (map holding (take (suc i) ps))
+  tail_more : (ps : List P) (i : ℕ) (p : P) → i < length ps → take (suc i) ps ≡ take i ps ++ p ∷ [] →
+      numbered 1 (map holding (take i ps)) ++ (i + 1, Piece p) ∷ [] ≡ numbered 1 (map holding (take (suc i) ps))
   tail_more ps i p l e =
       let xs : List S = map holding (take i ps) in
       let n : length xs ≡ i = length-map (take i ps) holding ∙ length-take-le i ps (omega arith) in
-      ap (λ (z : ℕ). numbered 1 xs ++ (z, Piece p) ∷ []) (let q : i + 1 ≡ 1 + length xs = omega arith in q) ∙ numbered_more 1 xs (Piece p) ∙ ap (numbered 1) (sym (map-append holding (take i ps) (p ∷ [])) ∙ ap (map holding) (sym e))
+      ap (λ (z : ℕ). numbered 1 xs ++ (z, Piece p) ∷ []) (let q : i + 1 ≡ 1 + length xs = omega arith in q) ∙ numbered_more 1 xs (Piece p)
+      ∙ ap (numbered 1) (sym (map-append holding (take i ps) (p ∷ [])) ∙ ap (map holding) (sym e))
 
   pub pushed : (ps : List P) (i : ℕ) (c : List (ℕ × S)) (v : List P) → i < length ps → c ≡ filled_to ps i → v ≡ reverse (drop i ps)
       → (p : P) × (v ≡ reverse (drop (i + 1) ps) ++ p ∷ []) × (c ≡ (i + 1, Empty) ∷ rest c) × (rest c ++ (i + 1, Piece p) ∷ [] ≡ filled_to ps (i + 1))
@@ -66,7 +68,8 @@ module _ (P C : Type 0) where
 
   -- a list ends in one element
   pub last_same : (xs ys : List P) (x y : P) → xs ++ x ∷ [] ≡ ys ++ y ∷ [] → (xs ≡ ys) × (x ≡ y)
-  last_same xs ys x y e = let r : x ∷ reverse xs ≡ y ∷ reverse ys = sym (reverse-append xs (x ∷ [])) ∙ ap reverse e ∙ reverse-append ys (y ∷ []) in (sym (back xs) ∙ ap reverse (ap tail_of r) ∙ back ys, ap head_of r)
+  last_same xs ys x y e = let r : x ∷ reverse xs ≡ y ∷ reverse ys = sym (reverse-append xs (x ∷ [])) ∙ ap reverse e ∙ reverse-append ys (y ∷ []) in
+      (sym (back xs) ∙ ap reverse (ap tail_of r) ∙ back ys, ap head_of r)
     where
       tail_of : List P → List P
       tail_of [] = []

@@ -43,7 +43,8 @@ module _ (P C : Type 0) where
       ∙ (let e : suc i ≡ i + 1 = omega arith in ap (λ (z : ℕ). numbered 1 (replicate z Empty)) e))
 
   pub pulled : (ps : List P) (i : ℕ) (c : List (ℕ × S)) → i < length ps → c ≡ numbered (i + 1) (map Piece (drop i ps)) ++ tail i
-      → (p : P) × (get_elem? ps i ≡ some p) × (c ≡ (i + 1, Piece p) ∷ rest c) × (rest c ++ (i + 1, Empty) ∷ [] ≡ numbered (i + 1 + 1) (map Piece (drop (i + 1) ps)) ++ tail (i + 1)) × (take (i + 1) ps ≡ take i ps ++ p ∷ [])
+      → (p : P) × (get_elem? ps i ≡ some p) × (c ≡ (i + 1, Piece p) ∷ rest c) × (rest c ++ (i + 1, Empty) ∷ [] ≡ numbered (i + 1 + 1) (map Piece (drop (i + 1) ps)) ++ tail (i + 1))
+      × (take (i + 1) ps ≡ take i ps ++ p ∷ [])
   pulled ps i c l e =
       let t = next_left ps i l in let up : suc i ≡ i + 1 = omega arith in let up2 : suc (i + 1) ≡ i + 1 + 1 = omega arith in
       let c_is : c ≡ (i + 1, Piece t.0) ∷ (numbered (suc (i + 1)) (map Piece (drop (suc i) ps)) ++ tail i) = e ∙ ap (λ (xs : List P). numbered (i + 1) (map Piece xs) ++ tail i) t.2 in

@@ -1,7 +1,7 @@
 use Rattle.std.proofs.Common.{arith, refl, sym, subst, ◌∙◌, ℕ, ◌<◌, ◌++◌, [], ◌∷◌}
 use Rattle.phase_board.proofs.Carried.{front}
-use Rattle.phase_board.proofs.Gathers.{pulled, same_head, piece_same}
-use Rattle.phase_board.proofs.board.Board.gather.Goals as goal
+use Rattle.phase_board.proofs.TakesOut.{pulled, same_head, piece_same}
+use Rattle.phase_board.proofs.board.Board.take_out.Goals as goal
 
 pub take_front-requires-clause-front : goal.take_front-requires-clause-front
 take_front-requires-clause-front g c = (_, front _ _ _ _ _ c.requires.out.3 refl)
