@@ -13,7 +13,7 @@ use Rattle.coded_stream.specs.Limit.{is_limit}
 use Rattle.coded_stream.specs.declared.version.Version.TheVariants.{One, Two}
 use Rattle.command_words.specs.Rules.{in_range}
 use Rattle.command_words.specs.Tables.{lengths, limits}
-use Rattle.command_words.specs.Transmissions.{each, sending_at, limit_asked, limit_in, version_in}
+use Rattle.command_words.specs.Transmissions.{each, transmission_at, limit_asked, limit_in, version_in}
 use Rattle.command_words.specs.Refusals.{refused_at}
 use Rattle.command_words.specs.declared.operands.Operand.{Operand}
 use Rattle.command_words.specs.declared.operands.WordRefusal.{WordRefusal}
@@ -42,9 +42,9 @@ all_sent false xs ys is = cc
 
 -- ---- the transmissions
 
-pub limit_at_first : (a : Asked) (n : ℕ) (s : Sending) → 1 ≤ n → slice_get (map (sending_at a) (range_with_len 0 n)) 0 ≡ Some s → s.m.limit ≡ limit_in a
+pub limit_at_first : (a : Asked) (n : ℕ) (s : Sending) → 1 ≤ n → slice_get (map (transmission_at a) (range_with_len 0 n)) 0 ≡ Some s → s.m.limit ≡ limit_in a
 limit_at_first a zero s some is = absurd (omega (arith, some))
-limit_at_first a (suc n) s some is = let same : s ≡ sending_at a 0 = cc in ap (λ (x : Sending). x.m.limit) same
+limit_at_first a (suc n) s some is = let same : s ≡ transmission_at a 0 = cc in ap (λ (x : Sending). x.m.limit) same
 
 one_for_all : (o : Operand) (i j : ℕ) → (length o.numbers == 1) ≡ true → each o i ≡ each o j
 one_for_all o i j one =
@@ -57,7 +57,7 @@ one_of true true false is = cc
 one_of true false b3 is = cc
 one_of false b2 b3 is = cc
 
-same_match : (a : Asked) (i j : ℕ) → version_in a.lists ≡ One → (sending_at a i).m ≡ (sending_at a j).m
+same_match : (a : Asked) (i j : ℕ) → version_in a.lists ≡ One → (transmission_at a i).m ≡ (transmission_at a j).m
 same_match a i j one =
     let l = a.lists in
     let parts = one_of (length l.g.numbers == 1) (length l.qm.numbers == 1) (length l.nl.numbers == 1) one in
@@ -68,16 +68,16 @@ same_match a i j one =
       limit = limit_in a;
     }
 
-first_match : (a : Asked) (n : ℕ) → 1 ≤ n → common (map (sending_at a) (range_with_len 0 n)) ≡ (sending_at a 0).m
+first_match : (a : Asked) (n : ℕ) → 1 ≤ n → common (map (transmission_at a) (range_with_len 0 n)) ≡ (transmission_at a 0).m
 first_match a zero some = absurd (omega (arith, some))
 first_match a (suc n) some = refl
 
-even_of : (a : Asked) (n : ℕ) → 1 ≤ n → version_in a.lists ≡ One → AreEven (map (sending_at a) (range_with_len 0 n))
+even_of : (a : Asked) (n : ℕ) → 1 ≤ n → version_in a.lists ≡ One → AreEven (map (transmission_at a) (range_with_len 0 n))
 even_of a n some one i d within =
-    ap (λ (s : Sending). s.m) (get_or-map-range_with_len (sending_at a) 0 n i i d (omega (arith, within, length-map-range_with_len (sending_at a) 0 n)) (omega arith))
+    ap (λ (s : Sending). s.m) (get_or-map-range_with_len (transmission_at a) 0 n i i d (omega (arith, within, length-map-range_with_len (transmission_at a) 0 n)) (omega arith))
     ∙ same_match a i 0 one ∙ sym (first_match a n some)
 
-pub held_of : (a : Asked) (n : ℕ) (sends : List Sending) → 1 ≤ n → sends ≡ map (sending_at a) (range_with_len 0 n) → AreHeld (version_in a.lists) sends
+pub held_of : (a : Asked) (n : ℕ) (sends : List Sending) → 1 ≤ n → sends ≡ map (transmission_at a) (range_with_len 0 n) → AreHeld (version_in a.lists) sends
 held_of a n sends some is one = subst AreEven (sym is) (even_of a n some one)
 
 -- ---- the other numbers

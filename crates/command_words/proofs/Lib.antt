@@ -2,5 +2,5 @@ mod Listed
 mod Gathered
 mod Givens
 mod Ranged
-mod Sendings
+mod TransmissionsAsked
 mod Asked

@@ -17,8 +17,8 @@ shorter mark [] has = cc
 shorter mark (c ∷ text) has = grind (arith, common_steps, shorter mark text, has)
 
 -- the mark counts
-pub behind_shorter : (mark : ℕ) (text after : List ℕ) → list_any (λ c. c == mark) text ≡ true → after ≡ after_first (λ c. c == mark) text → length after < length text
-behind_shorter mark text after has is =
+pub shorter_after : (mark : ℕ) (text after : List ℕ) → list_any (λ c. c == mark) text ≡ true → after ≡ after_first (λ c. c == mark) text → length after < length text
+shorter_after mark text after has is =
     let P : List ℕ → Type 0 = λ t. length t < length text in
     subst P (sym is) (shorter mark text has)
 

@@ -10,7 +10,7 @@ use Rattle.command_words.specs.Operands.{given, only}
 use Rattle.command_words.specs.Refusals.{refused, refused_at}
 use Rattle.command_words.specs.Rules.{in_form}
 use Rattle.command_words.specs.Tables.{g_number, qm_number, nl_number, rv_list, tb_number, nir_number}
-use Rattle.command_words.specs.Transmissions.{place_of, uneven_list, sendings, is_multiple, limit_in, version_in}
+use Rattle.command_words.specs.Transmissions.{place_of, uneven_list, transmissions, is_multiple, limit_in, version_in}
 use Rattle.command_words.specs.declared.blocks.CodedBlocks.{CodedBlocks}
 use Rattle.command_words.specs.declared.operands.Operand.{Operand}
 use Rattle.command_words.specs.declared.operands.WordRefusal.{WordRefusal}
@@ -42,6 +42,6 @@ asked_of form operands = asked_found (lists_of form operands)
 
 abbrev pub blocks_given : Asked → Result CodedBlocks WordRefusal
 blocks_given a = refused_at (place_of (uneven_list (length a.rv.numbers) a.lists))
-    (if not (list_all is_multiple (sendings a)) then refused 7 a.lists.g.place
+    (if not (list_all is_multiple (transmissions a)) then refused 7 a.lists.g.place
     else if not (fits_all (limit_in a) (only a.tb)) then refused 8 a.nir.place
-    else Ok (record { version = version_in a.lists; tb = only a.tb; sends = sendings a }))
+    else Ok (record { version = version_in a.lists; tb = only a.tb; sends = transmissions a }))

@@ -43,7 +43,7 @@ numbers_of rule text =
 
 -- ---- words
 
--- a word has a name where it has a `=`, and the name is what stands before the first
+-- a word has a name where it has a `=`, and the name is what is before the first
 abbrev pub is_equals : ℕ → Bool
 is_equals c = c == 61
 
@@ -97,7 +97,7 @@ abbrev pub accepted : (place : ℕ) → Result (List ℕ) ℕ → Option Operand
 accepted place (Ok numbers) = Some (record { place = place; numbers = numbers })
 accepted place (Err number) = None
 
--- none where no number has to stand
+-- none where there is no default
 abbrev pub default_of : Option ℕ → Option Operand
 default_of None = None
 default_of (Some number) = Some (record { place = 0; numbers = number ∷ [] })

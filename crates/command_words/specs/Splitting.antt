@@ -4,7 +4,7 @@ use Rattle.std.specs.List.{before_first, after_first, list_any}
 use Rattle.std.specs.declared.option.Option.{Option}
 use denote.Ref.{Bor}
 
--- what stands before the first mark and after it, or no mark
+-- what is before the first mark and after it, or no mark
 abbrev pub IsSplit : (mark : ℕ) → (text : List ℕ) → Option (Bor (List ℕ) × Bor (List ℕ)) → Type 0
 IsSplit mark text None = list_any (λ c. c == mark) text ≡ false
 IsSplit mark text (Some x) = (list_any (λ c. c == mark) text ≡ true)

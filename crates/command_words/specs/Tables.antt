@@ -1,4 +1,4 @@
--- What each command takes: for each name which numbers are accepted, and what stands where it isn't given.
+-- What each command takes: for each name which numbers are accepted, and what is taken where it isn't given.
 use Rattle.std.specs.Prelude.{ℕ, List, [], ◌∷◌, Some, None}
 use Rattle.command_words.specs.Rules.{in_form}
 use Rattle.command_words.specs.declared.rules.Name.{Name}
@@ -12,7 +12,7 @@ use Rattle.command_words.specs.declared.rules.Rule.{Rule}
 abbrev pub required : Name → Range → Rule
 required name range = record { name = name; form = Number; range = range; default = None }
 
--- a number, and what stands for it
+-- a number, and what is taken where it isn't given
 abbrev pub optional : Name → Range → ℕ → Rule
 optional name range n = record { name = name; form = Number; range = range; default = Some n }
 

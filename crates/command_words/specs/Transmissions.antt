@@ -41,15 +41,15 @@ abbrev pub limit_in : Asked → Option ℕ
 limit_in a = limit_asked (slice_index a.nir.numbers 0)
 
 -- transmission i
-abbrev pub sending_at : Asked → ℕ → Sending
-sending_at a i =
+abbrev pub transmission_at : Asked → ℕ → Sending
+transmission_at a i =
     record {
       m = record { qm = each a.lists.qm i; nl = each a.lists.nl i; g = each a.lists.g i; limit = limit_in a };
       rv = slice_index a.rv.numbers i;
     }
 
-abbrev pub sendings : Asked → List Sending
-sendings a = map (sending_at a) (range_with_len 0 (length a.rv.numbers))
+abbrev pub transmissions : Asked → List Sending
+transmissions a = map (transmission_at a) (range_with_len 0 (length a.rv.numbers))
 
 -- G is a multiple of N_L * Q_m
 abbrev pub is_multiple : Sending → Bool

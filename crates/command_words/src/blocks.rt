@@ -9,7 +9,7 @@ ghost use Rattle.command_words.specs.Transmissions.{AreGiven, AreListsGiven, ver
 use crate::operands::{WordRefusal, given};
 use crate::rules::Form;
 use crate::transmission_tables::{G_NUMBER, NIR_NUMBER, NL_NUMBER, QM_NUMBER, RV_LIST, TB_NUMBER};
-use crate::transmissions::{Asked, Lists, sends};
+use crate::transmissions::{Asked, Lists, transmissions_given};
 use coded_stream::Version;
 use rate_match::{Sends, fits};
 
@@ -65,7 +65,7 @@ pub fn blocks_given(asked: &Asked) -> Result<CodedBlocks, WordRefusal>
         return Err(WordRefusal { number: 7, place });
     }
     let tb = asked.tb.numbers.at(0) as usize;
-    match sends(asked) {
+    match transmissions_given(asked) {
         Some(sends) => {
             if fits(&sends.at(0).0, tb) {
                 Ok(CodedBlocks {

@@ -1,7 +1,8 @@
 //! The operands of a command, such as `g=132`.
 ghost use Rattle.std.specs.Prelude.{◌≡◌, [], IfSome, true};
 ghost use Rattle.command_words.specs.Given.{IsGiven, HasDefault};
-ghost use Rattle.command_words.specs.Operands.{rule_of, is_named, value_under, accepted, numbers_of, default_of, fault_of, first_fault, given, number_given};
+ghost use Rattle.command_words.specs.Operands.{rule_of, is_named, value_under, accepted, numbers_of};
+ghost use Rattle.command_words.specs.Operands.{default_of, fault_of, first_fault, given, number_given};
 ghost use Rattle.command_words.specs.Refusals.{missing};
 ghost use Rattle.command_words.specs.Rules.{in_range};
 ghost use Rattle.command_words.specs.Texts.{text_of_option, texts_of};
@@ -14,14 +15,14 @@ use crate::splitting::split_first;
 
 /// The first word that is refused, and why: 1 no command, 2 an unknown command, 3 an unknown name,
 /// 4 a repeated name, 5 a missing name, 6 not spelt as a number, 7 out of range, 8 a soft buffer
-/// that is too small. Places count words from the command, which stands at 0.
+/// that is too small. Places count words from the command, which is at 0.
 #[derive(Clone, Copy, Debug, PartialEq, Eq, Hash)]
 pub struct WordRefusal {
     pub number: u8,
     pub place: usize,
 }
 
-/// What the words give under one name, and where; a default stands at no place, which is 0.
+/// What the words give under one name, and where; a default has no place, which is 0.
 #[derive(Debug, Drop)]
 pub struct Operand {
     pub place: usize,
@@ -39,7 +40,7 @@ fn rule_of(rules: &[Rule], name: &str) -> Option<Rule>
     None
 }
 
-/// What stands after the name, where the word has that name.
+/// What comes after the name, where the word has that name.
 fn value_of<'a>(word: &'a str, name: &str) -> Option<&'a str>
     ensures { text_of_option result ≡ value_under name.now word.now }
 {
@@ -94,7 +95,7 @@ pub fn first_fault(rules: &[Rule], operands: &[&str]) -> Option<WordRefusal>
     None
 }
 
-/// The numbers that stand where a rule's name isn't given.
+/// The numbers that are taken where a rule's name isn't given.
 fn default_of(rule: &Rule) -> Option<Operand>
     requires { HasDefault rule.now }
     ensures value { result ≡ default_of rule.now.default }
@@ -106,7 +107,7 @@ fn default_of(rule: &Rule) -> Option<Operand>
     Some(Operand { place: 0, numbers })
 }
 
-/// The numbers of a value that stands at a place, where they are accepted.
+/// The numbers of a value at a place, where they are accepted.
 #[tactic(auto, using(crate::proofs::Ranged::numbers_given))]
 fn accepted(rule: &Rule, place: usize, value: &str) -> Option<Operand>
     ensures value { result ≡ accepted place (numbers_of rule.now value.now) }

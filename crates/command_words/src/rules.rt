@@ -1,5 +1,5 @@
 //! What the commands take: for each name of an operand how its numbers are spelt, which of them
-//! are accepted, and what stands where it isn't given.
+//! are accepted, and what is taken where it isn't given.
 ghost use Rattle.std.specs.Prelude.{◌≡◌, ◌<◌, ◌^◌, ◌≤◌, IsTrue};
 ghost use Rattle.command_words.specs.Rules.{name_text, most, in_range, in_form};
 
@@ -124,7 +124,7 @@ pub struct Rule {
     pub name: Name,
     pub form: Form,
     pub range: Range,
-    /// The number that stands where none is given. `None`: one has to be given.
+    /// The number that is taken where none is given. `None`: one has to be given.
     pub default: Option<u64>,
 }
 
@@ -136,3 +136,32 @@ impl Rule {
         Rule { form, ..self }
     }
 }
+
+// A rule by its name, its form, its range and its default. A macro, since a constant calls no function.
+macro_rules! rule {
+    ($name:ident, $form:ident, $range:ident($least:expr, $greatest:expr), $default:expr) => {
+        Rule {
+            name: Name::$name,
+            form: Form::$form,
+            range: Range::$range {
+                least: $least,
+                greatest: $greatest,
+            },
+            default: $default,
+        }
+    };
+}
+
+pub(crate) use rule;
+
+// The same rule for the numbers of the transmissions of a block.
+macro_rules! for_transmissions {
+    ($rule:expr) => {
+        Rule {
+            form: Form::ForTransmissions,
+            ..$rule
+        }
+    };
+}
+
+pub(crate) use for_transmissions;

@@ -1,150 +1,39 @@
-//! What each command takes.
-use crate::rules::{Form, Name, Range, Rule};
+//! What each command takes: for each name the form of its numbers, their range, and the number that is taken
+//! where none is given.
+use crate::rules::{Form, Name, Range, Rule, rule};
 use crate::transmission_tables::{
     G_LIST, G_NUMBER, NIR_NUMBER, NL_LIST, NL_NUMBER, QM_LIST, QM_NUMBER, RV_LIST, RV_OF_ONE,
     TB_NUMBER,
 };
 
-const WINDOW_COUNTS: Range = Range::Between {
-    least: 1,
-    greatest: 64,
-};
+// The decoding: the most windows of a code block and the most iterations, and the threads that decode a code
+// block, or transport blocks.
+pub const WINDOWS_NUMBER: Rule = rule!(Windows, Number, Between(1, 64), Some(8));
 
-const TO_SIXTEEN: Range = Range::Between {
-    least: 1,
-    greatest: 16,
-};
+pub const LIMIT_NUMBER: Rule = rule!(Limit, Number, Between(1, 16), Some(8));
 
-/// The most windows of a code block.
-pub const WINDOWS_NUMBER: Rule = Rule {
-    name: Name::Windows,
-    form: Form::Number,
-    range: WINDOW_COUNTS,
-    default: Some(8),
-};
+pub const WORKERS_NUMBER: Rule = rule!(Workers, Number, Between(1, 16), Some(1));
 
-/// The most iterations.
-pub const LIMIT_NUMBER: Rule = Rule {
-    name: Name::Limit,
-    form: Form::Number,
-    range: TO_SIXTEEN,
-    default: Some(8),
-};
+pub const PIPES_NUMBER: Rule = rule!(Pipes, Number, Between(1, 8), Some(2));
 
-/// The threads that decode a code block.
-pub const WORKERS_NUMBER: Rule = Rule {
-    name: Name::Workers,
-    form: Form::Number,
-    range: TO_SIXTEEN,
-    default: Some(1),
-};
+// The channel: the soft value of a bit 0, how strong the noise is, and the seed of all that is drawn.
+pub const AMP_NUMBER: Rule = rule!(Amp, Number, Between(1, 127), None);
 
-/// The threads that decode transport blocks.
-pub const PIPES_NUMBER: Rule = Rule {
-    name: Name::Pipes,
-    form: Form::Number,
-    range: Range::Between {
-        least: 1,
-        greatest: 8,
-    },
-    default: Some(2),
-};
+pub const NOISE_NUMBER: Rule = rule!(Noise, Number, Between(0, 127), None);
 
-const AMPLITUDES: Range = Range::Between {
-    least: 1,
-    greatest: 127,
-};
+pub const SEED_NUMBER: Rule = rule!(Seed, Number, Between(0, 18_446_744_073_709_551_615), None);
 
-const STRENGTHS: Range = Range::Between {
-    least: 0,
-    greatest: 127,
-};
+// The blocks of a trial.
+pub const BLOCKS_NUMBER: Rule = rule!(Blocks, Number, Between(1, 4_096), None);
 
-const SEEDS: Range = Range::Between {
-    least: 0,
-    greatest: 18_446_744_073_709_551_615,
-};
+// Scrambling: n_RNTI, q, n_s and the cell's identity of 36.211 6.3.1.
+pub const RNTI_NUMBER: Rule = rule!(Rnti, Number, Between(0, 65_535), None);
 
-/// The soft value that stands for a bit 0.
-pub const AMP_NUMBER: Rule = Rule {
-    name: Name::Amp,
-    form: Form::Number,
-    range: AMPLITUDES,
-    default: None,
-};
+pub const Q_NUMBER: Rule = rule!(Q, Number, Between(0, 1), None);
 
-/// How strong the noise is.
-pub const NOISE_NUMBER: Rule = Rule {
-    name: Name::Noise,
-    form: Form::Number,
-    range: STRENGTHS,
-    default: None,
-};
+pub const SLOT_NUMBER: Rule = rule!(Slot, Number, Between(0, 19), None);
 
-/// The seed of all that is drawn.
-pub const SEED_NUMBER: Rule = Rule {
-    name: Name::Seed,
-    form: Form::Number,
-    range: SEEDS,
-    default: None,
-};
-
-const BLOCK_COUNTS: Range = Range::Between {
-    least: 1,
-    greatest: 4_096,
-};
-
-/// The blocks of a trial.
-pub const BLOCKS_NUMBER: Rule = Rule {
-    name: Name::Blocks,
-    form: Form::Number,
-    range: BLOCK_COUNTS,
-    default: None,
-};
-
-/// The receiver's identity, n_RNTI.
-pub const RNTI_NUMBER: Rule = Rule {
-    name: Name::Rnti,
-    form: Form::Number,
-    range: Range::Between {
-        least: 0,
-        greatest: 65_535,
-    },
-    default: None,
-};
-
-/// The codeword's number, q.
-pub const Q_NUMBER: Rule = Rule {
-    name: Name::Q,
-    form: Form::Number,
-    range: Range::Between {
-        least: 0,
-        greatest: 1,
-    },
-    default: None,
-};
-
-/// The slot in the radio frame, n_s.
-pub const SLOT_NUMBER: Rule = Rule {
-    name: Name::Slot,
-    form: Form::Number,
-    range: Range::Between {
-        least: 0,
-        greatest: 19,
-    },
-    default: None,
-};
-
-/// The cell's identity.
-pub const CELL_NUMBER: Rule = Rule {
-    name: Name::Cell,
-    form: Form::Number,
-    range: Range::Between {
-        least: 0,
-        greatest: 503,
-    },
-    default: None,
-};
+pub const CELL_NUMBER: Rule = rule!(Cell, Number, Between(0, 503), None);
 
 /// What `codeword` takes.
 pub const CODEWORD: [Rule; 3] = [G_NUMBER, QM_NUMBER, RV_OF_ONE];

@@ -1,112 +1,24 @@
-//! How the transmissions are given.
-use crate::rules::{Form, Name, Range, Rule};
+//! How the transmissions of a block are given: G, Q_m, the redundancy version, N_L, the bytes of the greatest
+//! payload, and N_IR, which is 0 for a full buffer.
+use crate::rules::{Form, Name, Range, Rule, for_transmissions, rule};
 
-const TO_A_MILLION: Range = Range::Between {
-    least: 1,
-    greatest: 1_000_000,
-};
+pub const G_NUMBER: Rule = rule!(G, Number, Between(1, 1_000_000), None);
 
-const MODULATIONS: Range = Range::Even {
-    least: 2,
-    greatest: 6,
-};
+pub const QM_NUMBER: Rule = rule!(Qm, Number, Even(2, 6), None);
 
-const VERSIONS: Range = Range::Between {
-    least: 0,
-    greatest: 3,
-};
+pub const RV_OF_ONE: Rule = rule!(Rv, ListOfOne, Between(0, 3), None);
 
-/// G of one transmission.
-pub const G_NUMBER: Rule = Rule {
-    name: Name::G,
-    form: Form::Number,
-    range: TO_A_MILLION,
-    default: None,
-};
+pub const NL_NUMBER: Rule = rule!(Nl, Number, Between(1, 2), Some(1));
 
-/// Q_m of one transmission.
-pub const QM_NUMBER: Rule = Rule {
-    name: Name::Qm,
-    form: Form::Number,
-    range: MODULATIONS,
-    default: None,
-};
+pub const TB_NUMBER: Rule = rule!(Tb, Number, Between(1, 18_722), None);
 
-/// The redundancy version of one transmission.
-pub const RV_OF_ONE: Rule = Rule {
-    name: Name::Rv,
-    form: Form::ListOfOne,
-    range: VERSIONS,
-    default: None,
-};
+pub const NIR_NUMBER: Rule = rule!(Nir, Number, Between(0, 1_000_000), Some(0));
 
-const LENGTHS: Range = Range::Between {
-    least: 1,
-    greatest: 18_722,
-};
+// The same with a number for each transmission.
+pub const G_LIST: Rule = for_transmissions!(G_NUMBER);
 
-const LAYERS: Range = Range::Between {
-    least: 1,
-    greatest: 2,
-};
+pub const QM_LIST: Rule = for_transmissions!(QM_NUMBER);
 
-const LIMITS: Range = Range::Between {
-    least: 0,
-    greatest: 1_000_000,
-};
+pub const RV_LIST: Rule = for_transmissions!(RV_OF_ONE);
 
-/// The bytes of the greatest payload.
-pub const TB_NUMBER: Rule = Rule {
-    name: Name::Tb,
-    form: Form::Number,
-    range: LENGTHS,
-    default: None,
-};
-
-/// G of each transmission.
-pub const G_LIST: Rule = Rule {
-    name: Name::G,
-    form: Form::ForTransmissions,
-    range: TO_A_MILLION,
-    default: None,
-};
-
-/// Q_m of each transmission.
-pub const QM_LIST: Rule = Rule {
-    name: Name::Qm,
-    form: Form::ForTransmissions,
-    range: MODULATIONS,
-    default: None,
-};
-
-/// The redundancy version of each transmission.
-pub const RV_LIST: Rule = Rule {
-    name: Name::Rv,
-    form: Form::ForTransmissions,
-    range: VERSIONS,
-    default: None,
-};
-
-/// N_L of one transmission.
-pub const NL_NUMBER: Rule = Rule {
-    name: Name::Nl,
-    form: Form::Number,
-    range: LAYERS,
-    default: Some(1),
-};
-
-/// N_L of each transmission.
-pub const NL_LIST: Rule = Rule {
-    name: Name::Nl,
-    form: Form::ForTransmissions,
-    range: LAYERS,
-    default: Some(1),
-};
-
-/// N_IR, 0 for a full buffer.
-pub const NIR_NUMBER: Rule = Rule {
-    name: Name::Nir,
-    form: Form::Number,
-    range: LIMITS,
-    default: Some(0),
-};
+pub const NL_LIST: Rule = for_transmissions!(NL_NUMBER);

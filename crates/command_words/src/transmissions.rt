@@ -4,7 +4,9 @@ ghost use Rattle.std.specs.List.{list_all};
 ghost use Rattle.rate_match.specs.Matching.{is_g, limit_of};
 ghost use Rattle.command_words.specs.Rules.{in_range};
 ghost use Rattle.command_words.specs.Tables.{modulations, layers, to_a_million, limits};
-ghost use Rattle.command_words.specs.Transmissions.{each, is_each, place_of, uneven_list, limit_asked, sending_at, sendings, is_multiple, version_in, AreGiven};
+ghost use Rattle.command_words.specs.Transmissions.{each, is_each, place_of, uneven_list, limit_asked};
+ghost use Rattle.command_words.specs.Transmissions.{transmission_at, transmissions, is_multiple};
+ghost use Rattle.command_words.specs.Transmissions.{version_in, AreGiven};
 
 use crate::operands::Operand;
 use coded_stream::Version;
@@ -104,13 +106,13 @@ fn matching(qm: u64, nl: u64, g: u64, nir: u64) -> Option<Match>
 }
 
 /// Transmission `i`, where G is a multiple of N_L * Q_m.
-fn sending(asked: &Asked, i: usize) -> Option<Sending>
+fn transmission_given(asked: &Asked, i: usize) -> Option<Sending>
     requires given { AreGiven asked.now }
     requires even { uneven_list (length asked.now.rv.numbers) asked.now.lists ≡ None }
     requires within { i < length asked.now.rv.numbers }
-    ensures value { result ≡ if is_multiple (sending_at asked.now i)
-        then Some (sending_at asked.now i) else None }
-    ensures version { IfSome result (λ sending. sending.rv ≤ 3) }
+    ensures value { result ≡ if is_multiple (transmission_at asked.now i)
+        then Some (transmission_at asked.now i) else None }
+    ensures version { IfSome result (λ s. s.rv ≤ 3) }
 {
     let count = asked.rv.numbers.len();
     let qm = asked.lists.qm.each(i, count);
@@ -124,15 +126,16 @@ fn sending(asked: &Asked, i: usize) -> Option<Sending>
 }
 
 /// The transmissions, where for each G is a multiple of N_L * Q_m.
-pub fn sends(asked: &Asked) -> Option<Sends>
+pub fn transmissions_given(asked: &Asked) -> Option<Sends>
     requires given { AreGiven asked.now }
     requires even { uneven_list (length asked.now.rv.numbers) asked.now.lists ≡ None }
-    ensures { result ≡ if list_all is_multiple (sendings asked.now) then Some (sendings asked.now) else None }
+    ensures { result ≡ if list_all is_multiple (transmissions asked.now)
+        then Some (transmissions asked.now) else None }
 {
-    let first = sending(asked, 0)?;
+    let first = transmission_given(asked, 0)?;
     let mut sends = Sends::one(first.m, first.rv)?;
     for i in 1..asked.rv.numbers.len() {
-        match sending(asked, i) {
+        match transmission_given(asked, i) {
             Some(next) => {
                 if !sends.add(next.m, next.rv) {
                     return None;

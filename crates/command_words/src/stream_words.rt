@@ -2,7 +2,8 @@
 ghost use Rattle.std.specs.Prelude.{◌≡◌, IfOk};
 ghost use Rattle.command_words.specs.Lawful.{IsLawful, IsChannel};
 ghost use Rattle.command_words.specs.Texts.{texts_of};
-ghost use Rattle.command_words.specs.Commands.{batch_of, decode_of, channel_asked, channel_of, points_of, upgrade_of};
+ghost use Rattle.command_words.specs.Commands.{batch_of, decode_of, upgrade_of};
+ghost use Rattle.command_words.specs.Commands.{channel_asked, channel_of, points_of};
 
 use crate::operands::{WordRefusal, first_fault, missing, number_given};
 use crate::settings::{ChannelNumbers, channel_numbers, decoding_numbers};
