@@ -67,7 +67,7 @@ static void codewords(void) {
 
     expect("codeword", gomzelat_codeword(sent, LENGTH, good, 0, out, sizeof out), GOMZELAT_DONE);
     expect_bytes("the codeword", out, codeword, sizeof codeword);
-    expect_bytes("what is behind it", out + sizeof codeword, kept, sizeof out - sizeof codeword);
+    expect_bytes("what is after it", out + sizeof codeword, kept, sizeof out - sizeof codeword);
     expect("codeword with just room", gomzelat_codeword(sent, LENGTH, good, UINT32_MAX, out, 17), GOMZELAT_DONE);
     expect_bytes("the codeword of a large buffer", out, codeword, sizeof codeword);
     expect("codeword of a buffer that just fits", gomzelat_codeword(sent, LENGTH, good, 64, out, 17), GOMZELAT_DONE);
@@ -143,7 +143,7 @@ static void receptions(void) {
     expect("delivered", outcome.delivered, 1);
     expect("after the first transmission", outcome.transmissions, 1);
     expect_bytes("the payload", payload, sent, LENGTH);
-    expect_bytes("what is behind the payload", payload + LENGTH, kept, sizeof payload - LENGTH);
+    expect_bytes("what is after the payload", payload + LENGTH, kept, sizeof payload - LENGTH);
 }
 
 static void channels(void) {
@@ -178,7 +178,7 @@ static void channels(void) {
 
     expect("zeros", gomzelat_noisy(low, 3, 18, channel, 0, 0, out, sizeof out), GOMZELAT_DONE);
     expect_bytes("the values of zeros", out, zeros, 18);
-    expect_bytes("what is behind the values", out + 18, kept, 2);
+    expect_bytes("what is after the values", out + 18, kept, 2);
     expect("ones", gomzelat_noisy(high, 3, 18, channel, 0, 0, out, sizeof out), GOMZELAT_DONE);
     expect_bytes("the values of ones", out, ones, 18);
     const struct gomzelat_channel noisy = {.seed = 0x0102030405060708, .amp = 1, .noise = 127};

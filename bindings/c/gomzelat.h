@@ -59,7 +59,7 @@ struct gomzelat_transmission {
 };
 
 /* Writes the codeword of a transmission: to `out`, of `room` bytes, its G bits in GOMZELAT_BYTES(G) bytes, with unused
- * low bits 0; the bytes behind them are left.
+ * low bits 0; the bytes after them are left.
  *
  * `payload`, `length`: the transport block, 1 to GOMZELAT_MOST_BYTES bytes.
  * `n_ir`: N_IR, the soft values of the receiver's buffer for the transport block, or 0 for a full buffer. Of it, each

@@ -13,23 +13,23 @@ one_more : (holds : Bool) (r : Refusal) (a b c : Option Refusal) → a ≡ or_el
 one_more true r a b c is = is
 one_more false r a b c is = λ _. Some r
 
-behind : (xs ys : List Test) → first_failed (xs ++ ys) ≡ or_else (first_failed xs) (first_failed ys)
-behind [] ys = λ _. first_failed ys
-behind (x ∷ xs) ys = one_more x.holds x.otherwise (first_failed (xs ++ ys)) (first_failed xs) (first_failed ys) (behind xs ys)
+first_of_both : (xs ys : List Test) → first_failed (xs ++ ys) ≡ or_else (first_failed xs) (first_failed ys)
+first_of_both [] ys = λ _. first_failed ys
+first_of_both (x ∷ xs) ys = one_more x.holds x.otherwise (first_failed (xs ++ ys)) (first_failed xs) (first_failed ys) (first_of_both xs ys)
 
 -- where none of these fails, one of the others may
 pub none_failed : (xs ys : List Test) → first_failed xs ≡ None → first_failed (xs ++ ys) ≡ first_failed ys
-none_failed xs ys none = behind xs ys ∙ ap (λ o. or_else o (first_failed ys)) none
+none_failed xs ys none = first_of_both xs ys ∙ ap (λ o. or_else o (first_failed ys)) none
 
 -- where one of these fails, it is the first of all
 pub one_failed : (xs ys : List Test) (r : Refusal) → first_failed xs ≡ Some r → first_failed (xs ++ ys) ≡ Some r
-one_failed xs ys r one = behind xs ys ∙ ap (λ o. or_else o (first_failed ys)) one
+one_failed xs ys r one = first_of_both xs ys ∙ ap (λ o. or_else o (first_failed ys)) one
 
 -- two tests hold, and the others are left
-pub behind_two : (a b : Bool) (r s : Refusal) (ts : List Test) → a ≡ true → b ≡ true → first_failed (test a r ∷ test b s ∷ ts) ≡ first_failed ts
-behind_two true true r s ts h k = λ _. first_failed ts
-behind_two true false r s ts h k = cc
-behind_two false b r s ts h k = cc
+pub after_two : (a b : Bool) (r s : Refusal) (ts : List Test) → a ≡ true → b ≡ true → first_failed (test a r ∷ test b s ∷ ts) ≡ first_failed ts
+after_two true true r s ts h k = λ _. first_failed ts
+after_two true false r s ts h k = cc
+after_two false b r s ts h k = cc
 
 pub is_from_true : (low high n : ℕ) → low ≤ n → n ≤ high → is_from low high n ≡ true
 is_from_true low high n h k = ap (λ (b : Bool). b && nat_le n high) (le-leb low n h) ∙ le-leb n high k

@@ -7,7 +7,7 @@ use Rattle.std.proofs.lemmas.Grind.{flat_map-append, get_or_after_one}
 use Rattle.std.proofs.lemmas.List.{length-drop, map-append, take-append-drop, take_all, take_more}
 use Rattle.rate_match.specs.Matching.{is_g, is_nl, is_qm}
 use Rattle.rate_match.specs.Sendings.{common}
-use Rattle.gomzelat_c.specs.Sendings.{sending_of, sendings}
+use Rattle.gomzelat_c.specs.Transmissions.{transmission_of, transmissions_of}
 use Rattle.gomzelat_c.specs.Tests.{first_failed, test, transmission_tests}
 use Rattle.gomzelat_c.specs.declared.refusal.Refusal.{Refusal}
 use Rattle.gomzelat_c.specs.declared.refusal.Refusal.TheVariants.{BadQm, BadNl, BadG, BadVersion}
@@ -41,8 +41,8 @@ passed_to ts k d below before here =
     ∙ none_failed (transmission_tests t) [] here
 
 pub sends_to : (limit : Option ℕ) (ts : List Transmission) (k : ℕ) (d : Transmission) → k < length ts →
-    sendings limit (take (k + 1) ts) ≡ sendings limit (take k ts) ++ sending_of limit (get_or ts k d) ∷ []
-sends_to limit ts k d below = ap (sendings limit) (take_more ts k d below) ∙ map-append (sending_of limit) (take k ts) (get_or ts k d ∷ [])
+    transmissions_of limit (take (k + 1) ts) ≡ transmissions_of limit (take k ts) ++ transmission_of limit (get_or ts k d) ∷ []
+sends_to limit ts k d below = ap (transmissions_of limit) (take_more ts k d below) ∙ map-append (transmission_of limit) (take k ts) (get_or ts k d ∷ [])
 
 -- those after the first
 pub after_first : (ts : List Transmission) (i : ℕ) (d : Transmission) → get_or (take (length ts - 1) (drop 1 ts)) i d ≡ get_or ts (i + 1) d
@@ -50,7 +50,7 @@ after_first ts i d =
     let rest : length (drop 1 ts) ≤ length ts - 1 = omega (arith, length-drop 1 ts) in
     ap (λ xs. get_or xs i d) (take_all (length ts - 1) (drop 1 ts) rest) ∙ get_or_after_one ts i d ∙ ap (λ n. get_or ts n d) (let e : 1 + i ≡ i + 1 = omega arith in e)
 
-pub common_limit : (limit : Option ℕ) (ts : List Transmission) → 1 ≤ length ts → (common (sendings limit ts)).limit ≡ limit
+pub common_limit : (limit : Option ℕ) (ts : List Transmission) → 1 ≤ length ts → (common (transmissions_of limit ts)).limit ≡ limit
 common_limit limit [] some = absurd (omega (arith, some))
 common_limit limit (t ∷ ts) some = refl
 

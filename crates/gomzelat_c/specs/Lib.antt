@@ -1,6 +1,6 @@
 pub mod Refusals
 pub mod Tests
-pub mod Sendings
+pub mod Transmissions
 pub mod Receiving
 pub mod Noise
 pub mod Buffers

@@ -7,7 +7,7 @@ use Rattle.model_receiver.specs.declared.result.TbOutcome.{TbOutcome}
 use Rattle.model_receiver.specs.declared.result.TbOutcome.TheVariants.{Delivered, Failed}
 use Rattle.block_receive.specs.Receptions.{receptions}
 use Rattle.gomzelat_c.specs.Buffers.{with_front}
-use Rattle.gomzelat_c.specs.Sendings.{limit_in, sendings}
+use Rattle.gomzelat_c.specs.Transmissions.{limit_in, transmissions_of}
 use Rattle.gomzelat_c.specs.declared.receiver.Outcome.{Outcome}
 use Rattle.gomzelat_c.specs.declared.receiver.Receiver.{Receiver}
 use Rattle.gomzelat_c.specs.declared.transmission.Transmission.{Transmission}
@@ -17,7 +17,7 @@ use Rattle.gomzelat_c.specs.declared.transmission.Transmission.{Transmission}
 abbrev pub received : (bytes : ℕ) → List Transmission → Receiver → (values : List ℤ) → TbOutcome
 received bytes ts r values =
     outcome (plan_of bytes) (record { windows = r.windows; limit = r.limit })
-    (receptions (sendings (limit_in r.n_ir) ts) (map (clamped 127) values))
+    (receptions (transmissions_of (limit_in r.n_ir) ts) (map (clamped 127) values))
 
 -- what is told of an outcome
 abbrev pub summary : TbOutcome → Outcome

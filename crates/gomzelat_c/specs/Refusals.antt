@@ -31,7 +31,7 @@ abbrev pub told : Option Refusal → ℕ
 told None = 0
 told (Some refusal) = number_of refusal
 
--- what a call answers that takes memory, where this is the first that is refused: its number; and where
+-- what a call answers that allocates, where this is the first that is refused: its number; and where
 -- nothing is refused, that the call is done, or that memory ran out
 abbrev pub IsTold : ℕ → Option Refusal → Type 0
 IsTold n (Some refusal) = n ≡ number_of refusal

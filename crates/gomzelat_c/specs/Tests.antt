@@ -5,7 +5,7 @@ use Rattle.std.specs.List.{sum_by}
 use Rattle.model_sender.specs.Segmentation.{plan_of}
 use Rattle.rate_match.specs.Matching.{is_g, is_nl, is_qm}
 use Rattle.rate_match.specs.Fitting.{fits_in}
-use Rattle.gomzelat_c.specs.Sendings.{limit_in}
+use Rattle.gomzelat_c.specs.Transmissions.{limit_in}
 use Rattle.gomzelat_c.specs.declared.channel.Channel.{Channel}
 use Rattle.gomzelat_c.specs.declared.receiver.Receiver.{Receiver}
 use Rattle.gomzelat_c.specs.declared.refusal.Refusal.{Refusal}
@@ -77,7 +77,7 @@ reception_tests bytes ts r values room =
     ∷ flat_map transmission_tests ts
     ++ test_receiver bytes ts r values room
 
--- soft values of so many bits, which stand in so many bytes, with room for so many values
+-- soft values of so many bits, which are in so many bytes, with room for so many values
 abbrev pub noise_tests : (bits bytes : ℕ) → Channel → (number room : ℕ) → List Test
 noise_tests bits bytes c number room =
     test (nat_le (byte_count bits) bytes) BadBits

@@ -8,7 +8,7 @@ ghost use Rattle.gomzelat_c.specs.Tests.{byte_count};
 use lte_bits::{Bit, List, NoMemory, Soft, unpack};
 use std::alloc::Global;
 
-/// Writes bytes to the front of a buffer.
+/// Writes bytes to the beginning of a buffer.
 pub fn write_bytes(buffer: &mut [u8], bytes: &[u8])
     requires { length bytes.now ≤ length buffer.old }
     ensures { buffer.new ≡ with_front bytes.now buffer.old }
@@ -16,7 +16,7 @@ pub fn write_bytes(buffer: &mut [u8], bytes: &[u8])
     buffer[..bytes.len()].copy_from_slice(bytes);
 }
 
-/// Writes soft values to the front of a buffer.
+/// Writes soft values to the beginning of a buffer.
 pub fn write_softs(buffer: &mut [i8], softs: &[Soft])
     requires { length softs.now ≤ length buffer.old }
     ensures { buffer.new ≡ with_front softs.now buffer.old }
@@ -37,7 +37,7 @@ pub fn softs_of(alloc: Global, numbers: &[i8]) -> Result<List<Soft>, NoMemory>
     Ok(List::from_vec(softs))
 }
 
-/// The first bits of bytes, of which those behind are left alone.
+/// The first bits of bytes, of which those after them are left alone.
 pub fn bits_of(alloc: Global, count: usize, bytes: &[u8]) -> Result<List<Bit>, NoMemory>
     requires { byte_count count ≤ length bytes.now }
     ensures { IfOk result (λ bits. bits ≡ take count (unpacked bytes.now)) }

@@ -71,7 +71,7 @@ fn write_noisy(
     Ok(())
 }
 
-/// Writes to the front of `out` a soft value, -127 to 127, for each of the first `count` bits of `bits`,
+/// Writes to the beginning of `out` a soft value, -127 to 127, for each of the first `count` bits of `bits`,
 /// whose bytes have the highest bit first: what the channel makes of transmission `number`, 0 to 7, of a
 /// block, both counted from 0. Answers 0, or a `Refusal`'s number, and then nothing is changed.
 #[unsafe(no_mangle)]

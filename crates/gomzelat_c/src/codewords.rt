@@ -5,9 +5,10 @@ ghost use Rattle.lte_bits.specs.Packing.{packed};
 ghost use Rattle.model_sender.specs.CircularBuffer.{Fits, FitsIn};
 ghost use Rattle.model_sender.specs.Codeword.{codeword};
 ghost use Rattle.model_sender.specs.Segmentation.{plan_of};
+ghost use Rattle.segmentation.specs.declared.planning.TheConstants.{MOST_BYTES};
 ghost use Rattle.gomzelat_c.specs.Buffers.{with_front};
 ghost use Rattle.gomzelat_c.specs.Refusals.{IsDone, IsTold};
-ghost use Rattle.gomzelat_c.specs.Sendings.{codeword_bytes, limit_in, sending_of};
+ghost use Rattle.gomzelat_c.specs.Transmissions.{codeword_bytes, limit_in, transmission_of};
 ghost use Rattle.gomzelat_c.specs.Tests.{byte_count, codeword_tests, first_failed};
 
 use crate::buffers::write_bytes;
@@ -28,9 +29,9 @@ fn accepted(
     room: usize,
 ) -> Result<Sending, Refusal>
     ensures refused { result_err result ≡ first_failed (codeword_tests bytes transmission.now n_ir room) }
-    ensures sending { IfOk result (λ sending. sending ≡ sending_of (limit_in n_ir) transmission.now) }
+    ensures sending { IfOk result (λ sending. sending ≡ transmission_of (limit_in n_ir) transmission.now) }
     ensures some { OnOk result (1 ≤ bytes) }
-    ensures few { OnOk result (bytes ≤ 18722) }
+    ensures few { OnOk result (bytes ≤ MOST_BYTES) }
     ensures fits { OnOk result (FitsIn (limit_in n_ir) (plan_of bytes).c (plan_of bytes).k_plus) }
     ensures version { OnOk result (transmission.now.rv ≤ 3) }
     ensures room { OnOk result (byte_count transmission.now.g ≤ room) }
@@ -46,7 +47,7 @@ fn accepted(
 /// The codeword as bytes, the highest bit first.
 fn packed_codeword(alloc: Global, payload: &[u8], sending: &Sending) -> Result<List<u8>, NoMemory>
     requires some { 1 ≤ length payload.now }
-    requires few { length payload.now ≤ 18722 }
+    requires few { length payload.now ≤ MOST_BYTES }
     requires fits { Fits sending.now.m (plan_of (length payload.now)) }
     requires version { sending.now.rv ≤ 3 }
     ensures bytes { IfOk result (λ bytes. bytes
@@ -76,7 +77,7 @@ fn write_codeword(
     Ok(())
 }
 
-/// Writes the codeword of a payload of 1 to 18,722 bytes to the front of `out`: G bits in G/8 bytes,
+/// Writes the codeword of a payload of 1 to 18,722 bytes to the beginning of `out`: G bits in G/8 bytes,
 /// rounded up, the highest bit first, the unused low bits of the last byte 0. `n_ir` is 0 for a full soft
 /// buffer, or N_IR. Answers 0, or a `Refusal`'s number, and then nothing is changed.
 #[unsafe(no_mangle)]

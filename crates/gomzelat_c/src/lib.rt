@@ -8,6 +8,6 @@ pub mod channel;
 pub mod codewords;
 pub mod plans;
 pub mod receiver;
-pub mod receiving;
+pub mod receptions;
 pub mod refusal;
 pub mod transmission;

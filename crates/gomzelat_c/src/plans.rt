@@ -8,7 +8,7 @@ ghost use Rattle.gomzelat_c.specs.Tests.{first_failed, length_test};
 use crate::refusal::Refusal;
 
 /// How a transport block is cut: C, K+, K-, C+, C- and F. The first `c_minus` of the `c` code blocks have
-/// `k_minus` bits, the others `k_plus`, and `f` fillers stand first in the first one.
+/// `k_minus` bits, the others `k_plus`, and the first one begins with `f` fillers.
 #[repr(C)]
 #[derive(Clone, Copy, Debug)]
 pub struct Plan {

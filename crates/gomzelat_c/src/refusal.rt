@@ -8,7 +8,7 @@ use lte_bits::NoMemory;
 use rate_match::BadMatch;
 use segmentation::BadLength;
 
-/// What is refused, in the order in which it is tested, and want of memory.
+/// What is refused, in the order in which it is tested, and running out of memory.
 #[derive(Clone, Copy, Debug, PartialEq, Eq, Hash)]
 pub enum Refusal {
     /// A payload has no bytes, or more than 18,722.

@@ -2,7 +2,7 @@
 ghost use Rattle.std.specs.Prelude.{◌≡◌, ◌≤◌, min, IfOk, length, flat_map, sum_by};
 ghost use Rattle.std.specs.Result.{result_err};
 ghost use Rattle.rate_match.specs.Matching.{limit_of};
-ghost use Rattle.gomzelat_c.specs.Sendings.{limit_in, sending_of, sendings};
+ghost use Rattle.gomzelat_c.specs.Transmissions.{limit_in, transmission_of, transmissions_of};
 ghost use Rattle.gomzelat_c.specs.Tests.{first_failed, transmission_tests};
 
 use crate::refusal::{Refusal, accept};
@@ -42,7 +42,7 @@ impl Transmission {
     /// The transmission with a soft buffer, or what is refused of it.
     pub fn sending(&self, buffer: Buffer) -> Result<Sending, Refusal>
         ensures refused { result_err result ≡ first_failed (transmission_tests self.now) }
-        ensures sending { IfOk result (λ sending. sending ≡ sending_of (limit_of buffer) self.now) }
+        ensures sending { IfOk result (λ sending. sending ≡ transmission_of (limit_of buffer) self.now) }
     {
         let m = Match::new(in_a_byte(self.qm), in_a_byte(self.nl), self.g, buffer)?;
         accept(self.rv <= 3, Refusal::BadVersion)?;
@@ -58,7 +58,7 @@ pub fn sends_of(transmissions: &[Transmission], buffer: Buffer) -> Result<Sends,
     requires some { 1 ≤ length transmissions.now }
     requires few { length transmissions.now ≤ 8 }
     ensures refused { result_err result ≡ first_failed (flat_map transmission_tests transmissions.now) }
-    ensures sends { IfOk result (λ sends. sends ≡ sendings (limit_of buffer) transmissions.now) }
+    ensures sends { IfOk result (λ sends. sends ≡ transmissions_of (limit_of buffer) transmissions.now) }
 {
     let first = transmissions[0].sending(buffer)?;
     let mut sends = Sends::one(first.m, first.rv).unwrap();

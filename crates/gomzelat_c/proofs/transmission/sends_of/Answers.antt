@@ -3,7 +3,7 @@ use Rattle.std.proofs.lemmas.List.{length-map, length-take-le}
 use Rattle.rate_match.specs.Matching.{limit_of}
 use Rattle.rate_match.specs.Sendings.{common}
 use Rattle.rate_match.specs.declared.sends.Sending.{Sending}
-use Rattle.gomzelat_c.specs.Sendings.{sending_of, sendings}
+use Rattle.gomzelat_c.specs.Transmissions.{transmission_of, transmissions_of}
 use Rattle.gomzelat_c.specs.Tests.{first_failed, transmission_tests}
 use Rattle.gomzelat_c.specs.declared.transmission.Transmission.{Transmission}
 use Rattle.gomzelat_c.proofs.Errors.{handed_on}
@@ -34,10 +34,10 @@ loop-transmission-preserved c =
     let passed : first_failed (transmission_tests t) ≡ None =
     ap (λ t. first_failed (transmission_tests t)) (sym same) ∙ sym c.in_ok-sending.ensures.refused
     in
-    let sending : c.in_ok-sending.sending ≡ sending_of l t = c.in_ok-sending.ensures.sending ∙ ap (sending_of l) same in
+    let sending : c.in_ok-sending.sending ≡ transmission_of l t = c.in_ok-sending.ensures.sending ∙ ap (transmission_of l) same in
     let held = c.loop-transmission.invariant.sends in
     let seen : length (take k ts) ≡ k = length-take-le k ts (omega (arith, below)) in
-    let count : length c.loop-transmission.sends ≡ k = ap length held ∙ length-map (take k ts) (sending_of l) ∙ seen in
+    let count : length c.loop-transmission.sends ≡ k = ap length held ∙ length-map (take k ts) (transmission_of l) ∙ seen in
     let few : t.rv ≤ 3 = version_few t passed in
     let version : c.in_ok-sending.sending.rv ≤ 3 = omega (arith, few, ap (λ (s : Sending). s.rv) sending) in
     let buffer : c.in_ok-sending.sending.m.limit ≡ (common c.loop-transmission.sends).limit =
@@ -46,7 +46,7 @@ loop-transmission-preserved c =
     let added = c.add-added.ensures.added (c.add-added.ensures.taken.1 (version, omega (arith, count, below), buffer)) in
     record {
       sends = added ∙ ap (λ ss. ss ++ c.in_ok-sending.sending ∷ []) held
-          ∙ ap (λ s. sendings l (take k ts) ++ s ∷ []) sending
+          ∙ ap (λ s. transmissions_of l (take k ts) ++ s ∷ []) sending
           ∙ sym (sends_to l ts k none below);
       passed = passed_to ts k none below c.loop-transmission.invariant.passed passed;
     }

@@ -10,7 +10,7 @@ ghost use Rattle.block_receive.specs.Effort.{effort_of};
 ghost use Rattle.block_receive.specs.Receptions.{receptions, value_count};
 ghost use Rattle.gomzelat_c.specs.Receiving.{HasRoom, received, summary, with_payload};
 ghost use Rattle.gomzelat_c.specs.Refusals.{IsDone, IsTold};
-ghost use Rattle.gomzelat_c.specs.Sendings.{limit_in, sendings};
+ghost use Rattle.gomzelat_c.specs.Transmissions.{limit_in, transmissions_of};
 ghost use Rattle.gomzelat_c.specs.Tests.{first_failed, test_receiver, reception_tests};
 
 use crate::buffers::{softs_of, write_bytes};
@@ -78,7 +78,8 @@ fn accepted(
     ensures refused { result_err result
         ≡ first_failed (reception_tests bytes transmissions.now receiver.now values room) }
     ensures plan { IfOk result (λ job. job.plan ≡ plan_of bytes) }
-    ensures sends { IfOk result (λ job. job.sends ≡ sendings (limit_in receiver.now.n_ir) transmissions.now) }
+    ensures sends { IfOk result
+        (λ job. job.sends ≡ transmissions_of (limit_in receiver.now.n_ir) transmissions.now) }
     ensures effort { IfOk result (λ job. effort_of job.effort
         ≡ record { windows = receiver.now.windows; limit = receiver.now.limit }) }
     ensures fits { IfOk result (λ job. FitsIn (common job.sends).limit job.plan.c job.plan.k_plus) }
@@ -114,7 +115,7 @@ fn outcome_of(alloc: Global, job: &Job, values: &[i8]) -> Result<TbOutcome, NoMe
     )
 }
 
-/// Writes the payload to the front of a buffer, where it was delivered.
+/// Writes the payload to the beginning of a buffer, where it was delivered.
 fn write_payload(payload: &mut [u8], outcome: &TbOutcome)
     requires { HasRoom outcome.now (length payload.old) }
     ensures { payload.new ≡ with_payload outcome.now payload.old }
@@ -151,7 +152,7 @@ fn receive(
 
 /// Receives a payload of `bytes` bytes, 1 to 18,722, from one to eight transmissions: `values` has the G
 /// soft values of each, one transmission after the other, where a value above 0 says that its bit is
-/// rather 0. Leaves in `outcome` what they came to, and the payload at the front of `payload`, where it
+/// rather 0. Leaves in `outcome` what they came to, and the payload at the beginning of `payload`, where it
 /// was delivered; else nothing is changed there. Answers 0, or a `Refusal`'s number, and then nothing is
 /// changed.
 #[unsafe(no_mangle)]

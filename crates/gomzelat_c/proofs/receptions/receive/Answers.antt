@@ -7,7 +7,7 @@ use Rattle.block_receive.specs.Effort.{effort_of}
 use Rattle.block_receive.specs.Receptions.{receptions}
 use Rattle.gomzelat_c.specs.Receiving.{HasRoom}
 use Rattle.gomzelat_c.proofs.Rooms.{has_room, more_room, plan_bytes}
-use Rattle.gomzelat_c.proofs.receiving.receive.Goals as goal
+use Rattle.gomzelat_c.proofs.receptions.receive.Goals as goal
 
 pub write_payload-requires : goal.write_payload-requires
 write_payload-requires c =

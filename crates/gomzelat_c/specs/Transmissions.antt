@@ -11,15 +11,15 @@ abbrev pub limit_in : ℕ → Option ℕ
 limit_in n_ir = if n_ir == 0 then None else Some n_ir
 
 -- a transmission with this soft buffer
-abbrev pub sending_of : Option ℕ → Transmission → Sending
-sending_of limit t = record {
+abbrev pub transmission_of : Option ℕ → Transmission → Sending
+transmission_of limit t = record {
   m = record { qm = t.qm; nl = t.nl; g = t.g; limit = limit };
   rv = t.rv;
 }
 
-abbrev pub sendings : Option ℕ → List Transmission → List Sending
-sendings limit ts = map (sending_of limit) ts
+abbrev pub transmissions_of : Option ℕ → List Transmission → List Sending
+transmissions_of limit ts = map (transmission_of limit) ts
 
 -- the codeword of a payload as bytes
 abbrev pub codeword_bytes : List ℕ → Transmission → (n_ir : ℕ) → List ℕ
-codeword_bytes payload t n_ir = let s = sending_of (limit_in n_ir) t in packed (codeword payload s.m s.rv)
+codeword_bytes payload t n_ir = let s = transmission_of (limit_in n_ir) t in packed (codeword payload s.m s.rv)
