@@ -24,7 +24,8 @@ both_taken : (old mid : Option (List ℕ)) (word left bytes rest : List ℕ) →
 both_taken old mid word left bytes rest old_is mid_is split =
     old_is ∙ ap Some (ap (λ (xs : List ℕ). word ++ xs) (inside mid left (bytes ++ rest) mid_is split) ∙ sym (append_assoc word bytes rest))
 
-pub word-then : (s t : Step) (into word left : List ℕ) (old mid new : Option (List ℕ)) (n : Next) → s ≡ t → length word ≡ 4 → old ≡ Some (word ++ left) → mid ≡ Some left → TakesStep t 4 into mid new n → TakesStep s 0 into old new n
+pub word-then : (s t : Step) (into word left : List ℕ) (old mid new : Option (List ℕ)) (n : Next) → s ≡ t → length word ≡ 4 → old ≡ Some (word ++ left) → mid ≡ Some left →
+    TakesStep t 4 into mid new n → TakesStep s 0 into old new n
 word-then s t into word left old mid new (Block payload) same long old_is mid_is (bytes, rest, split, new_is, size, step) = (
   word ++ bytes,
   rest,
@@ -72,7 +73,8 @@ none-accepted h more into Fault none = tt
 
 word-due : (h : Header) (more start payload : ℕ) (left : List ℕ) → 4 ≤ step_due (word_step h more start payload left)
 word-due h more start payload left =
-    by_tests (payload == 0) (more == 0) (nat_lt h.tb payload) (end_step start left) (transmissions_step h.kind start (record { payload = payload; bytes = [] }) (lengths h) left) (end-due left) (due-least h.kind start (record { payload = payload; bytes = [] }) (lengths h) left)
+    by_tests (payload == 0) (more == 0) (nat_lt h.tb payload) (end_step start left) (transmissions_step h.kind start (record { payload = payload; bytes = [] }) (lengths h) left) (end-due left)
+    (due-least h.kind start (record { payload = payload; bytes = [] }) (lengths h) left)
   where
     end-due : (left : List ℕ) → 4 ≤ step_due (end_step start left)
     end-due [] = omega arith

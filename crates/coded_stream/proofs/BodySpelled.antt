@@ -13,9 +13,9 @@ use Rattle.coded_stream.specs.declared.kind.Kind.{Kind}
 
 -- ---- bytes
 
-pub bytes-behind : (xs ys : List ℕ) → AreBytes (xs ++ ys) → AreBytes ys
-bytes-behind [] ys are = are
-bytes-behind (x ∷ xs) ys (small, are) = bytes-behind xs ys are
+pub bytes-suffix : (xs ys : List ℕ) → AreBytes (xs ++ ys) → AreBytes ys
+bytes-suffix [] ys are = are
+bytes-suffix (x ∷ xs) ys (small, are) = bytes-suffix xs ys are
 
 -- the first four are the text of their number
 pub spelled-word : (left : List ℕ) → 4 ≤ length left → AreBytes left → word_text (word left 0) ≡ take 4 left
@@ -42,7 +42,12 @@ record IsSplit (kind : Kind) (b : Block) (gs left : List ℕ) (c : Block) (rest 
   block_is : c ≡ record { payload = b.payload; bytes = b.bytes ++ bytes }
 
 split : (kind : Kind) (start : ℕ) (b : Block) (gs left : List ℕ) (c : Block) (rest : List ℕ) → transmissions_step kind start b gs left ≡ block c rest → IsSplit kind b gs left c rest
-split kind start b [] left c rest is = record { bytes = []; are = refl; left_is = cc; block_is = (let e : b ≡ c = cc in sym e ∙ ap (λ (xs : List ℕ). record { payload = b.payload; bytes = xs }) (sym (append-nil b.bytes))) }
+split kind start b [] left c rest is = record {
+  bytes = [];
+  are = refl;
+  left_is = cc;
+  block_is = (let e : b ≡ c = cc in sym e ∙ ap (λ (xs : List ℕ). record { payload = b.payload; bytes = xs }) (sym (append-nil b.bytes)));
+}
 split kind start b (g ∷ gs) left c rest is =
     by_tests (nat_lt (length left) (transmission_size kind g)) (has_bad_bit kind g (take (transmission_size kind g) left)) refl refl
     (split kind start (record b { bytes = b.bytes ++ take (transmission_size kind g) left }) gs (drop (transmission_size kind g) left) c rest) is
@@ -82,7 +87,8 @@ unfolding step
 step-block h more start left c rest are is = by_length (nat_lt (length left) 4) refl is
   where
     by_word : (p : ℕ) (a b t : Bool) → 4 ≤ length left → word left 0 ≡ p → (p == 0) ≡ a → (more == 0) ≡ b → nat_lt h.tb p ≡ t
-        → cond a (end_step start (drop 4 left)) (cond b (refused (refused_at 8 start 4)) (cond t (refused (refused_at 4 start 4)) (transmissions_step h.kind start (record { payload = p; bytes = [] }) (lengths h) (drop 4 left)))) ≡ block c rest
+        → cond a (end_step start (drop 4 left)) (cond b (refused (refused_at 8 start 4))
+        (cond t (refused (refused_at 4 start 4)) (transmissions_step h.kind start (record { payload = p; bytes = [] }) (lengths h) (drop 4 left)))) ≡ block c rest
         → IsRead h more left c rest
     by_word p true b t long value ea eb et is = by_end (drop 4 left) is
       where
@@ -105,7 +111,8 @@ step-block h more start left c rest are is = by_length (nat_lt (length left) 4) 
               ∙ ap (λ (xs : List ℕ). word_text c.payload ++ xs) (s.left_is ∙ ap (λ (xs : List ℕ). xs ++ rest) (sym bytes)) ∙ sym (append_assoc (word_text c.payload) c.bytes rest);
         }
 
-    by_length : (t : Bool) → nat_lt (length left) 4 ≡ t → cond t (refused (truncated start (length left))) (word_step h more start (word left 0) (drop 4 left)) ≡ block c rest → IsRead h more left c rest
+    by_length : (t : Bool) → nat_lt (length left) 4 ≡ t → cond t (refused (truncated start (length left))) (word_step h more start (word left 0) (drop 4 left)) ≡ block c rest →
+        IsRead h more left c rest
     by_length true e is = absurd (let no : ⊥ = cc in no)
     by_length false e is = by_word (word left 0) (word left 0 == 0) (more == 0) (nat_lt h.tb (word left 0)) (ltb-false (length left) 4 e) refl refl refl refl is
 
@@ -115,15 +122,20 @@ step-ended h more start left are is = by_length (nat_lt (length left) 4) refl is
   where
     no_block : (kind : Kind) (b : Block) (gs xs : List ℕ) → transmissions_step kind start b gs xs ≡ ended → ⊥
     no_block kind b [] xs is = cc
-    no_block kind b (g ∷ gs) xs is = by_tests (nat_lt (length xs) (transmission_size kind g)) (has_bad_bit kind g (take (transmission_size kind g) xs)) (transmissions_step kind start (record b { bytes = b.bytes ++ take (transmission_size kind g) xs }) gs (drop (transmission_size kind g) xs)) (no_block kind (record b { bytes = b.bytes ++ take (transmission_size kind g) xs }) gs (drop (transmission_size kind g) xs)) is
+    no_block kind b (g ∷ gs) xs is = by_tests (nat_lt (length xs) (transmission_size kind g)) (has_bad_bit kind g (take (transmission_size kind g) xs))
+        (transmissions_step kind start (record b { bytes = b.bytes ++ take (transmission_size kind g) xs }) gs (drop (transmission_size kind g) xs))
+        (no_block kind (record b { bytes = b.bytes ++ take (transmission_size kind g) xs }) gs (drop (transmission_size kind g) xs)) is
       where
-        by_tests : (t u : Bool) (s : Step) → (s ≡ ended → ⊥) → cond t (refused (truncated start (4 + length b.bytes + length xs))) (cond u (refused (refused_at 5 (start + (4 + length b.bytes + transmission_size kind g - 1)) (4 + length b.bytes + transmission_size kind g))) s) ≡ ended → ⊥
+        by_tests : (t u : Bool) (s : Step) → (s ≡ ended → ⊥) →
+            cond t (refused (truncated start (4 + length b.bytes + length xs)))
+            (cond u (refused (refused_at 5 (start + (4 + length b.bytes + transmission_size kind g - 1)) (4 + length b.bytes + transmission_size kind g))) s) ≡ ended → ⊥
         by_tests true u s never is = cc
         by_tests false true s never is = cc
         by_tests false false s never is = never is
 
     by_word : (p : ℕ) (a b t : Bool) → 4 ≤ length left → word left 0 ≡ p → (p == 0) ≡ a
-        → cond a (end_step start (drop 4 left)) (cond b (refused (refused_at 8 start 4)) (cond t (refused (refused_at 4 start 4)) (transmissions_step h.kind start (record { payload = p; bytes = [] }) (lengths h) (drop 4 left)))) ≡ ended
+        → cond a (end_step start (drop 4 left)) (cond b (refused (refused_at 8 start 4))
+        (cond t (refused (refused_at 4 start 4)) (transmissions_step h.kind start (record { payload = p; bytes = [] }) (lengths h) (drop 4 left)))) ≡ ended
         → left ≡ end_word
     by_word p true b t long value ea is = by_end (drop 4 left) refl is
       where
@@ -145,7 +157,8 @@ pub record IsSpelled (h : Header) (more : ℕ) (left : List ℕ) (blocks : List 
   pub each : AreBlocks h blocks
   pub left_is : left ≡ body_text blocks
 
-pub body-spelled : (h : Header) (more start : ℕ) (left : List ℕ) (blocks : List Block) → AreBytes left → body h more start left ≡ record { blocks = blocks; ending = whole } → IsSpelled h more left blocks
+pub body-spelled : (h : Header) (more start : ℕ) (left : List ℕ) (blocks : List Block) → AreBytes left → body h more start left ≡ record { blocks = blocks; ending = whole } →
+    IsSpelled h more left blocks
 unfolding body
 body-spelled h zero start left blocks are is = by_step (step h zero start left) refl is
   where
@@ -158,12 +171,13 @@ body-spelled h zero start left blocks are is = by_step (step h zero start left) 
     by_step (refused r) e is = absurd (let no : ⊥ = cc (ap (λ (x : Body). x.ending) is) in no)
 body-spelled h (suc more) start left blocks are is = by_step (step h (suc more) start left) refl (λ place rest bs ok e. body-spelled h more place rest bs ok e) is
   where
-    by_step : (s : Step) → step h (suc more) start left ≡ s → ((place : ℕ) (rest : List ℕ) (bs : List Block) → AreBytes rest → body h more place rest ≡ record { blocks = bs; ending = whole } → IsSpelled h more rest bs)
+    by_step : (s : Step) → step h (suc more) start left ≡ s →
+        ((place : ℕ) (rest : List ℕ) (bs : List Block) → AreBytes rest → body h more place rest ≡ record { blocks = bs; ending = whole } → IsSpelled h more rest bs)
         → after_step start (body h more) s ≡ record { blocks = blocks; ending = whole } → IsSpelled h (suc more) left blocks
     by_step (block b rest) e next is =
         let r = step-block h (suc more) start left b rest are e in
         let B : List ℕ → Type 0 = λ xs. AreBytes xs in
-        let ok : AreBytes rest = bytes-behind (block_text b) rest (subst B r.left_is are) in
+        let ok : AreBytes rest = bytes-suffix (block_text b) rest (subst B r.left_is are) in
         let all = body h more (next_start start b) rest in
         let ending : all.ending ≡ whole = ap (λ (x : Body). x.ending) is in
         let these : b ∷ all.blocks ≡ blocks = ap (λ (x : Body). x.blocks) is in

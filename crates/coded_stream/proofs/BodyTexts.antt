@@ -46,7 +46,8 @@ end-read h more start =
     ∙ step-word h more start (word_text 0) [] (text-four 0)
     ∙ word-end h more start (word (word_text 0) 0) [] (word-of_text 0 (omega arith))
 
-pub body-read : (h : Header) (more start : ℕ) (blocks : List Block) → h.tb ≤ 18722 → length blocks ≤ more → AreBlocks h blocks → body h more start (body_text blocks) ≡ record { blocks = blocks; ending = whole }
+pub body-read : (h : Header) (more start : ℕ) (blocks : List Block) → h.tb ≤ 18722 → length blocks ≤ more → AreBlocks h blocks →
+    body h more start (body_text blocks) ≡ record { blocks = blocks; ending = whole }
 body-read h more start [] few room are = body-ended h more start end_word (end-read h more start)
 body-read h more start (b ∷ blocks) few room (is, are) =
     ap (body h more start) (append_assoc (block_text b) (flat_map block_text blocks) end_word)

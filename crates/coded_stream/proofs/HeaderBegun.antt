@@ -9,7 +9,7 @@ use Rattle.rate_match.proofs.FitTest.{fits_all-true}
 use Rattle.rate_match.specs.declared.sends.Sending.{Sending}
 use Rattle.coded_stream.specs.Limit.{is_limit}
 use Rattle.coded_stream.specs.Header.{Header, kind_of, header_text, IsHeader}
-use Rattle.coded_stream.specs.Opening.{unless, first_refusal, version_of, first_size, sending_size, count_in, tb_in, fields, header_in, second_opening, first_opening, opening}
+use Rattle.coded_stream.specs.Opening.{unless, first_refusal, version_of, first_size, described_size, count_in, tb_in, fields, header_in, second_opening, first_opening, opening}
 use Rattle.coded_stream.specs.Takes.{AreSentBy}
 use Rattle.coded_stream.specs.declared.version.Version.{Version}
 use Rattle.coded_stream.specs.declared.version.Version.TheVariants.{One, Two}
@@ -41,7 +41,8 @@ by-unit v want unit left input old new u is =
     ap (opening want) is ∙ ap (λ (w : Version). first_opening w want (unit ++ left)) (u.version left) ∙ first-whole v want unit left u.long
 
 -- where its fields pass, by the second
-pub by-second : (v : Version) (want : Want) (unit left input : List ℕ) (old new : Option (List ℕ)) → IsUnit v unit old new → input ≡ unit ++ left → first_refusal (first_size v) (fields v want unit) ≡ None
+pub by-second : (v : Version) (want : Want) (unit left input : List ℕ) (old new : Option (List ℕ)) → IsUnit v unit old new → input ≡ unit ++ left →
+    first_refusal (first_size v) (fields v want unit) ≡ None
     → opening want input ≡ second_opening v unit left
 by-second v want unit left input old new u is pass =
     by-unit v want unit left input old new u is ∙ ap (λ r. unless r (second_opening v unit left)) pass
@@ -67,7 +68,8 @@ lawful v want unit tb sends passed are tb_is =
       fits = ap (λ limit. fits_all limit (tb_in v unit)) are.limit ∙ passed.fits;
     })
 
-pub header-accepted : (v : Version) (kind : Kind) (unit : List ℕ) (tb : ℕ) (sends : List Sending) → IsLawful tb sends → AreSentBy v unit sends → IsHeader (record { version = v; kind = kind; tb = tb; sends = sends })
+pub header-accepted : (v : Version) (kind : Kind) (unit : List ℕ) (tb : ℕ) (sends : List Sending) → IsLawful tb sends → AreSentBy v unit sends →
+    IsHeader (record { version = v; kind = kind; tb = tb; sends = sends })
 header-accepted v kind unit tb sends is are = record {
   some = is.some;
   few = is.few;
@@ -78,7 +80,7 @@ header-accepted v kind unit tb sends is are = record {
 }
 
 -- how long it is, as the program counts it
-pub place-is : (h : Header) (unit : List ℕ) (first second : ℕ) → AreSentBy h.version unit h.sends → first ≡ first_size h.version → second ≡ count_in h.version unit * sending_size h.version
+pub place-is : (h : Header) (unit : List ℕ) (first second : ℕ) → AreSentBy h.version unit h.sends → first ≡ first_size h.version → second ≡ count_in h.version unit * described_size h.version
     → first + second ≡ length (header_text h)
 place-is h unit first second are first_is second_is =
-    (λ i. first_is i + second_is i) ∙ ap (λ (n : ℕ). first_size h.version + n * sending_size h.version) (sym are.count) ∙ sym (text-long h)
+    (λ i. first_is i + second_is i) ∙ ap (λ (n : ℕ). first_size h.version + n * described_size h.version) (sym are.count) ∙ sym (text-long h)

@@ -10,15 +10,15 @@ use Rattle.rate_match.specs.Fitting.{fits_all}
 use Rattle.rate_match.specs.declared.sends.Sending.{Sending}
 use Rattle.rate_match.proofs.FitTest.{true-fits_all}
 use Rattle.coded_stream.specs.Limit.{is_limit}
-use Rattle.coded_stream.specs.Header.{Header, word, half_word, word_text, half_word_text, magic, kind_code, limit_code, limit_of_code, first_text, sending_text, header_text, AreHeld, IsHeader}
-use Rattle.coded_stream.specs.Opening.{is_wanted, version_of, first_size, sending_size, count_in, tb_in, limit_in, match_in, fields, sending_fields, sends_fields, sending_in, sends_in, header_in, unless, second_opening, first_opening, opening, opens}
+use Rattle.coded_stream.specs.Header.{Header, word, half_word, word_text, half_word_text, magic, kind_code, limit_code, limit_of_code, first_text, transmission_text, header_text, AreHeld, IsHeader}
+use Rattle.coded_stream.specs.Opening.{is_wanted, version_of, first_size, described_size, count_in, tb_in, limit_in, match_in, fields, transmission_fields, transmissions_fields, transmission_in, transmissions_in, header_in, unless, second_opening, first_opening, opening, opens}
 use Rattle.coded_stream.specs.declared.version.Version.{Version}
 use Rattle.coded_stream.specs.declared.version.Version.TheVariants.{One, Two}
 use Rattle.coded_stream.specs.declared.kind.Want.{Want}
 use Rattle.coded_stream.proofs.Fronts.{take_front, drop_front}
 use Rattle.coded_stream.proofs.Passed.{AllPass, none_refused, pass_both, kind-of_code}
 use Rattle.coded_stream.proofs.Sizes.{match_bounded}
-use Rattle.coded_stream.proofs.OpeningSteps.{first-long, sending-long, sends-text_long, first-whole, second-whole}
+use Rattle.coded_stream.proofs.OpeningSteps.{first-long, transmission-long, transmissions-text_long, first-whole, second-whole}
 
 -- ---- the fields of the first unit
 
@@ -51,7 +51,8 @@ text-fields : (v : Version) (h : Header) → IsHeader h → AreFields v h (first
 unfolding first_text word half_word word_text half_word_text
 text-fields One h is =
     let m = common h.sends in
-    let limit : limit_of_code (word (first_text One h) 14) ≡ m.limit = limit-read m.limit (word (first_text One h) 14) is.limited (from_be_bytes-to_be_bytes_4 (limit_code m.limit) (limit-small m.limit is.limited)) in
+    let limit : limit_of_code (word (first_text One h) 14) ≡ m.limit = limit-read m.limit (word (first_text One h) 14) is.limited
+    (from_be_bytes-to_be_bytes_4 (limit_code m.limit) (limit-small m.limit is.limited)) in
     let g : word (first_text One h) 10 ≡ m.g = from_be_bytes-to_be_bytes_4 m.g (let few = (match_bounded m (common-lawful h.sends is.sent.some is.sent.lawful)).few in omega (arith, few)) in
     record {
       first = refl;
@@ -131,64 +132,70 @@ fields-pass Two want h unit wanted is f =
 -- ---- the second unit
 
 -- G, written and read
-g-read : (s : Sending) → IsMatch s.m → word (sending_text Two s) 3 ≡ s.m.g
+g-read : (s : Sending) → IsMatch s.m → word (transmission_text Two s) 3 ≡ s.m.g
 unfolding word word_text
 g-read s is = from_be_bytes-to_be_bytes_4 s.m.g (let few = (match_bounded s.m is).few in omega (arith, few))
 
-sending-pass : (v : Version) (place : ℕ) (s : Sending) → s.rv ≤ 3 → IsMatch s.m → AllPass (sending_fields v place (sending_text v s))
-sending-pass One place s small is = (le-leb s.rv 3 small, tt)
-sending-pass Two place s small is = (is.qm, (is.nl, (le-leb s.rv 3 small, (ap (is_g (s.m.nl * s.m.qm)) (g-read s is) ∙ is.g, tt))))
+transmission-pass : (v : Version) (place : ℕ) (s : Sending) → s.rv ≤ 3 → IsMatch s.m → AllPass (transmission_fields v place (transmission_text v s))
+transmission-pass One place s small is = (le-leb s.rv 3 small, tt)
+transmission-pass Two place s small is = (is.qm, (is.nl, (le-leb s.rv 3 small, (ap (is_g (s.m.nl * s.m.qm)) (g-read s is) ∙ is.g, tt))))
 
-sends-pass : (v : Version) (place : ℕ) (sends : List Sending) → All (λ s. s.rv ≤ 3) sends → All (λ s. IsMatch s.m) sends → AllPass (sends_fields v (length sends) place (flat_map (sending_text v) sends))
-sends-pass v place [] small lawful = tt
-sends-pass v place (s ∷ ss) small lawful =
-    let size : ℕ = sending_size v in
-    let text : List ℕ = sending_text v s in
-    let more : List ℕ = flat_map (sending_text v) ss in
-    let here : AllPass (sending_fields v place text) = sending-pass v place s (small 0 s (omega arith)) (lawful 0 s (omega arith)) in
-    let rest : AllPass (sends_fields v (length ss) (place + size) more) = sends-pass v (place + size) ss (λ k d inside. small (suc k) d (omega (arith, inside))) (λ k d inside. lawful (suc k) d (omega (arith, inside))) in
-    rw (take_front text more size (sending-long v s), drop_front text more size (sending-long v s)) (pass_both (sending_fields v place text) (sends_fields v (length ss) (place + size) more) here rest)
+transmissions-pass : (v : Version) (place : ℕ) (sends : List Sending) → All (λ s. s.rv ≤ 3) sends → All (λ s. IsMatch s.m) sends →
+    AllPass (transmissions_fields v (length sends) place (flat_map (transmission_text v) sends))
+transmissions-pass v place [] small lawful = tt
+transmissions-pass v place (s ∷ ss) small lawful =
+    let size : ℕ = described_size v in
+    let text : List ℕ = transmission_text v s in
+    let more : List ℕ = flat_map (transmission_text v) ss in
+    let here : AllPass (transmission_fields v place text) = transmission-pass v place s (small 0 s (omega arith)) (lawful 0 s (omega arith)) in
+    let rest : AllPass (transmissions_fields v (length ss) (place + size) more) = transmissions-pass v (place + size) ss (λ k d inside. small (suc k) d (omega (arith, inside)))
+    (λ k d inside. lawful (suc k) d (omega (arith, inside))) in
+    rw (take_front text more size (transmission-long v s), drop_front text more size (transmission-long v s))
+    (pass_both (transmission_fields v place text) (transmissions_fields v (length ss) (place + size) more) here rest)
 
-sending-same : (v : Version) (unit : List ℕ) (s : Sending) → IsMatch s.m → limit_in v unit ≡ s.m.limit → (v ≡ One → match_in unit ≡ s.m) → sending_in v unit (sending_text v s) ≡ s
-sending-same One unit s is limit one i = record { m = one refl i; rv = s.rv }
-sending-same Two unit s is limit one i = record { m = record { qm = s.m.qm; nl = s.m.nl; g = g-read s is i; limit = limit i }; rv = s.rv }
+transmission-same : (v : Version) (unit : List ℕ) (s : Sending) → IsMatch s.m → limit_in v unit ≡ s.m.limit → (v ≡ One → match_in unit ≡ s.m) → transmission_in v unit (transmission_text v s) ≡ s
+transmission-same One unit s is limit one i = record { m = one refl i; rv = s.rv }
+transmission-same Two unit s is limit one i = record { m = record { qm = s.m.qm; nl = s.m.nl; g = g-read s is i; limit = limit i }; rv = s.rv }
 
-sends-same : (v : Version) (unit : List ℕ) (sends : List Sending) → All (λ s. IsMatch s.m) sends → All (λ s. s.m.limit ≡ limit_in v unit) sends → (v ≡ One → All (λ s. s.m ≡ match_in unit) sends)
-    → sends_in v unit (length sends) (flat_map (sending_text v) sends) ≡ sends
-sends-same v unit [] lawful limit one = refl
-sends-same v unit (s ∷ ss) lawful limit one =
-    let size : ℕ = sending_size v in
-    let text : List ℕ = sending_text v s in
-    let more : List ℕ = flat_map (sending_text v) ss in
-    let here : sending_in v unit (take size (text ++ more)) ≡ s =
-    ap (sending_in v unit) (take_front text more size (sending-long v s)) ∙ sending-same v unit s (lawful 0 s (omega arith)) (sym (limit 0 s (omega arith))) (λ is. sym (one is 0 s (omega arith))) in
-    let rest : sends_in v unit (length ss) (drop size (text ++ more)) ≡ ss =
-    ap (sends_in v unit (length ss)) (drop_front text more size (sending-long v s))
-    ∙ sends-same v unit ss (λ k d inside. lawful (suc k) d (omega (arith, inside))) (λ k d inside. limit (suc k) d (omega (arith, inside))) (λ is k d inside. one is (suc k) d (omega (arith, inside))) in
+transmissions-same : (v : Version) (unit : List ℕ) (sends : List Sending) → All (λ s. IsMatch s.m) sends → All (λ s. s.m.limit ≡ limit_in v unit) sends →
+    (v ≡ One → All (λ s. s.m ≡ match_in unit) sends)
+    → transmissions_in v unit (length sends) (flat_map (transmission_text v) sends) ≡ sends
+transmissions-same v unit [] lawful limit one = refl
+transmissions-same v unit (s ∷ ss) lawful limit one =
+    let size : ℕ = described_size v in
+    let text : List ℕ = transmission_text v s in
+    let more : List ℕ = flat_map (transmission_text v) ss in
+    let here : transmission_in v unit (take size (text ++ more)) ≡ s =
+    ap (transmission_in v unit) (take_front text more size (transmission-long v s))
+    ∙ transmission-same v unit s (lawful 0 s (omega arith)) (sym (limit 0 s (omega arith))) (λ is. sym (one is 0 s (omega arith))) in
+    let rest : transmissions_in v unit (length ss) (drop size (text ++ more)) ≡ ss =
+    ap (transmissions_in v unit (length ss)) (drop_front text more size (transmission-long v s))
+    ∙ transmissions-same v unit ss (λ k d inside. lawful (suc k) d (omega (arith, inside))) (λ k d inside. limit (suc k) d (omega (arith, inside)))
+    (λ is k d inside. one is (suc k) d (omega (arith, inside))) in
     λ i. here i ∷ rest i
 
 -- ---- both
 
 read : (v : Version) (want : Want) (h : Header) (left : List ℕ) → is_wanted want (kind_code h.kind) ≡ true → IsHeader h → AreHeld v h.sends
-    → opening want ((first_text v h ++ flat_map (sending_text v) h.sends) ++ left) ≡ opens (record h { version = v }) left
+    → opening want ((first_text v h ++ flat_map (transmission_text v) h.sends) ++ left) ≡ opens (record h { version = v }) left
 read v want h left wanted is held =
     let unit : List ℕ = first_text v h in
-    let bytes : List ℕ = flat_map (sending_text v) h.sends in
+    let bytes : List ℕ = flat_map (transmission_text v) h.sends in
     let f = text-fields v h is in
-    let size : ℕ = first_size v + count_in v unit * sending_size v in
-    let long : length bytes ≡ count_in v unit * sending_size v = sends-text_long v h.sends ∙ ap (λ (n : ℕ). n * sending_size v) (sym f.count) in
-    let pass : AllPass (sends_fields v (count_in v unit) (first_size v) bytes) = rw f.count (sends-pass v (first_size v) h.sends is.sent.versions is.sent.lawful) in
-    let sends : sends_in v unit (count_in v unit) bytes ≡ h.sends =
-    ap (λ (n : ℕ). sends_in v unit n bytes) f.count
-    ∙ sends-same v unit h.sends is.sent.lawful (λ k d inside. is.sent.buffer k d inside ∙ sym f.limit) (λ one k d inside. held one k d inside ∙ sym (f.one one)) in
-    let header : header_in v unit (sends_in v unit (count_in v unit) bytes) ≡ record h { version = v } =
+    let size : ℕ = first_size v + count_in v unit * described_size v in
+    let long : length bytes ≡ count_in v unit * described_size v = transmissions-text_long v h.sends ∙ ap (λ (n : ℕ). n * described_size v) (sym f.count) in
+    let pass : AllPass (transmissions_fields v (count_in v unit) (first_size v) bytes) = rw f.count (transmissions-pass v (first_size v) h.sends is.sent.versions is.sent.lawful) in
+    let sends : transmissions_in v unit (count_in v unit) bytes ≡ h.sends =
+    ap (λ (n : ℕ). transmissions_in v unit n bytes) f.count
+    ∙ transmissions-same v unit h.sends is.sent.lawful (λ k d inside. is.sent.buffer k d inside ∙ sym f.limit) (λ one k d inside. held one k d inside ∙ sym (f.one one)) in
+    let header : header_in v unit (transmissions_in v unit (count_in v unit) bytes) ≡ record h { version = v } =
     λ i. record { version = v; kind = kind-of_code h.kind (slice_index unit 4) (sym f.kind) i; tb = f.tb i; sends = sends i } in
     ap (opening want) (append_assoc unit bytes left)
     ∙ ap (λ (w : Version). first_opening w want (unit ++ (bytes ++ left))) (version-of_text v h (bytes ++ left))
     ∙ first-whole v want unit (bytes ++ left) (first-long v h)
     ∙ ap (λ r. unless r (second_opening v unit (bytes ++ left))) (none_refused (first_size v) (fields v want unit) (fields-pass v want h unit wanted is f))
     ∙ second-whole v unit bytes left long
-    ∙ ap (λ r. unless r (opens (header_in v unit (sends_in v unit (count_in v unit) bytes)) left)) (none_refused size (sends_fields v (count_in v unit) (first_size v) bytes) pass)
+    ∙ ap (λ r. unless r (opens (header_in v unit (transmissions_in v unit (count_in v unit) bytes)) left)) (none_refused size (transmissions_fields v (count_in v unit) (first_size v) bytes) pass)
     ∙ ap (λ (n : Header). opens n left) header
 
 pub header-read : (want : Want) (h : Header) (left : List ℕ) → is_wanted want (kind_code h.kind) ≡ true → IsHeader h → opening want (header_text h ++ left) ≡ opens h left

@@ -7,7 +7,7 @@ pub mod Midway
 pub mod BlockSteps
 pub mod Remaining
 pub mod Passed
-pub mod SendSteps
+pub mod HeaderTransmissionSteps
 pub mod OpeningSteps
 pub mod HeaderBegun
 pub mod Written

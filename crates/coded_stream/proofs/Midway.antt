@@ -30,7 +30,8 @@ all_taken : (old : Option (List ℕ)) (input bytes left more rest : List ℕ) �
 all_taken old input bytes left more rest is split again =
     is ∙ ap Some (split ∙ ap (λ (xs : List ℕ). bytes ++ xs) again ∙ sym (append_assoc bytes more rest))
 
-pub midway-more : (kind : Kind) (start payload g turn : ℕ) (gs : List ℕ) (bytes unit input : List ℕ) (mid new : Option (List ℕ)) → IsMidway kind start payload gs turn bytes input mid → IsTurn kind gs turn g
+pub midway-more : (kind : Kind) (start payload g turn : ℕ) (gs : List ℕ) (bytes unit input : List ℕ) (mid new : Option (List ℕ)) → IsMidway kind start payload gs turn bytes input mid →
+    IsTurn kind gs turn g
     → Takes mid new unit → length unit ≡ transmission_size kind g → has_bad_bit kind g unit ≡ false → IsMidway kind start payload gs (turn + 1) (bytes ++ unit) input new
 midway-more kind start payload g turn gs bytes unit input mid new m less took long good =
     let t = told_rest mid new unit m.left took m.new_is in
@@ -45,7 +46,8 @@ midway-more kind start payload g turn gs bytes unit input mid new m less took lo
           ∙ step-accepted kind start (record { payload = payload; bytes = bytes }) g (drop (turn + 1) gs) unit t.left long good;
     }
 
-pub midway-bad : (kind : Kind) (start payload g turn place : ℕ) (gs : List ℕ) (bytes unit input into : List ℕ) (old mid new : Option (List ℕ)) → IsMidway kind start payload gs turn bytes input mid → IsTurn kind gs turn g
+pub midway-bad : (kind : Kind) (start payload g turn place : ℕ) (gs : List ℕ) (bytes unit input into : List ℕ) (old mid new : Option (List ℕ)) → IsMidway kind start payload gs turn bytes input mid →
+    IsTurn kind gs turn g
     → old ≡ Some input → Takes mid new unit → length unit ≡ transmission_size kind g → has_bad_bit kind g unit ≡ true → place ≡ start + (4 + length bytes + transmission_size kind g - 1)
     → TakesStep (transmissions_step kind start (record { payload = payload; bytes = [] }) gs input) 4 into old new (next.Bad 5 place)
 midway-bad kind start payload g turn place gs bytes unit input into old mid new m less is took long bad at =
@@ -62,7 +64,8 @@ midway-bad kind start payload g turn place gs bytes unit input into old mid new 
           ∙ same_refusal 5 _ place _ (4 + length (bytes ++ unit)) _ (4 + length bytes + transmission_size kind g) (sym at) (omega (arith, length-append bytes unit, long)) refl,
     )
 
-pub midway-cut : (kind : Kind) (start payload g turn place : ℕ) (gs : List ℕ) (bytes part input into : List ℕ) (old mid new : Option (List ℕ)) → IsMidway kind start payload gs turn bytes input mid → IsTurn kind gs turn g
+pub midway-cut : (kind : Kind) (start payload g turn place : ℕ) (gs : List ℕ) (bytes part input into : List ℕ) (old mid new : Option (List ℕ)) → IsMidway kind start payload gs turn bytes input mid →
+    IsTurn kind gs turn g
     → old ≡ Some input → Takes mid new part → IsAtEnd new → length part < transmission_size kind g → place ≡ start + (4 + length bytes + length part)
     → TakesStep (transmissions_step kind start (record { payload = payload; bytes = [] }) gs input) 4 into old new (next.Bad 6 place)
 midway-cut kind start payload g turn place gs bytes part input into old mid new m less is took ended few at =
@@ -76,10 +79,12 @@ midway-cut kind start payload g turn place gs bytes part input into old mid new 
       m.step_is
           ∙ turned kind start payload g turn gs bytes m.left less
           ∙ step-cut kind start (record { payload = payload; bytes = bytes }) g (drop (turn + 1) gs) m.left (omega (arith, size, few))
-          ∙ same_refusal 6 _ place _ (4 + length (bytes ++ part)) _ (4 + length bytes + length part + 1) (omega (arith, at, size)) (omega (arith, length-append bytes part, size)) (omega (arith, size)),
+          ∙ same_refusal 6 _ place _ (4 + length (bytes ++ part)) _ (4 + length bytes + length part + 1) (omega (arith, at, size)) (omega (arith, length-append bytes part, size))
+          (omega (arith, size)),
     )
 
-pub midway-fault : (kind : Kind) (start payload g turn : ℕ) (gs : List ℕ) (bytes part input into : List ℕ) (old mid new : Option (List ℕ)) → IsMidway kind start payload gs turn bytes input mid → IsTurn kind gs turn g
+pub midway-fault : (kind : Kind) (start payload g turn : ℕ) (gs : List ℕ) (bytes part input into : List ℕ) (old mid new : Option (List ℕ)) → IsMidway kind start payload gs turn bytes input mid →
+    IsTurn kind gs turn g
     → old ≡ Some input → Takes mid new part → length part < transmission_size kind g
     → TakesStep (transmissions_step kind start (record { payload = payload; bytes = [] }) gs input) 4 into old new next.Fault
 midway-fault kind start payload g turn gs bytes part input into old mid new m less is took few =
@@ -87,7 +92,8 @@ midway-fault kind start payload g turn gs bytes part input into old mid new m le
     let first : Takes old mid bytes = is ∙ ap Some m.input_is ∙ sym (ap (prepend_known bytes) m.new_is) in
     let came : length part ≤ length m.left = omega (arith, ap length t.input_is, length-append part t.left) in
     let step_is = m.step_is ∙ turned kind start payload g turn gs bytes m.left less in
-    let more : 4 + length bytes + length part < step_due (transmissions_step kind start (record { payload = payload; bytes = bytes }) (g ∷ drop (turn + 1) gs) m.left) = due-more kind start (record { payload = payload; bytes = bytes }) g (drop (turn + 1) gs) m.left (length part) few came in
+    let more : 4 + length bytes + length part < step_due (transmissions_step kind start (record { payload = payload; bytes = bytes }) (g ∷ drop (turn + 1) gs) m.left) = due-more kind start
+    (record { payload = payload; bytes = bytes }) g (drop (turn + 1) gs) m.left (length part) few came in
     (bytes ++ part, takes_then old mid new bytes part first took, omega (arith, more, ap step_due step_is, length-append bytes part))
 
 pub midway-done : (kind : Kind) (start payload : ℕ) (gs bytes input : List ℕ) (old new : Option (List ℕ)) → IsMidway kind start payload gs (length gs) bytes input new → old ≡ Some input

@@ -4,15 +4,15 @@ use Rattle.std.specs.declared.option.Option.{Option}
 use Rattle.std.proofs.lemmas.Bool.{lt-ltb}
 use Rattle.std.proofs.lemmas.List.{length-append}
 use Rattle.rate_match.specs.declared.sends.Sending.{Sending}
-use Rattle.coded_stream.specs.Header.{Header, word_text, half_word_text, magic, first_text, sending_text, header_text}
+use Rattle.coded_stream.specs.Header.{Header, word_text, half_word_text, magic, first_text, transmission_text, header_text}
 use Rattle.coded_stream.specs.Steps.{opening_due}
 use Rattle.coded_stream.specs.Units.{Refusal, refused_at, truncated}
-use Rattle.coded_stream.specs.Opening.{Check, Opening, opens, refuses, unless, first_refusal, version_of, first_size, sending_size, count_in, fields, sends_fields, sends_in, header_in, second_opening, first_opening}
+use Rattle.coded_stream.specs.Opening.{Check, Opening, opens, refuses, unless, first_refusal, version_of, first_size, described_size, count_in, fields, transmissions_fields, transmissions_in, header_in, second_opening, first_opening}
 use Rattle.coded_stream.specs.declared.version.Version.{Version}
 use Rattle.coded_stream.specs.declared.version.Version.TheVariants.{One, Two}
 use Rattle.coded_stream.specs.declared.kind.Want.{Want}
 use Rattle.coded_stream.proofs.Fronts.{take_front, drop_front, whole_front, word_front}
-use Rattle.coded_stream.proofs.SendSteps.{sends-long}
+use Rattle.coded_stream.proofs.HeaderTransmissionSteps.{transmissions-long}
 
 pub same_refuses : (number p q s t d e : ℕ) → p ≡ q → s ≡ t → d ≡ e
     → refuses (record { number = number; place = p; size = s; due = d }) ≡ refuses (record { number = number; place = q; size = t; due = e })
@@ -30,14 +30,14 @@ first-most Two n less = less
 
 -- ---- the second unit
 
-pub second-short : (v : Version) (unit left : List ℕ) → length left < count_in v unit * sending_size v → second_opening v unit left ≡ refuses (truncated 0 (first_size v + length left))
-second-short v unit left few = (let e : nat_lt (length left) (count_in v unit * sending_size v) ≡ true = lt-ltb (length left) (count_in v unit * sending_size v) few in rw e refl)
+pub second-short : (v : Version) (unit left : List ℕ) → length left < count_in v unit * described_size v → second_opening v unit left ≡ refuses (truncated 0 (first_size v + length left))
+second-short v unit left few = (let e : nat_lt (length left) (count_in v unit * described_size v) ≡ true = lt-ltb (length left) (count_in v unit * described_size v) few in rw e refl)
 
-pub second-whole : (v : Version) (unit bytes left : List ℕ) → length bytes ≡ count_in v unit * sending_size v
-    → second_opening v unit (bytes ++ left) ≡ unless (first_refusal (first_size v + count_in v unit * sending_size v) (sends_fields v (count_in v unit) (first_size v) bytes))
-    (opens (header_in v unit (sends_in v unit (count_in v unit) bytes)) left)
+pub second-whole : (v : Version) (unit bytes left : List ℕ) → length bytes ≡ count_in v unit * described_size v
+    → second_opening v unit (bytes ++ left) ≡ unless (first_refusal (first_size v + count_in v unit * described_size v) (transmissions_fields v (count_in v unit) (first_size v) bytes))
+    (opens (header_in v unit (transmissions_in v unit (count_in v unit) bytes)) left)
 second-whole v unit bytes left long =
-    let size : ℕ = count_in v unit * sending_size v in
+    let size : ℕ = count_in v unit * described_size v in
     rw (whole_front bytes left size long, take_front bytes left size long, drop_front bytes left size long) refl
 
 -- ---- the first
@@ -59,21 +59,21 @@ unfolding first_text word_text half_word_text
 first-long One h = refl
 first-long Two h = refl
 
-pub sending-long : (v : Version) (s : Sending) → length (sending_text v s) ≡ sending_size v
+pub transmission-long : (v : Version) (s : Sending) → length (transmission_text v s) ≡ described_size v
 unfolding word_text
-sending-long One s = refl
-sending-long Two s = refl
+transmission-long One s = refl
+transmission-long Two s = refl
 
-pub sends-text_long : (v : Version) (sends : List Sending) → length (flat_map (sending_text v) sends) ≡ length sends * sending_size v
-sends-text_long v [] = omega arith
-sends-text_long v (s ∷ ss) =
-    let rest = sends-text_long v ss in
-    let one = sending-long v s in
-    let more : length (s ∷ ss) * sending_size v ≡ sending_size v + length ss * sending_size v = omega arith in
-    omega (arith, length-append (sending_text v s) (flat_map (sending_text v) ss), rest, one, more)
+pub transmissions-text_long : (v : Version) (sends : List Sending) → length (flat_map (transmission_text v) sends) ≡ length sends * described_size v
+transmissions-text_long v [] = omega arith
+transmissions-text_long v (s ∷ ss) =
+    let rest = transmissions-text_long v ss in
+    let one = transmission-long v s in
+    let more : length (s ∷ ss) * described_size v ≡ described_size v + length ss * described_size v = omega arith in
+    omega (arith, length-append (transmission_text v s) (flat_map (transmission_text v) ss), rest, one, more)
 
-pub text-long : (h : Header) → length (header_text h) ≡ first_size h.version + length h.sends * sending_size h.version
-text-long h = omega (arith, length-append (first_text h.version h) (flat_map (sending_text h.version) h.sends), first-long h.version h, sends-text_long h.version h.sends)
+pub text-long : (h : Header) → length (header_text h) ≡ first_size h.version + length h.sends * described_size h.version
+text-long h = omega (arith, length-append (first_text h.version h) (flat_map (transmission_text h.version) h.sends), first-long h.version h, transmissions-text_long h.version h.sends)
 
 -- ---- how much must have come before the beginning is known
 
@@ -93,22 +93,23 @@ unless-due : (size n : ℕ) (o : Option Refusal) (after : Opening) → DueIs siz
 unless-due size n None after is less more = more
 unless-due size n (Some refusal) after is less more = omega (arith, is, less)
 
-pub second-due : (v : Version) (unit left : List ℕ) (n : ℕ) → n < first_size v + count_in v unit * sending_size v → n ≤ first_size v + length left → n < opening_due (second_opening v unit left)
+pub second-due : (v : Version) (unit left : List ℕ) (n : ℕ) → n < first_size v + count_in v unit * described_size v → n ≤ first_size v + length left → n < opening_due (second_opening v unit left)
 second-due v unit left n less came = by_test (nat_lt (length left) size) refl
   where
     size : ℕ
-    size = count_in v unit * sending_size v
+    size = count_in v unit * described_size v
 
     sends : List Sending
-    sends = sends_in v unit (count_in v unit) (take size left)
+    sends = transmissions_in v unit (count_in v unit) (take size left)
 
     by_test : (t : Bool) → nat_lt (length left) size ≡ t → n < opening_due (cond t (refuses (truncated 0 (first_size v + length left)))
-        (unless (first_refusal (first_size v + size) (sends_fields v (count_in v unit) (first_size v) (take size left))) (opens (header_in v unit sends) (drop size left))))
+        (unless (first_refusal (first_size v + size) (transmissions_fields v (count_in v unit) (first_size v) (take size left))) (opens (header_in v unit sends) (drop size left))))
     by_test true e = omega (arith, came)
     by_test false e =
-        unless-due (first_size v + size) n (first_refusal (first_size v + size) (sends_fields v (count_in v unit) (first_size v) (take size left))) (opens (header_in v unit sends) (drop size left))
-        (refusal-due (first_size v + size) (sends_fields v (count_in v unit) (first_size v) (take size left))) less
-        (let long = ap (λ (k : ℕ). k * sending_size v) (sends-long v unit (count_in v unit) (take size left)) in omega (arith, text-long (header_in v unit sends), long, less))
+        unless-due (first_size v + size) n (first_refusal (first_size v + size) (transmissions_fields v (count_in v unit) (first_size v) (take size left)))
+        (opens (header_in v unit sends) (drop size left))
+        (refusal-due (first_size v + size) (transmissions_fields v (count_in v unit) (first_size v) (take size left))) less
+        (let long = ap (λ (k : ℕ). k * described_size v) (transmissions-long v unit (count_in v unit) (take size left)) in omega (arith, text-long (header_in v unit sends), long, less))
 
 pub first-due : (v : Version) (want : Want) (left : List ℕ) (n : ℕ) → n < first_size v → n ≤ length left → n < opening_due (first_opening v want left)
 first-due v want left n less came =
@@ -118,6 +119,7 @@ first-due v want left n less came =
     (second-due v (take (first_size v) left) (drop (first_size v) left) n (omega (arith, less)) (omega (arith, less))))
   where
     by_test : (t : Bool) → n < opening_due (unless (first_refusal (first_size v) (fields v want (take (first_size v) left))) (second_opening v (take (first_size v) left) (drop (first_size v) left)))
-        → n < opening_due (cond t (refuses (truncated 0 (length left))) (unless (first_refusal (first_size v) (fields v want (take (first_size v) left))) (second_opening v (take (first_size v) left) (drop (first_size v) left))))
+        → n < opening_due (cond t (refuses (truncated 0 (length left)))
+        (unless (first_refusal (first_size v) (fields v want (take (first_size v) left))) (second_opening v (take (first_size v) left) (drop (first_size v) left))))
     by_test true more = omega (arith, came)
     by_test false more = more

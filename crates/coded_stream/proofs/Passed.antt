@@ -34,26 +34,26 @@ none_refused size (c ∷ cs) (first, rest) = ap (λ (t : Bool). cond t (first_re
 
 -- ---- checks after others
 
-pub pass_front : (xs ys : List Check) → AllPass (xs ++ ys) → AllPass xs
-pass_front [] ys all = tt
-pass_front (x ∷ xs) ys (here, all) = (here, pass_front xs ys all)
+pub pass_first : (xs ys : List Check) → AllPass (xs ++ ys) → AllPass xs
+pass_first [] ys all = tt
+pass_first (x ∷ xs) ys (here, all) = (here, pass_first xs ys all)
 
-pub pass_behind : (xs ys : List Check) → AllPass (xs ++ ys) → AllPass ys
-pass_behind [] ys all = all
-pass_behind (x ∷ xs) ys (here, all) = pass_behind xs ys all
+pub pass_rest : (xs ys : List Check) → AllPass (xs ++ ys) → AllPass ys
+pass_rest [] ys all = all
+pass_rest (x ∷ xs) ys (here, all) = pass_rest xs ys all
 
 pub pass_both : (xs ys : List Check) → AllPass xs → AllPass ys → AllPass (xs ++ ys)
 pass_both [] ys none all = all
 pass_both (x ∷ xs) ys (here, others) all = (here, pass_both xs ys others all)
 
-pub refused_behind : (size : ℕ) (xs ys : List Check) → AllPass xs → first_refusal size (xs ++ ys) ≡ first_refusal size ys
-refused_behind size [] ys pass = refl
-refused_behind size (x ∷ xs) ys (here, others) =
-    ap (λ (t : Bool). cond t (first_refusal size (xs ++ ys)) (Some (refused_at x.number x.place size))) here ∙ refused_behind size xs ys others
+pub refused_after_pass : (size : ℕ) (xs ys : List Check) → AllPass xs → first_refusal size (xs ++ ys) ≡ first_refusal size ys
+refused_after_pass size [] ys pass = refl
+refused_after_pass size (x ∷ xs) ys (here, others) =
+    ap (λ (t : Bool). cond t (first_refusal size (xs ++ ys)) (Some (refused_at x.number x.place size))) here ∙ refused_after_pass size xs ys others
 
-pub refused_front : (size : ℕ) (xs ys : List Check) (r : Refusal) → first_refusal size xs ≡ Some r → first_refusal size (xs ++ ys) ≡ Some r
-refused_front size [] ys r e = absurd (let no : ⊥ = cc in no)
-refused_front size (x ∷ xs) ys r e = by_test x.passes (refused_front size xs ys r) e
+pub refused_first : (size : ℕ) (xs ys : List Check) (r : Refusal) → first_refusal size xs ≡ Some r → first_refusal size (xs ++ ys) ≡ Some r
+refused_first size [] ys r e = absurd (let no : ⊥ = cc in no)
+refused_first size (x ∷ xs) ys r e = by_test x.passes (refused_first size xs ys r) e
   where
     by_test : (t : Bool) → (first_refusal size xs ≡ Some r → first_refusal size (xs ++ ys) ≡ Some r)
         → cond t (first_refusal size xs) (Some (refused_at x.number x.place size)) ≡ Some r
@@ -73,7 +73,7 @@ hard-code code e = let is : code ≡ 0 = eqb-true code 0 e in ap (λ (n : ℕ). 
 soft-code : (code : ℕ) → (code == 1) ≡ true → kind_code (kind_of code) ≡ code
 soft-code code e = let is : code ≡ 1 = eqb-true code 1 e in ap (λ (n : ℕ). kind_code (kind_of n)) is ∙ sym is
 
--- the code is that of the kind that it stands for
+-- the code is that of the kind that it means
 pub code-of_kind : (want : Want) (code : ℕ) → is_wanted want code ≡ true → kind_code (kind_of code) ≡ code
 code-of_kind Hard code e = hard-code code e
 code-of_kind Soft code e = soft-code code e

@@ -11,7 +11,7 @@ use Rattle.coded_stream.specs.declared.kind.Want.TheVariants.{Any}
 use Rattle.coded_stream.proofs.Passed.{any-kind}
 use Rattle.coded_stream.proofs.BodyTexts.{body-read}
 use Rattle.coded_stream.proofs.HeaderTexts.{header-read}
-use Rattle.coded_stream.proofs.BodySpelled.{bytes-behind, body-spelled}
+use Rattle.coded_stream.proofs.BodySpelled.{bytes-suffix, body-spelled}
 use Rattle.coded_stream.proofs.HeaderSpelled.{opening-spelled}
 
 pub stream-read : (want : Want) (h : Header) (blocks : List Block) → is_wanted want (kind_code h.kind) ≡ true → IsStream h blocks → stream_of want (stream_text h blocks) ≡ accepted h blocks
@@ -52,7 +52,7 @@ stream-spelled want input h blocks are is = by_opening (opening want input) refl
                 let blocks_are : b.blocks ≡ blocks = cc in
                 let o = opening-spelled want input i left are e in
                 let B : List ℕ → Type 0 = λ xs. AreBytes xs in
-                let left_bytes : AreBytes left = bytes-behind (header_text i) left (subst B o.input_is are) in
+                let left_bytes : AreBytes left = bytes-suffix (header_text i) left (subst B o.input_is are) in
                 let s = body-spelled i most_blocks (length (header_text i)) left b.blocks left_bytes (f ∙ (λ j. record { blocks = b.blocks; ending = n j })) in
                 let P : Header → Type 0 = λ k. IsTextOf want input k blocks in
                 let Q : List Block → Type 0 = λ bs. IsTextOf want input i bs in

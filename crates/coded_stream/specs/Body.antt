@@ -23,6 +23,11 @@ transmissions_step kind start b (g ∷ gs) left =
     then refused (refused_at 5 (start + (read + size - 1)) (read + size))
     else transmissions_step kind start (record b { bytes = b.bytes ++ take size left }) gs (drop size left)
 
+-- a block of so many payload bytes that begins at a place of the stream, after its length word
+abbrev pub block_step : Header → ℕ → ℕ → List ℕ → Step
+block_step h start payload left =
+    transmissions_step h.kind start (record { payload = payload; bytes = [] }) (lengths h) left
+
 -- after an end word at a place of the stream
 abbrev pub end_step : ℕ → List ℕ → Step
 end_step start [] = ended
@@ -37,7 +42,7 @@ word_step h more start payload left =
     then refused (refused_at 8 start 4)
     else if nat_lt h.tb payload
     then refused (refused_at 4 start 4)
-    else transmissions_step h.kind start (record { payload = payload; bytes = [] }) (lengths h) left
+    else block_step h start payload left
 
 -- the next block, which begins at a place of the stream, or what comes in its place
 unfoldable pub step : Header → ℕ → ℕ → List ℕ → Step

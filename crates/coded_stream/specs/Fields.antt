@@ -7,15 +7,15 @@ use Rattle.rate_match.specs.declared.matching.Buffer.{Buffer}
 use Rattle.coded_stream.specs.Limit.{is_limit}
 use Rattle.coded_stream.specs.Header.{word, limit_of_code}
 use Rattle.coded_stream.specs.Units.{refused_at}
-use Rattle.coded_stream.specs.Opening.{Check, first_refusal, first_size, count_in, tb_in, limit_in, match_in, sending_fields, sending_in, sends_fields, sends_in}
+use Rattle.coded_stream.specs.Opening.{Check, first_refusal, first_size, count_in, tb_in, limit_in, match_in, transmission_fields, transmission_in, transmissions_fields, transmissions_in}
 use Rattle.coded_stream.specs.declared.version.Version.{Version}
 use Rattle.coded_stream.specs.declared.version.Version.TheVariants.{One, Two}
 use Rattle.coded_stream.specs.declared.fields.Fields.{Fields}
 use Rattle.coded_stream.specs.declared.fields.Fields.TheVariants as first
-use Rattle.coded_stream.specs.declared.sending.SendingRead.{SendingRead}
-use Rattle.coded_stream.specs.declared.sending.SendingRead.TheVariants as one
-use Rattle.coded_stream.specs.declared.sendings.SendsRead.{SendsRead}
-use Rattle.coded_stream.specs.declared.sendings.SendsRead.TheVariants as all
+use Rattle.coded_stream.specs.declared.header_transmission.HeaderTransmission.{HeaderTransmission}
+use Rattle.coded_stream.specs.declared.header_transmission.HeaderTransmission.TheVariants as one
+use Rattle.coded_stream.specs.declared.header_transmissions.HeaderTransmissions.{HeaderTransmissions}
+use Rattle.coded_stream.specs.declared.header_transmissions.HeaderTransmissions.TheVariants as all
 
 -- G of version One is accepted
 abbrev pub has_good_g : List ℕ → Bool
@@ -39,18 +39,18 @@ abbrev pub IsFirst : Version → List ℕ → Type 0
 IsFirst One unit = IsMatch (match_in unit)
 IsFirst Two unit = Unit {0}
 
--- a transmission whose fields pass, or where the first stands that doesn't
-abbrev pub SendingIsRead : Version → (unit bytes : List ℕ) → SendingRead → Type 0
-SendingIsRead v unit bytes (one.Good m rv) = (sending_in v unit bytes ≡ record { m = m; rv = rv })
+-- a transmission whose fields pass, or where the first is that doesn't
+abbrev pub TransmissionIsRead : Version → (unit bytes : List ℕ) → HeaderTransmission → Type 0
+TransmissionIsRead v unit bytes (one.Good m rv) = (transmission_in v unit bytes ≡ record { m = m; rv = rv })
     × (rv ≤ 3) × (m.limit ≡ limit_in v unit)
-    × ((size place : ℕ) → first_refusal size (sending_fields v place bytes) ≡ None)
-SendingIsRead v unit bytes (one.Bad at) = (at < length bytes)
-    × ((size place : ℕ) → first_refusal size (sending_fields v place bytes)
+    × ((size place : ℕ) → first_refusal size (transmission_fields v place bytes) ≡ None)
+TransmissionIsRead v unit bytes (one.Bad at) = (at < length bytes)
+    × ((size place : ℕ) → first_refusal size (transmission_fields v place bytes)
     ≡ Some (refused_at 3 (place + at) size))
 
-abbrev pub SendsAreRead : Version → List ℕ → (count : ℕ) → List ℕ → SendsRead → Type 0
-SendsAreRead v unit count bytes (all.Good sends) = (sends ≡ sends_in v unit count bytes)
-    × ((size place : ℕ) → first_refusal size (sends_fields v count place bytes) ≡ None)
-SendsAreRead v unit count bytes (all.Bad at) = (at < length bytes)
-    × ((size place : ℕ) → first_refusal size (sends_fields v count place bytes)
+abbrev pub TransmissionsAreRead : Version → List ℕ → (count : ℕ) → List ℕ → HeaderTransmissions → Type 0
+TransmissionsAreRead v unit count bytes (all.Good sends) = (sends ≡ transmissions_in v unit count bytes)
+    × ((size place : ℕ) → first_refusal size (transmissions_fields v count place bytes) ≡ None)
+TransmissionsAreRead v unit count bytes (all.Bad at) = (at < length bytes)
+    × ((size place : ℕ) → first_refusal size (transmissions_fields v count place bytes)
     ≡ Some (refused_at 3 (place + at) size))

@@ -73,12 +73,12 @@ first_text Two h =
     ++ half_word_text h.tb ++ word_text (limit_code (common h.sends).limit)
 
 -- what the header says of a transmission alone
-abbrev pub sending_text : Version → Sending → List ℕ
-sending_text One s = s.rv ∷ []
-sending_text Two s = s.m.qm ∷ s.m.nl ∷ s.rv ∷ word_text s.m.g
+abbrev pub transmission_text : Version → Sending → List ℕ
+transmission_text One s = s.rv ∷ []
+transmission_text Two s = s.m.qm ∷ s.m.nl ∷ s.rv ∷ word_text s.m.g
 
 abbrev pub header_text : Header → List ℕ
-header_text h = first_text h.version h ++ flat_map (sending_text h.version) h.sends
+header_text h = first_text h.version h ++ flat_map (transmission_text h.version) h.sends
 
 -- ---- which headers are accepted
 

@@ -97,25 +97,25 @@ fields v want unit =
 
 -- ---- the second unit, of so many transmissions
 
-abbrev pub sending_size : Version → ℕ
-sending_size One = 1
-sending_size Two = 7
+abbrev pub described_size : Version → ℕ
+described_size One = 1
+described_size Two = 7
 
 -- the fields of one, from a place on
-abbrev pub sending_fields : Version → ℕ → List ℕ → List Check
-sending_fields One place bytes = check (nat_le (slice_index bytes 0) 3) 3 place ∷ []
-sending_fields Two place bytes =
+abbrev pub transmission_fields : Version → ℕ → List ℕ → List Check
+transmission_fields One place bytes = check (nat_le (slice_index bytes 0) 3) 3 place ∷ []
+transmission_fields Two place bytes =
     check (is_qm (slice_index bytes 0)) 3 place
     ∷ check (is_nl (slice_index bytes 1)) 3 (place + 1)
     ∷ check (nat_le (slice_index bytes 2) 3) 3 (place + 2)
     ∷ check (is_g (slice_index bytes 1 * slice_index bytes 0) (word bytes 3)) 3 (place + 3)
     ∷ []
 
-abbrev pub sends_fields : Version → (count place : ℕ) → List ℕ → List Check
-sends_fields v zero place bytes = []
-sends_fields v (suc count) place bytes =
-    let size = sending_size v in
-    sending_fields v place (take size bytes) ++ sends_fields v count (place + size) (drop size bytes)
+abbrev pub transmissions_fields : Version → (count place : ℕ) → List ℕ → List Check
+transmissions_fields v zero place bytes = []
+transmissions_fields v (suc count) place bytes =
+    let size = described_size v in
+    transmission_fields v place (take size bytes) ++ transmissions_fields v count (place + size) (drop size bytes)
 
 -- the rate matching of version One
 abbrev pub match_in : List ℕ → Match
@@ -127,9 +127,9 @@ match_in unit = record {
 }
 
 -- one transmission, after a first unit
-abbrev pub sending_in : Version → List ℕ → List ℕ → Sending
-sending_in One unit bytes = record { m = match_in unit; rv = slice_index bytes 0 }
-sending_in Two unit bytes = record {
+abbrev pub transmission_in : Version → List ℕ → List ℕ → Sending
+transmission_in One unit bytes = record { m = match_in unit; rv = slice_index bytes 0 }
+transmission_in Two unit bytes = record {
   m = record {
     qm = slice_index bytes 0;
     nl = slice_index bytes 1;
@@ -139,11 +139,11 @@ sending_in Two unit bytes = record {
   rv = slice_index bytes 2;
 }
 
-abbrev pub sends_in : Version → List ℕ → ℕ → List ℕ → List Sending
-sends_in v unit zero bytes = []
-sends_in v unit (suc count) bytes =
-    let size = sending_size v in
-    sending_in v unit (take size bytes) ∷ sends_in v unit count (drop size bytes)
+abbrev pub transmissions_in : Version → List ℕ → ℕ → List ℕ → List Sending
+transmissions_in v unit zero bytes = []
+transmissions_in v unit (suc count) bytes =
+    let size = described_size v in
+    transmission_in v unit (take size bytes) ∷ transmissions_in v unit count (drop size bytes)
 
 -- ---- how the input begins
 
@@ -169,11 +169,11 @@ header_in v unit sends = record {
 abbrev pub second_opening : Version → List ℕ → List ℕ → Opening
 second_opening v unit left =
     let count = count_in v unit in
-    let size = count * sending_size v in
+    let size = count * described_size v in
     if nat_lt (length left) size
     then refuses (truncated 0 (first_size v + length left))
-    else unless (first_refusal (first_size v + size) (sends_fields v count (first_size v) (take size left)))
-    (opens (header_in v unit (sends_in v unit count (take size left))) (drop size left))
+    else unless (first_refusal (first_size v + size) (transmissions_fields v count (first_size v) (take size left)))
+    (opens (header_in v unit (transmissions_in v unit count (take size left))) (drop size left))
 
 abbrev pub first_opening : Version → Want → List ℕ → Opening
 first_opening v want input =

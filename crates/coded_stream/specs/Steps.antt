@@ -68,7 +68,7 @@ GoesOn all after into old new (Err NoMemory) = new ≡ old
 
 -- ---- whether it tells them or not
 
--- a reader of a header that is accepted, of a kind that is wanted, that stands after it
+-- a reader of a header that is accepted, of a kind that is wanted, that is at its end
 pub record IsBegun (want : Want) (r : Reading) : Type 0 where
   pub kind : is_wanted want (kind_code r.header.kind) ≡ true
   pub header : IsHeader r.header

@@ -7,7 +7,7 @@ use Rattle.rate_match.specs.Sendings.{AreSendings, common}
 use Rattle.rate_match.specs.declared.sends.Sending.{Sending}
 use Rattle.coded_stream.specs.Header.{Header, AreHeld}
 use Rattle.coded_stream.specs.Blocks.{has_bad_bit, IsBlock, AreTransmissions}
-use Rattle.coded_stream.specs.Opening.{opens, refuses, version_of, first_size, sending_size, count_in, limit_in, header_in, second_opening}
+use Rattle.coded_stream.specs.Opening.{opens, refuses, version_of, first_size, described_size, count_in, limit_in, header_in, second_opening}
 use Rattle.coded_stream.specs.Body.{Step, block, ended, refused, end_step}
 use Rattle.coded_stream.specs.declared.kind.Kind.{Kind}
 use Rattle.coded_stream.specs.declared.version.Version.{Version}
@@ -36,16 +36,16 @@ TakesFirst old new unit first.Fault = (part : List ℕ) × Takes old new part
 -- ---- its second unit, after a first one
 
 -- where the source tells its bytes
-abbrev pub TakesSends : Version → List ℕ → List ℕ → Option (List ℕ) → Option (List ℕ) → Second → Type 0
-TakesSends v unit input old new (second.Good sends) = (bytes left : List ℕ)
-    × (input ≡ bytes ++ left) × (new ≡ Some left) × (length bytes ≡ count_in v unit * sending_size v)
+abbrev pub TakesSecond : Version → List ℕ → List ℕ → Option (List ℕ) → Option (List ℕ) → Second → Type 0
+TakesSecond v unit input old new (second.Good sends) = (bytes left : List ℕ)
+    × (input ≡ bytes ++ left) × (new ≡ Some left) × (length bytes ≡ count_in v unit * described_size v)
     × (second_opening v unit input ≡ opens (header_in v unit sends) left)
-TakesSends v unit input old new (second.Bad number place) = (bytes left : List ℕ) × (due : ℕ)
+TakesSecond v unit input old new (second.Bad number place) = (bytes left : List ℕ) × (due : ℕ)
     × (input ≡ bytes ++ left) × (new ≡ Some left)
     × (second_opening v unit input
     ≡ refuses (record { number = number; place = place; size = first_size v + length bytes; due = due }))
-TakesSends v unit input old new second.Fault = (bytes : List ℕ) × Takes old new bytes
-    × (length bytes < count_in v unit * sending_size v)
+TakesSecond v unit input old new second.Fault = (bytes : List ℕ) × Takes old new bytes
+    × (length bytes < count_in v unit * described_size v)
 
 -- the transmissions of an accepted header
 pub record AreSentBy (v : Version) (unit : List ℕ) (sends : List Sending) : Type 0 where

@@ -1,5 +1,6 @@
 //! The fields of a header's first unit.
 ghost use Rattle.std.specs.Prelude.{◌≡◌, ◌≤◌, length};
+ghost use Rattle.segmentation.specs.declared.planning.TheConstants.{MOST_BYTES};
 ghost use Rattle.rate_match.specs.Matching.{limit_of};
 ghost use Rattle.rate_match.specs.Fitting.{fits_all};
 ghost use Rattle.coded_stream.specs.Header.{limit_of_code};
@@ -11,7 +12,7 @@ use crate::kind::Want;
 use crate::unit::{half_word, word};
 use crate::version::Version;
 use rate_match::{BadMatch, Buffer, Match, fits_buffer};
-use segmentation::planning::plan;
+use segmentation::{MOST_BYTES, plan};
 
 /// What the first unit of a header says.
 #[derive(Clone, Copy)]
@@ -30,7 +31,7 @@ pub enum Fields {
     },
 }
 
-/// The buffer that a header's number for it stands for.
+/// The buffer that a header's number for it means.
 fn buffer_of(limit: u32) -> Buffer
     ensures { limit_of result ≡ limit_of_code limit }
 {
@@ -44,7 +45,7 @@ fn buffer_of(limit: u32) -> Buffer
 /// Whether a buffer fits the plan of every length from 1 to `tb`.
 fn fits_lengths(buffer: Buffer, tb: usize) -> bool
     requires some { 1 ≤ tb }
-    requires few { tb ≤ 18722 }
+    requires few { tb ≤ MOST_BYTES }
     ensures { result ≡ fits_all (limit_of buffer) tb }
 {
     match plan(tb) {
@@ -57,7 +58,7 @@ fn fits_lengths(buffer: Buffer, tb: usize) -> bool
 /// bytes.
 fn read_buffer(limit: u32, tb: usize) -> Option<Buffer>
     requires some { 1 ≤ tb }
-    requires few { tb ≤ 18722 }
+    requires few { tb ≤ MOST_BYTES }
     ensures { BufferIsRead limit tb result }
 {
     let buffer = buffer_of(limit);
@@ -90,7 +91,7 @@ fn read_first_sizes(unit: &[u8], good: bool) -> Fields
         return bad_field(7);
     }
     let tb = half_word(unit, 8) as usize;
-    if tb < 1 || tb > 18722 {
+    if tb < 1 || tb > MOST_BYTES {
         return bad_field(8);
     }
     if !good {
@@ -127,7 +128,7 @@ fn read_two(unit: &[u8]) -> Fields
         return bad_field(5);
     }
     let tb = half_word(unit, 6) as usize;
-    if tb < 1 || tb > 18722 {
+    if tb < 1 || tb > MOST_BYTES {
         return bad_field(6);
     }
     match read_buffer(word(unit, 8), tb) {

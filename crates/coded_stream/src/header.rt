@@ -1,5 +1,6 @@
 //! The header of a stream.
 ghost use Rattle.std.specs.Prelude.{◌≡◌, ◌≤◌, true};
+ghost use Rattle.segmentation.specs.declared.planning.TheConstants.{MOST_BYTES};
 ghost use Rattle.rate_match.specs.Sendings.{AreSendings, common};
 ghost use Rattle.rate_match.specs.Fitting.{fits_all};
 ghost use Rattle.coded_stream.specs.Header.{AreHeld};
@@ -20,7 +21,7 @@ pub struct Header {
     pub tb: usize,
     pub sends: Sends,
     pub ghost some: { 1 ≤ tb },
-    pub ghost few: { tb ≤ 18722 },
+    pub ghost few: { tb ≤ MOST_BYTES },
     pub ghost sent: { AreSendings sends },
     pub ghost held: { AreHeld version sends },
     pub ghost limited: { is_limit (common sends).limit ≡ true },

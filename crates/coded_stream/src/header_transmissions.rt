@@ -1,55 +1,55 @@
 //! What a header says of the transmissions.
 ghost use Rattle.std.specs.Prelude.{◌≡◌, ◌≤◌, ◌*◌, length};
 ghost use Rattle.rate_match.specs.Matching.{limit_of};
-ghost use Rattle.coded_stream.specs.Opening.{first_size, sending_size, limit_in};
-ghost use Rattle.coded_stream.specs.Fields.{IsFirst, SendsAreRead};
+ghost use Rattle.coded_stream.specs.Opening.{first_size, described_size, limit_in};
+ghost use Rattle.coded_stream.specs.Fields.{IsFirst, TransmissionsAreRead};
 
-use crate::sending::{SendingRead, read_sending};
+use crate::header_transmission::{HeaderTransmission, read_header_transmission};
 use crate::version::Version;
 use rate_match::{Buffer, Sends};
 
 /// The transmissions of a header.
 #[derive(Clone, Copy)]
-pub enum SendsRead {
+pub enum HeaderTransmissions {
     Good { sends: Sends },
     /// The field at this place of the second unit isn't accepted.
     Bad { at: usize },
 }
 
 /// The transmissions, one to eight, of these bytes, after a first unit with this buffer.
-pub fn read_sends(
+pub fn read_header_transmissions(
     version: Version,
     unit: &[u8],
     buffer: Buffer,
     count: usize,
     bytes: &[u8],
-) -> SendsRead
+) -> HeaderTransmissions
     requires whole { length unit.now ≡ first_size version }
     requires buffer { limit_of buffer ≡ limit_in version unit.now }
     requires matching { IsFirst version unit.now }
     requires some { 1 ≤ count }
     requires few { count ≤ 8 }
-    requires size { length bytes.now ≡ count * sending_size version }
-    ensures { SendsAreRead version unit.now count bytes.now result }
+    requires size { length bytes.now ≡ count * described_size version }
+    ensures { TransmissionsAreRead version unit.now count bytes.now result }
 {
-    let size = version.sending_size();
-    let mut sends = match read_sending(version, unit, buffer, &bytes[..size]) {
-        SendingRead::Good { m, rv } => match Sends::one(m, rv) {
+    let size = version.described_size();
+    let mut sends = match read_header_transmission(version, unit, buffer, &bytes[..size]) {
+        HeaderTransmission::Good { m, rv } => match Sends::one(m, rv) {
             Some(sends) => sends,
             None => unreachable!(),
         },
-        SendingRead::Bad { at } => return SendsRead::Bad { at },
+        HeaderTransmission::Bad { at } => return HeaderTransmissions::Bad { at },
     };
     for index in 1..count {
         let start = index * size;
-        match read_sending(version, unit, buffer, &bytes[start..start + size]) {
-            SendingRead::Good { m, rv } => {
+        match read_header_transmission(version, unit, buffer, &bytes[start..start + size]) {
+            HeaderTransmission::Good { m, rv } => {
                 if !sends.add(m, rv) {
                     unreachable!();
                 }
             }
-            SendingRead::Bad { at } => return SendsRead::Bad { at: start + at },
+            HeaderTransmission::Bad { at } => return HeaderTransmissions::Bad { at: start + at },
         }
     }
-    SendsRead::Good { sends }
+    HeaderTransmissions::Good { sends }
 }

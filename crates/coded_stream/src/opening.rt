@@ -4,10 +4,10 @@ ghost use Rattle.edge_io.specs.Edge.{Rose};
 ghost use Rattle.rate_match.specs.Matching.{limit_of};
 ghost use Rattle.coded_stream.specs.Opening.{version_of, first_size, limit_in, count_in};
 ghost use Rattle.coded_stream.specs.Fields.{IsFirst};
-ghost use Rattle.coded_stream.specs.Takes.{TakesFirst, TakesSends, AreSent};
+ghost use Rattle.coded_stream.specs.Takes.{TakesFirst, TakesSecond, AreSent};
 
 use crate::cause;
-use crate::sendings::{SendsRead, read_sends};
+use crate::header_transmissions::{HeaderTransmissions, read_header_transmissions};
 use crate::unit::{Unit, read_unit, word};
 use crate::version::Version;
 use edge_io::Source;
@@ -83,7 +83,7 @@ pub fn read_second<S: Source>(
     requires some { 1 ≤ count }
     requires few { count ≤ 8 }
     ensures told { (input : List ℕ) → S.left source.old ≡ Some input →
-        TakesSends version unit.now input (S.left source.old) (S.left source.new) result }
+        TakesSecond version unit.now input (S.left source.old) (S.left source.new) result }
     ensures sent { AreSent version unit.now result }
     ensures later { S.faults source.old ≤ S.faults source.new }
     ensures fault { result ≡ Second.Fault → Rose (S.faults source.old) (S.faults source.new) }
@@ -92,9 +92,9 @@ pub fn read_second<S: Source>(
     let bytes = &mut room[..version.second_size(count)];
     let start = version.first_size() as u64;
     match read_unit(source, bytes) {
-        Unit::Whole => match read_sends(version, unit, buffer, count, bytes) {
-            SendsRead::Good { sends } => Second::Good { sends },
-            SendsRead::Bad { at } => Second::Bad {
+        Unit::Whole => match read_header_transmissions(version, unit, buffer, count, bytes) {
+            HeaderTransmissions::Good { sends } => Second::Good { sends },
+            HeaderTransmissions::Bad { at } => Second::Bad {
                 number: cause::BAD_FIELD,
                 place: start + at as u64,
             },

@@ -9,7 +9,7 @@ pub enum StreamStop {
     Bad { number: u8, place: u64 },
     /// The source failed.
     Fault,
-    /// Memory was wanting, and nothing was read.
+    /// Memory ran out, and nothing was read.
     NoMemory,
 }
 

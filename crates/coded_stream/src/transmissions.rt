@@ -1,8 +1,8 @@
 //! Reading the transmissions of a block.
-ghost use Rattle.std.specs.Prelude.{◌≡◌, ◌≤◌, ◌<◌, ◌*◌, ◌^◌, ℕ, List, [], Some, length, slice_get};
+ghost use Rattle.std.specs.Prelude.{◌≡◌, ◌≤◌, ◌<◌, ◌*◌, ◌^◌, ℕ, List, Some, length, slice_get};
 ghost use Rattle.edge_io.specs.Edge.{Rose};
 ghost use Rattle.coded_stream.specs.Blocks.{lengths, block_size, AreTransmissions};
-ghost use Rattle.coded_stream.specs.Body.{transmissions_step};
+ghost use Rattle.coded_stream.specs.Body.{block_step};
 ghost use Rattle.coded_stream.specs.Shown.{header_of};
 ghost use Rattle.coded_stream.specs.Takes.{TakesStep, AreTaken};
 
@@ -47,8 +47,8 @@ pub fn read_transmissions<S: Source>(
     requires place { start < 2 ^ 60 }
     requires size { length into.old ≡ block_size header.now.kind (lengths (header_of header.now)) }
     ensures told { (input : List ℕ) → S.left source.old ≡ Some input →
-        TakesStep (transmissions_step header.now.kind start (record { payload = payload; bytes = [] }) (lengths (header_of header.now)) input)
-        4 into.new (S.left source.old) (S.left source.new) result }
+        TakesStep (block_step (header_of header.now) start payload input) 4 into.new
+        (S.left source.old) (S.left source.new) result }
     ensures taken { AreTaken header.now.kind (lengths (header_of header.now)) payload into.new result }
     ensures later { S.faults source.old ≤ S.faults source.new }
     ensures fault { result ≡ Next.Fault → Rose (S.faults source.old) (S.faults source.new) }

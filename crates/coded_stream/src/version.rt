@@ -1,7 +1,7 @@
 //! The versions of the container.
 ghost use Rattle.std.specs.Prelude.{◌≡◌, ◌≤◌, ◌*◌};
 ghost use Rattle.coded_stream.specs.Header.{magic};
-ghost use Rattle.coded_stream.specs.Opening.{first_size, sending_size};
+ghost use Rattle.coded_stream.specs.Opening.{first_size, described_size};
 
 /// The version of the container.
 #[derive(Clone, Copy, Debug, PartialEq, Eq, Hash)]
@@ -35,9 +35,9 @@ impl Version {
         }
     }
 
-    /// The bytes of a transmission in the header's second unit.
-    pub(crate) fn sending_size(self) -> usize
-        ensures value { result ≡ sending_size self }
+    /// The bytes that describe a transmission in the header's second unit.
+    pub(crate) fn described_size(self) -> usize
+        ensures value { result ≡ described_size self }
         ensures some { 1 ≤ result }
         ensures few { result ≤ 7 }
     {
@@ -50,7 +50,7 @@ impl Version {
     /// The bytes of the second unit, of so many transmissions, one to eight.
     pub(crate) fn second_size(self, count: usize) -> usize
         requires { count ≤ 8 }
-        ensures value { result ≡ count * sending_size self }
+        ensures value { result ≡ count * described_size self }
         ensures few { result ≤ 56 }
     {
         match self {

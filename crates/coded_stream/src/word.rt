@@ -1,8 +1,7 @@
-//! Reading a length word, and what stands after the end word.
-ghost use Rattle.std.specs.Prelude.{◌≡◌, ◌≤◌, ◌<◌, ◌^◌, ℕ, List, [], Some};
+//! Reading a length word, and what comes after the end word.
+ghost use Rattle.std.specs.Prelude.{◌≡◌, ◌≤◌, ◌<◌, ◌^◌, ℕ, List, Some};
 ghost use Rattle.edge_io.specs.Edge.{Rose};
-ghost use Rattle.coded_stream.specs.Blocks.{lengths};
-ghost use Rattle.coded_stream.specs.Body.{step, transmissions_step, end_step};
+ghost use Rattle.coded_stream.specs.Body.{step, block_step, end_step};
 ghost use Rattle.coded_stream.specs.Shown.{header_of};
 ghost use Rattle.coded_stream.specs.Takes.{TakesWord, TakesStep, IsNoBlock};
 ghost use Rattle.coded_stream.specs.Words.{IsPayload};
@@ -30,8 +29,7 @@ pub enum Word {
 pub fn read_word<S: Source>(source: &mut S, header: &Header, more: usize, start: u64) -> Word
     requires { start < 2 ^ 60 }
     ensures told { (input : List ℕ) → S.left source.old ≡ Some input →
-        TakesWord (step (header_of header.now) more start input)
-        (λ n. transmissions_step header.now.kind start (record { payload = n; bytes = [] }) (lengths (header_of header.now)))
+        TakesWord (step (header_of header.now) more start input) (block_step (header_of header.now) start)
         start (S.left source.old) (S.left source.new) result }
     ensures payload { IsPayload header.now.tb more result }
     ensures later { S.faults source.old ≤ S.faults source.new }

@@ -1,7 +1,8 @@
 //! Writing a header, and the words between transmissions.
 ghost use Rattle.std.specs.Prelude.{◌≡◌, ℕ, length, take, flat_map, OnOk, OnErr, IfOk};
 ghost use Rattle.edge_io.specs.Edge.{Adds, HasCause};
-ghost use Rattle.coded_stream.specs.Header.{header_text, first_text, sending_text, limit_code, word_text};
+ghost use Rattle.coded_stream.specs.Header.{header_text, first_text, transmission_text};
+ghost use Rattle.coded_stream.specs.Header.{limit_code, word_text};
 ghost use Rattle.coded_stream.specs.Shown.{header_of};
 ghost use Rattle.rate_match.specs.Sendings.{common};
 
@@ -89,43 +90,43 @@ fn write_first<D: Sink>(sink: &mut D, header: &Header) -> Result<(), SinkFault>
 
 /// The bytes of a transmission of version Two.
 #[tactic(auto, unfolding(crate::specs::Header::word_text))]
-fn own_text(m: &Match, rv: u8) -> [u8; 7]
-    ensures { result ≡ sending_text Version.Two (record { m = m.now; rv = rv }) }
+fn transmission_of_two(m: &Match, rv: u8) -> [u8; 7]
+    ensures { result ≡ transmission_text Version.Two (record { m = m.now; rv = rv }) }
 {
     let g = (m.g() as u32).to_be_bytes();
     [m.qm(), m.nl(), rv, g[0], g[1], g[2], g[3]]
 }
 
 /// Appends what a header says of one transmission alone.
-fn write_sending<D: Sink>(
+fn write_transmission<D: Sink>(
     sink: &mut D,
     version: Version,
     m: &Match,
     rv: u8,
 ) -> Result<(), SinkFault>
-    ensures ok { OnOk result
-        (Adds (D.held sink.old) (D.held sink.new) (sending_text version (record { m = m.now; rv = rv }))) }
+    ensures ok { OnOk result (Adds (D.held sink.old) (D.held sink.new)
+        (transmission_text version (record { m = m.now; rv = rv }))) }
     ensures err { OnErr result ((n : ℕ) × Adds (D.held sink.old) (D.held sink.new)
-        (take n (sending_text version (record { m = m.now; rv = rv })))) }
+        (take n (transmission_text version (record { m = m.now; rv = rv })))) }
     ensures cause { HasCause (D.faults sink.old) (D.faults sink.new) result }
 {
     match version {
         Version::One => write_all(sink, &[rv]),
-        Version::Two => write_all(sink, &own_text(m, rv)),
+        Version::Two => write_all(sink, &transmission_of_two(m, rv)),
     }
 }
 
 /// Appends the second unit of a header.
-fn write_sends<D: Sink>(sink: &mut D, header: &Header) -> Result<(), SinkFault>
+fn write_transmissions<D: Sink>(sink: &mut D, header: &Header) -> Result<(), SinkFault>
     ensures ok { OnOk result (Adds (D.held sink.old) (D.held sink.new)
-        (flat_map (sending_text header.now.version) header.now.sends)) }
+        (flat_map (transmission_text header.now.version) header.now.sends)) }
     ensures err { OnErr result ((n : ℕ) × Adds (D.held sink.old) (D.held sink.new)
-        (take n (flat_map (sending_text header.now.version) header.now.sends))) }
+        (take n (flat_map (transmission_text header.now.version) header.now.sends))) }
     ensures cause { HasCause (D.faults sink.old) (D.faults sink.new) result }
 {
     for index in 0..header.sends.len() {
         let (m, rv) = header.sends.at(index);
-        if let Err(SinkFault) = write_sending(sink, header.version, &m, rv) {
+        if let Err(SinkFault) = write_transmission(sink, header.version, &m, rv) {
             return Err(SinkFault);
         }
     }
@@ -143,7 +144,7 @@ pub fn write_header<D: Sink>(sink: &mut D, header: &Header) -> Result<(), SinkFa
     if let Err(SinkFault) = write_first(sink, header) {
         return Err(SinkFault);
     }
-    write_sends(sink, header)
+    write_transmissions(sink, header)
 }
 
 /// Appends a block's length word, or for 0 the end word. After `SinkFault` a prefix of its bytes

@@ -2,7 +2,7 @@
 use Rattle.std.proofs.Common.{◌≡◌, ℕ, zero, suc, ◌+◌, ◌<◌, ◌≤◌, List, [], ◌∷◌, ◌++◌, length, take, refl, ap, arith}
 use Rattle.std.proofs.lemmas.Grind.{common_steps}
 use Rattle.std.proofs.lemmas.Bool.{lt-ltb}
-use Rattle.run_loop.specs.Answer.{Part, Answer, behind, size_of}
+use Rattle.run_loop.specs.Answer.{Part, Answer, preceded_by, size_of}
 use Rattle.run_loop.specs.Due.{most_ahead}
 use Rattle.command_batch.specs.Batch.{reading_ahead}
 
@@ -30,19 +30,19 @@ tail_within : (a : Answer) (k : ℕ) → 1 < k → length a.parts < k → size_o
 tail_within a k some few = rw (lt-ltb 1 k some, lt-ltb (length a.parts) k few) (omega arith)
 
 -- the parts in front alone
-pub whole_within : (b : Answer) (front : List Part) (k : ℕ) → length front ≤ k → size_of front ≤ most_ahead (behind front (reading_ahead k b))
+pub whole_within : (b : Answer) (front : List Part) (k : ℕ) → length front ≤ k → size_of front ≤ most_ahead (preceded_by front (reading_ahead k b))
 whole_within b front k few =
     let within = front_within front b.parts k few in omega (arith, within)
 
 -- and a little more
-pub spare_within : (b : Answer) (front : List Part) (k m : ℕ) → 1 < k → length front < k → IsSpare b.parts b.tail m → size_of front + m ≤ most_ahead (behind front (reading_ahead k b))
+pub spare_within : (b : Answer) (front : List Part) (k m : ℕ) → 1 < k → length front < k → IsSpare b.parts b.tail m → size_of front + m ≤ most_ahead (preceded_by front (reading_ahead k b))
 spare_within b front k m some few spare = of b.parts refl spare
   where
-    of : (parts : List Part) → b.parts ≡ parts → IsSpare parts b.tail m → size_of front + m ≤ most_ahead (behind front (reading_ahead k b))
+    of : (parts : List Part) → b.parts ≡ parts → IsSpare parts b.tail m → size_of front + m ≤ most_ahead (preceded_by front (reading_ahead k b))
     of [] is spare =
         let within = front_within front b.parts k (omega (arith, few)) in
         let at : length (front ++ b.parts) < k = rw is (grind (arith, common_steps, few)) in
-        let end = tail_within (behind front b) k some at in
+        let end = tail_within (preceded_by front b) k some at in
         omega (arith, within, end, spare)
     of (p ∷ parts) is spare =
         let within = next_within front parts p k few in

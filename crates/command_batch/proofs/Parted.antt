@@ -5,7 +5,7 @@ use Rattle.model_receiver.specs.TransportBlocks.{Effort}
 use Rattle.block_receive.specs.Effort.{effort_of}
 use Rattle.coded_stream.specs.Header.{Header}
 use Rattle.coded_stream.specs.Body.{Body}
-use Rattle.run_loop.specs.Answer.{behind, size_of}
+use Rattle.run_loop.specs.Answer.{preceded_by, size_of}
 use Rattle.stream_loop.specs.Handling.{Handled, body_answer, part, one_if}
 use Rattle.command_decode.specs.Decoding.{decoding, decoded, handled}
 use Rattle.command_batch.specs.Jobs.{block_in, blocks_in, IsJobOf}
@@ -21,7 +21,7 @@ handled_same e h number j is =
 
 pub answered_jobs : (e : Effort) (h : Header) (number failed : ℕ) (jobs : List BlockJob) (rest : Body) → All (IsJobOf e h) jobs →
     body_answer (decoding e) h number failed (onto_all (blocks_in jobs) rest)
-    ≡ behind (job_parts number jobs) (body_answer (decoding e) h (number + length jobs) (failed + failures number jobs) rest)
+    ≡ preceded_by (job_parts number jobs) (body_answer (decoding e) h (number + length jobs) (failed + failures number jobs) rest)
 answered_jobs e h number failed [] rest are =
     ap (λ (n : ℕ). body_answer (decoding e) h n failed rest) (let a : number ≡ number + 0 = omega arith in a)
     ∙ ap (λ (n : ℕ). body_answer (decoding e) h (number + 0) n rest) (let a : failed ≡ failed + 0 = omega arith in a)
@@ -33,11 +33,11 @@ answered_jobs e h number failed (j ∷ jobs) rest all_are =
     let same = handled_same e h number j one in
     let all = onto_all (blocks_in jobs) rest in
     let f = one_if (handled_job number j).failed in
-    ap (λ (x : Handled). behind (part x b ∷ []) (body_answer w h (number + 1) (failed + one_if x.failed) all)) same
-    ∙ ap (behind (job_part number j ∷ [])) (answered_jobs e h (number + 1) (failed + f) jobs rest others)
-    ∙ ap (λ (n : ℕ). behind (job_parts number (j ∷ jobs)) (body_answer w h n (failed + f + failures (number + 1) jobs) rest))
+    ap (λ (x : Handled). preceded_by (part x b ∷ []) (body_answer w h (number + 1) (failed + one_if x.failed) all)) same
+    ∙ ap (preceded_by (job_part number j ∷ [])) (answered_jobs e h (number + 1) (failed + f) jobs rest others)
+    ∙ ap (λ (n : ℕ). preceded_by (job_parts number (j ∷ jobs)) (body_answer w h n (failed + f + failures (number + 1) jobs) rest))
     (let a : number + 1 + length jobs ≡ number + length (j ∷ jobs) = omega arith in a)
-    ∙ ap (λ (n : ℕ). behind (job_parts number (j ∷ jobs)) (body_answer w h (number + length (j ∷ jobs)) n rest))
+    ∙ ap (λ (n : ℕ). preceded_by (job_parts number (j ∷ jobs)) (body_answer w h (number + length (j ∷ jobs)) n rest))
     (let a : failed + f + failures (number + 1) jobs ≡ failed + failures number (j ∷ jobs) = omega arith in a)
 
 pub length-parts : (number : ℕ) (jobs : List BlockJob) → length (job_parts number jobs) ≡ length jobs

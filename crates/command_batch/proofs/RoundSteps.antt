@@ -12,7 +12,7 @@ use Rattle.coded_stream.specs.Stream.{most_blocks}
 use Rattle.coded_stream.specs.Steps.{Reading, remaining, GoesOn, due_of}
 use Rattle.coded_stream.specs.declared.stop.StreamStop.{StreamStop}
 use Rattle.coded_stream.specs.declared.stop.StreamStop.TheVariants as reader
-use Rattle.run_loop.specs.Answer.{Part, Answer, behind, size_of}
+use Rattle.run_loop.specs.Answer.{Part, Answer, preceded_by, size_of}
 use Rattle.run_loop.specs.Due.{Stopped, TakesSome, most_ahead}
 use Rattle.run_loop.specs.Step.{FailsBy, Fewer, Gives, Stops, StopsBy, ending_of, parts_of}
 use Rattle.run_loop.specs.declared.work.Round.{Round}
@@ -21,7 +21,7 @@ use Rattle.run_loop.specs.declared.work.Stop.TheVariants.{Go, End, Fails}
 use Rattle.run_loop.specs.declared.status.Status.TheVariants.{NoMemory, BadStream}
 use Rattle.stream_loop.specs.Handling.{Handling, blocks_answer, body_answer}
 use Rattle.stream_loop.specs.Rounds.{status_of, IsEnding}
-use Rattle.stream_loop.proofs.Answered.{due_behind, some_behind, some_due, within_ahead}
+use Rattle.stream_loop.proofs.Answered.{due_of_blocks, some_due_without_parts, some_due, within_ahead}
 use Rattle.stream_loop.proofs.StreamSteps.{taken}
 use Rattle.command_decode.specs.Decoding.{decoding}
 use Rattle.command_batch.specs.Batch.{batch_ahead, reading_ahead}
@@ -43,7 +43,7 @@ left_answer e pipes r failed jobs rest =
 
 split : (e : Effort) (pipes failed : ℕ) (r s : Reading) (input left : List ℕ) (jobs : List BlockJob) (old mid : Option (List ℕ)) →
     All (IsJobOf e r.header) jobs → Came r s input left (blocks_in jobs) old mid →
-    batch_ahead e pipes r failed input ≡ behind (job_parts r.blocks jobs) (left_answer e pipes r failed jobs (remaining s left))
+    batch_ahead e pipes r failed input ≡ preceded_by (job_parts r.blocks jobs) (left_answer e pipes r failed jobs (remaining s left))
 split e pipes failed r s input left jobs old mid are came =
     ap (λ (b : Body). reading_ahead (2 * pipes) (body_answer (decoding e) r.header r.blocks failed b)) came.says
     ∙ ap (reading_ahead (2 * pipes)) (answered_jobs e r.header r.blocks failed jobs (remaining s left) are)
@@ -51,11 +51,11 @@ split e pipes failed r s input left jobs old mid are came =
 -- ---- memory runs out
 
 -- so many bytes beyond the blocks that came were read
-spare_behind : (w : Handling) (h : Header) (number failed : ℕ) (blocks : List Block) (ending : Ending) (m : ℕ) → IsNear ending → m < due_of blocks ending →
+spare_of_blocks : (w : Handling) (h : Header) (number failed : ℕ) (blocks : List Block) (ending : Ending) (m : ℕ) → IsNear ending → m < due_of blocks ending →
     IsSpare (blocks_answer w h number failed blocks ending).parts (blocks_answer w h number failed blocks ending).tail m
-spare_behind w h number failed [] whole m near few = omega (arith, few)
-spare_behind w h number failed [] (bad r) m near few = omega (arith, near, few)
-spare_behind w h number failed (b ∷ blocks) ending m near few = omega (arith, few)
+spare_of_blocks w h number failed [] whole m near few = omega (arith, few)
+spare_of_blocks w h number failed [] (bad r) m near few = omega (arith, near, few)
+spare_of_blocks w h number failed (b ∷ blocks) ending m near few = omega (arith, few)
 
 -- what was taken after the blocks that came, and how much it may be
 more_taken : (w : Handling) (h : Header) (number failed : ℕ) (s s' : Reading) (left : List ℕ) (mid new : Option (List ℕ)) (stopped : Reached) →
@@ -75,7 +75,7 @@ more_taken w h number failed s s' left mid new (reached.Stopped (reader.Bad n pl
 more_taken w h number failed s s' left mid new (reached.Stopped reader.Fault) early (bytes, took, few) = (
   bytes,
   took,
-  spare_behind w h number failed (remaining s left).blocks (remaining s left).ending (length bytes) (near-body s.header (most_blocks - s.blocks) s.place left) few,
+  spare_of_blocks w h number failed (remaining s left).blocks (remaining s left).ending (length bytes) (near-body s.header (most_blocks - s.blocks) s.place left) few,
 )
 more_taken w h number failed s s' left mid new (reached.Stopped reader.NoMemory) early same = (
   [],
@@ -102,7 +102,7 @@ starved_after e pipes failed r before s input left jobs old mid new stopped some
     let b = body_answer w r.header number all (remaining before left) in
     let front = job_parts r.blocks jobs in
     let P : Answer → Type 0 = λ a. length (came.bytes ++ more.0) ≤ most_ahead a in
-    let within : length (came.bytes ++ more.0) ≤ most_ahead (behind front (reading_ahead (2 * pipes) b)) =
+    let within : length (came.bytes ++ more.0) ≤ most_ahead (preceded_by front (reading_ahead (2 * pipes) b)) =
     let spare = spare_within b front (2 * pipes) (length more.0) (omega (arith, some)) (omega (arith, few, length-parts r.blocks jobs)) more.2 in
     omega (arith, spare, length-append came.bytes more.0, came.size, size-parts r.blocks jobs) in (
       came.bytes ++ more.0,
@@ -118,7 +118,7 @@ starved_full e pipes failed r s input left jobs old new few are came =
     let b = body_answer w r.header (r.blocks + length jobs) (failed + failures r.blocks jobs) (remaining s left) in
     let front = job_parts r.blocks jobs in
     let P : Answer → Type 0 = λ a. length came.bytes ≤ most_ahead a in
-    let within : length came.bytes ≤ most_ahead (behind front (reading_ahead (2 * pipes) b)) =
+    let within : length came.bytes ≤ most_ahead (preceded_by front (reading_ahead (2 * pipes) b)) =
     let whole = whole_within b front (2 * pipes) (omega (arith, few, length-parts r.blocks jobs)) in
     omega (arith, whole, came.size, size-parts r.blocks jobs) in (
       came.bytes,
@@ -157,11 +157,11 @@ stopped_ahead w k h number failed before s left mid new (reader.Bad n place) (by
     let P : Body → Type 0 = λ b. Stopped (reading_ahead k (body_answer w h number failed b)) mid new (BadStream n place) in
     subst P (sym says) (refl, refl, (bytes, taken mid new bytes rest old_is new_is, refl))
 stopped_ahead w k h number failed before s left mid new reader.Fault (bytes, took, few) =
-    (bytes, took, due_behind w h number failed (remaining before left).blocks (remaining before left).ending (length bytes) few)
+    (bytes, took, due_of_blocks w h number failed (remaining before left).blocks (remaining before left).ending (length bytes) few)
 stopped_ahead w k h number failed before s left mid new reader.NoMemory same = (
   [],
   (let P : Option (List ℕ) → Type 0 = λ o. Takes mid o [] in subst P (sym same) (takes_none mid)),
-  (omega arith, some_behind w h number failed (remaining before left).blocks (remaining before left).ending (some_due before left)),
+  (omega arith, some_due_without_parts w h number failed (remaining before left).blocks (remaining before left).ending (some_due before left)),
 )
 
 gives_after : (e : Effort) (pipes failed : ℕ) (r before : Reading) (input left : List ℕ) (jobs : List BlockJob) (after : List ℕ → Answer) (old mid new : Option (List ℕ)) (round : Round) →
@@ -172,7 +172,7 @@ gives_after e pipes failed r before input left jobs after old mid new round are 
     let b = left_answer e pipes r failed jobs (remaining before left) in (
       b,
       mid,
-      split e pipes failed r before input left jobs old mid are came ∙ ap (λ (ps : List Part). behind ps b) (sym made),
+      split e pipes failed r before input left jobs old mid are came ∙ ap (λ (ps : List Part). preceded_by ps b) (sym made),
       (came.bytes, came.took, came.size ∙ sym (size-parts r.blocks jobs) ∙ sym (ap size_of made)),
       stops,
     )

@@ -30,7 +30,7 @@ OnJob _ P = Unit {0}
 
 -- ---- several
 
--- blocks in front of what a stream still says
+-- blocks before what a stream still says
 abbrev pub onto_all : List Block → Body → Body
 onto_all blocks rest = record rest { blocks = blocks ++ rest.blocks }
 

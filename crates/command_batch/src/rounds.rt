@@ -49,7 +49,8 @@ impl<R: Runner> Work for BatchRounds<R> {
     ghost use Rattle.stream_loop.specs.Rounds.{IsReady};
     ghost use Rattle.command_batch.specs.Batch.{batch_ahead};
 
-    ghost answer = { λ s input. batch_ahead (effort_of s.jobs.effort) (R.pipes s.runner) s.jobs.reader s.failed input };
+    ghost answer = { λ s input.
+        batch_ahead (effort_of s.jobs.effort) (R.pipes s.runner) s.jobs.reader s.failed input };
 
     ghost ready = { λ s. R.able s.runner
         × IsReady (decoding (effort_of s.jobs.effort)) s.jobs.reader s.failed };

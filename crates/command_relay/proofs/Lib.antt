@@ -1,4 +1,4 @@
-mod Turns
+mod Places
 mod HardBits
 mod Modulation
 mod Pairs

@@ -12,15 +12,15 @@ use Rattle.coded_stream.specs.Body.{Body, Step, block, ended, refused, step, aft
 use Rattle.coded_stream.specs.Stream.{AreBytes}
 use Rattle.coded_stream.specs.declared.kind.Kind.{Kind}
 use Rattle.coded_stream.specs.declared.kind.Kind.TheVariants as kind
-use Rattle.coded_stream.proofs.BodySpelled.{bytes-behind, step-block}
+use Rattle.coded_stream.proofs.BodySpelled.{bytes-suffix, step-block}
 use Rattle.coded_stream.specs.Blocks.{block_text}
-use Rattle.run_loop.specs.Answer.{behind}
+use Rattle.run_loop.specs.Answer.{preceded_by}
 use Rattle.stream_loop.specs.Handling.{Handled, body_answer, one_if, part}
 use Rattle.stream_loop.specs.SoftBytes.{bytes_of}
-use Rattle.command_relay.specs.Channel.{Noise, channel, noisy_text, sending_noisily, transmission_of}
+use Rattle.command_relay.specs.Channel.{Noise, channel, noisy_text, noisy_conversion, transmission_of}
 use Rattle.command_relay.specs.HardBits.{bits_in}
-use Rattle.command_relay.specs.Points.{points, received_text, sending_points}
-use Rattle.command_relay.specs.Relaying.{sent_from}
+use Rattle.command_relay.specs.Points.{points, received_text, point_conversion}
+use Rattle.command_relay.specs.Conversions.{made_from}
 use Rattle.command_relay.proofs.HardBits.{length_bits}
 use Rattle.command_relay.proofs.Modulation.{none_over}
 use Rattle.command_relay.proofs.Pairs.{as_by_themselves}
@@ -41,7 +41,7 @@ same_text n h place number m bytes some two is one =
 -- those of a block
 same_sent : (n : Noise) (h : Header) (place number : ℕ) (sends : List Sending) (bytes : List ℕ) → 0 < n.strength.amp → h.kind ≡ kind.Hard →
     All (λ s. s.m.qm ≡ 2) sends → All (λ s. IsMatch s.m) sends → AreTransmissions kind.Hard (map (λ s. s.m.g) sends) bytes →
-    sent_from (sending_points n) h place number sends bytes ≡ sent_from (sending_noisily n) h place number sends bytes
+    made_from (point_conversion n) h place number sends bytes ≡ made_from (noisy_conversion n) h place number sends bytes
 same_sent n h place number [] bytes some hard two are sent = refl
 same_sent n h place number (s ∷ sends) bytes some hard twos all (first, rest, is, one, others) =
     let q : s.m.qm ≡ 2 = twos 0 s (omega arith) in
@@ -52,14 +52,14 @@ same_sent n h place number (s ∷ sends) bytes some hard twos all (first, rest, 
     let long : length first ≡ size = one.size ∙ ap (λ (k : Kind). transmission_size k s.m.g) (sym hard) in
     let front : take size bytes ≡ first = ap (λ (xs : List ℕ). take size xs) is ∙ ap (λ (k : ℕ). take k (first ++ rest)) (sym long) ∙ take-append_seam first rest in
     let left : drop size bytes ≡ rest = ap (λ (xs : List ℕ). drop size xs) is ∙ ap (λ (k : ℕ). drop k (first ++ rest)) (sym long) ∙ drop-append_seam first rest in
-    let w = sending_points n in
-    let v = sending_noisily n in
-    ap (λ (xs : List ℕ). received_text n h place number s.m xs ++ sent_from w h place (number + 1) sends (drop size bytes)) front
-    ∙ ap (λ (xs : List ℕ). xs ++ sent_from w h place (number + 1) sends (drop size bytes)) (same_text n h place number s.m first some q m one)
-    ∙ ap (λ (xs : List ℕ). noisy_text n h place number s.m first ++ sent_from w h place (number + 1) sends xs) left
+    let w = point_conversion n in
+    let v = noisy_conversion n in
+    ap (λ (xs : List ℕ). received_text n h place number s.m xs ++ made_from w h place (number + 1) sends (drop size bytes)) front
+    ∙ ap (λ (xs : List ℕ). xs ++ made_from w h place (number + 1) sends (drop size bytes)) (same_text n h place number s.m first some q m one)
+    ∙ ap (λ (xs : List ℕ). noisy_text n h place number s.m first ++ made_from w h place (number + 1) sends xs) left
     ∙ ap (λ (xs : List ℕ). noisy_text n h place number s.m first ++ xs) (same_sent n h place (number + 1) sends rest some hard two are others)
-    ∙ ap (λ (xs : List ℕ). noisy_text n h place number s.m first ++ sent_from v h place (number + 1) sends xs) (sym left)
-    ∙ ap (λ (xs : List ℕ). noisy_text n h place number s.m xs ++ sent_from v h place (number + 1) sends (drop size bytes)) (sym front)
+    ∙ ap (λ (xs : List ℕ). noisy_text n h place number s.m first ++ made_from v h place (number + 1) sends xs) (sym left)
+    ∙ ap (λ (xs : List ℕ). noisy_text n h place number s.m xs ++ made_from v h place (number + 1) sends (drop size bytes)) (sym front)
 
 same_block : (n : Noise) (h : Header) (number : ℕ) (b : Block) → 0 < n.strength.amp → h.kind ≡ kind.Hard →
     All (λ s. s.m.qm ≡ 2) h.sends → All (λ s. IsMatch s.m) h.sends → IsBlock h b → (points n).block h number b ≡ (channel n).block h number b
@@ -77,11 +77,11 @@ same_step : (n : Noise) (h : Header) (number failed more place : ℕ) (left : Li
 same_step n h number failed more place left after (block b rest) some hard two are bytes e others =
     let r = step-block h more place left b rest bytes e in
     let B : List ℕ → Type 0 = λ xs. AreBytes xs in
-    let ok : AreBytes rest = bytes-behind (block_text b) rest (subst B r.left_is bytes) in
+    let ok : AreBytes rest = bytes-suffix (block_text b) rest (subst B r.left_is bytes) in
     let start = next_start place b in
     let x = (channel n).block h number b in
-    ap (λ (y : Handled). behind (part y b ∷ []) (body_answer (points n) h (number + 1) (failed + one_if y.failed) (after start rest))) (same_block n h number b some hard two are r.is)
-    ∙ ap (behind (part x b ∷ [])) (others (number + 1) (failed + one_if x.failed) start rest ok r.room)
+    ap (λ (y : Handled). preceded_by (part y b ∷ []) (body_answer (points n) h (number + 1) (failed + one_if y.failed) (after start rest))) (same_block n h number b some hard two are r.is)
+    ∙ ap (preceded_by (part x b ∷ [])) (others (number + 1) (failed + one_if x.failed) start rest ok r.room)
 same_step n h number failed more place left after ended some hard two are bytes e others = refl
 same_step n h number failed more place left after (refused r) some hard two are bytes e others = refl
 

@@ -8,7 +8,7 @@ use Rattle.coded_stream.specs.declared.kind.Want.TheVariants as want
 use Rattle.stream_loop.specs.Handling.{Handling}
 use Rattle.stream_loop.specs.SoftBytes.{bytes_of}
 use Rattle.command_relay.specs.HardBits.{bits_in}
-use Rattle.command_relay.specs.Relaying.{Relaying, relaying}
+use Rattle.command_relay.specs.Conversions.{Conversion, handling_of}
 
 -- how strong the sent bits are, the noise on them, and the seed that it comes from
 pub record Noise : Type 0 where
@@ -25,8 +25,8 @@ noisy_text n h block number m bytes =
 abbrev pub soft_header : Header → Header
 soft_header h = record h { kind = kind.Soft }
 
-abbrev pub sending_noisily : Noise → Relaying
-sending_noisily n = record { want = want.Hard; header = soft_header; sent = noisy_text n }
+abbrev pub noisy_conversion : Noise → Conversion
+noisy_conversion n = record { want = want.Hard; header = soft_header; made = noisy_text n }
 
 abbrev pub channel : Noise → Handling
-channel n = relaying (sending_noisily n)
+channel n = handling_of (noisy_conversion n)

@@ -1,4 +1,4 @@
-pub mod Relaying
+pub mod Conversions
 pub mod HardBits
 pub mod Channel
 pub mod Points

@@ -10,7 +10,7 @@ use Rattle.stream_loop.specs.Handling.{Handling}
 use Rattle.stream_loop.specs.SoftBytes.{bytes_of}
 use Rattle.command_relay.specs.Channel.{Noise, soft_header, transmission_of}
 use Rattle.command_relay.specs.HardBits.{bits_in}
-use Rattle.command_relay.specs.Relaying.{Relaying, relaying}
+use Rattle.command_relay.specs.Conversions.{Conversion, handling_of}
 
 -- the noise on a transmission's points, which are sent with Q_m bits each: a term for each coordinate
 abbrev pub terms_on : Noise → (block number : ℕ) → Match → List ℤ
@@ -21,13 +21,13 @@ abbrev pub received_text : Noise → Header → (block number : ℕ) → Match �
 received_text n h block number m bytes =
     bytes_of (received m.qm n.strength.amp (terms_on n block number m) (bits_in m bytes))
 
-abbrev pub sending_points : Noise → Relaying
-sending_points n = record { want = want.Hard; header = soft_header; sent = received_text n }
+abbrev pub point_conversion : Noise → Conversion
+point_conversion n = record { want = want.Hard; header = soft_header; made = received_text n }
 
 abbrev pub points : Noise → Handling
-points n = relaying (sending_points n)
+points n = handling_of (point_conversion n)
 
 -- each transmission of a stream that begins so is sent with two bits a point; none is where the header is refused
-abbrev pub SendsTwoBits : Opening → Type 0
-SendsTwoBits (opens h left) = All (λ s. s.m.qm ≡ 2) h.sends
-SendsTwoBits (refuses r) = Unit {0}
+abbrev pub HasTwoBitsAPoint : Opening → Type 0
+HasTwoBitsAPoint (opens h left) = All (λ s. s.m.qm ≡ 2) h.sends
+HasTwoBitsAPoint (refuses r) = Unit {0}

@@ -11,7 +11,7 @@ use Rattle.coded_stream.specs.declared.kind.Want.TheVariants as want
 use Rattle.stream_loop.specs.Handling.{Handling}
 use Rattle.stream_loop.specs.SoftBytes.{bytes_of, softs_of}
 use Rattle.command_relay.specs.HardBits.{bits_in}
-use Rattle.command_relay.specs.Relaying.{Relaying, relaying}
+use Rattle.command_relay.specs.Conversions.{Conversion, handling_of}
 
 -- the terminal's identity, the codeword, the slot of the first transmission, and the cell
 pub record Scrambling : Type 0 where
@@ -39,8 +39,8 @@ scrambled_text s h block number m bytes =
     turned_bytes h.kind (init_of s (length h.sends) block number) m bytes
 
 -- the header is that of the stream that is read
-abbrev pub sending_scrambled : Scrambling → Relaying
-sending_scrambled s = record { want = want.Any; header = λ h. h; sent = scrambled_text s }
+abbrev pub scrambled_conversion : Scrambling → Conversion
+scrambled_conversion s = record { want = want.Any; header = λ h. h; made = scrambled_text s }
 
 abbrev pub scrambling : Scrambling → Handling
-scrambling s = relaying (sending_scrambled s)
+scrambling s = handling_of (scrambled_conversion s)

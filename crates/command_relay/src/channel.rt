@@ -1,8 +1,8 @@
-//! What `channel` sends in place of a transmission.
+//! What `channel` makes of a transmission.
 ghost use Rattle.std.specs.Prelude.{◌≤◌};
 
 use crate::bits::bits_in;
-use crate::relay::{Transmitter, Turn};
+use crate::converter::{Converter, Place};
 use coded_stream::{Header, Kind, Want};
 use lte_bits::NoMemory;
 use rate_match::Match;
@@ -22,10 +22,10 @@ pub struct Channel {
     pub ghost few: { noise ≤ 127 },
 }
 
-impl Transmitter for Channel {
-    ghost use Rattle.command_relay.specs.Channel.{sending_noisily};
+impl Converter for Channel {
+    ghost use Rattle.command_relay.specs.Channel.{noisy_conversion};
 
-    ghost relaying = { λ s. sending_noisily (record {
+    ghost conversion = { λ s. noisy_conversion (record {
       strength = record { amp = s.amp; noise = s.noise };
       seed = s.seed;
     }) };
@@ -48,13 +48,13 @@ impl Transmitter for Channel {
         alloc: Global,
         text: &mut Vec<u8>,
         _header: &Header,
-        turn: Turn,
+        place: Place,
         m: &Match,
         bytes: &[u8],
     ) -> Result<(), NoMemory> {
         let bits = bits_in(alloc, m, bytes)?;
-        let block = turn.block as u32;
-        let number = turn.number as u8;
+        let block = place.block as u32;
+        let number = place.number as u8;
         let softs = noisy(
             alloc,
             bits.as_slice(),

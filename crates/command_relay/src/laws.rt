@@ -1,4 +1,4 @@
-//! Laws of relayed streams. Each function computes nothing: its contract is the law.
+//! Laws of converted streams. Each function computes nothing: its contract is the law.
 ghost use Rattle.std.specs.Prelude.{◌≡◌, ℕ, ◌<◌, List};
 ghost use Rattle.model_sender.specs.CircularBuffer.{Match};
 ghost use Rattle.rate_match.specs.Matching.{IsMatch};
@@ -10,14 +10,14 @@ ghost use Rattle.coded_stream.specs.declared.kind.Kind.TheVariants as kind;
 ghost use Rattle.coded_stream.specs.declared.kind.Want.TheVariants as want;
 ghost use Rattle.stream_loop.specs.Handling.{stream_answer};
 ghost use Rattle.command_relay.specs.Channel.{channel, Noise, noisy_text};
-ghost use Rattle.command_relay.specs.Points.{points, received_text, SendsTwoBits};
-ghost use Rattle.command_relay.specs.Relaying.{relayed};
+ghost use Rattle.command_relay.specs.Points.{points, received_text, HasTwoBitsAPoint};
+ghost use Rattle.command_relay.specs.Conversions.{converted};
 ghost use Rattle.command_relay.specs.Upgrade.{as_read};
 
 /// An upgraded stream has the very blocks that were read.
 pub fn an_upgrade_keeps_the_blocks()
     ensures { (h : Header) (number : ℕ) (b : Block) → IsBlock h b →
-        (relayed as_read h number b).text ≡ block_text b }
+        (converted as_read h number b).text ≡ block_text b }
 {}
 
 /// A transmission of two bits a point is sent by `points` just as by `channel`.
@@ -31,6 +31,6 @@ pub fn two_bits_a_point_are_sent_as_by_themselves()
 /// does.
 pub fn streams_of_two_bits_a_point_are_sent_as_by_themselves()
     ensures { (n : Noise) (input : List ℕ) → 0 < n.strength.amp → AreBytes input →
-        SendsTwoBits (opening want.Hard input) →
+        HasTwoBitsAPoint (opening want.Hard input) →
         stream_answer (points n) input ≡ stream_answer (channel n) input }
 {}

@@ -4,15 +4,15 @@
 
 mod bits;
 mod channel;
+mod converter;
 pub mod laws;
 mod points;
-mod receiving;
-mod relay;
+mod received_points;
 mod scramble;
 mod upgrade;
 
 pub use channel::Channel;
+pub use converter::{Converted, Converter, Place};
 pub use points::Points;
-pub use relay::{Relay, Transmitter, Turn};
 pub use scramble::Scramble;
 pub use upgrade::Upgrade;

@@ -1,12 +1,12 @@
-//! What `points` sends in place of a transmission.
+//! What `points` makes of a transmission.
 ghost use Rattle.std.specs.Prelude.{◌≡◌, IfOk, length};
 ghost use Rattle.qam_points.specs.Reception.{received};
 ghost use Rattle.command_relay.specs.Points.{terms_on};
 
 use crate::bits::bits_in;
 use crate::channel::Channel;
-use crate::receiving::receive;
-use crate::relay::{Transmitter, Turn};
+use crate::converter::{Converter, Place};
+use crate::received_points::receive;
 use coded_stream::{Header, Want};
 use lte_bits::{Bit, List, NoMemory, Soft};
 use qam_points::{demap, map};
@@ -26,7 +26,7 @@ impl Points {
     fn softs(
         &self,
         alloc: Global,
-        turn: Turn,
+        place: Place,
         m: &Match,
         bits: &[Bit],
     ) -> Result<List<Soft>, NoMemory>
@@ -34,22 +34,22 @@ impl Points {
         ensures { IfOk result (λ softs. softs ≡ received m.now.qm self.now.channel.amp (terms_on (record {
           strength = record { amp = self.now.channel.amp; noise = self.now.channel.noise };
           seed = self.now.channel.seed;
-        }) turn.block turn.number m.now) bits.now) }
+        }) place.block place.number m.now) bits.now) }
     {
         let Channel { amp, noise, seed } = self.channel;
         let mut points = map(alloc, bits, m.qm())?;
         let count = 2 * points.as_slice().len();
-        let block = turn.block as u32;
-        let terms = noise_terms(alloc, count, noise, seed, block, turn.number as u8)?;
+        let block = place.block as u32;
+        let terms = noise_terms(alloc, count, noise, seed, block, place.number as u8)?;
         receive(points.as_mut_slice(), amp, terms.as_slice());
         demap(alloc, points.as_slice(), m.qm(), amp)
     }
 }
 
-impl Transmitter for Points {
-    ghost use Rattle.command_relay.specs.Points.{sending_points};
+impl Converter for Points {
+    ghost use Rattle.command_relay.specs.Points.{point_conversion};
 
-    ghost relaying = { λ s. sending_points (record {
+    ghost conversion = { λ s. point_conversion (record {
       strength = record { amp = s.channel.amp; noise = s.channel.noise };
       seed = s.channel.seed;
     }) };
@@ -67,12 +67,12 @@ impl Transmitter for Points {
         alloc: Global,
         text: &mut Vec<u8>,
         _header: &Header,
-        turn: Turn,
+        place: Place,
         m: &Match,
         bytes: &[u8],
     ) -> Result<(), NoMemory> {
         let bits = bits_in(alloc, m, bytes)?;
-        let softs = self.softs(alloc, turn, m, bits.as_slice())?;
+        let softs = self.softs(alloc, place, m, bits.as_slice())?;
         push_bytes(text, softs.as_slice())
     }
 }

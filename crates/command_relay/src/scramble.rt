@@ -1,9 +1,9 @@
-//! What `scramble` sends in place of a transmission.
+//! What `scramble` makes of a transmission.
 ghost use Rattle.std.specs.Prelude.{◌≡◌, ◌≤◌};
 ghost use Rattle.command_relay.specs.Scramble.{init_of};
 
 use crate::bits::bits_in;
-use crate::relay::{Transmitter, Turn};
+use crate::converter::{Converter, Place};
 use coded_stream::{Header, Kind, Want};
 use gold_scramble::{Init, scramble_bits, turn_softs};
 use lte_bits::{NoMemory, pack};
@@ -26,25 +26,25 @@ pub struct Scramble {
 
 impl Scramble {
     /// What the sequence of a transmission begins with, with `count` transmissions in each block.
-    fn init(&self, count: usize, turn: Turn) -> Init
+    fn init(&self, count: usize, place: Place) -> Init
         requires { count ≤ 8 }
         ensures { result ≡ init_of (record {
           rnti = self.now.rnti;
           q = self.now.q;
           slot = self.now.slot;
           cell = self.now.cell;
-        }) count turn.block turn.number }
+        }) count place.block place.number }
     {
-        let earlier = turn.block * count + turn.number;
+        let earlier = place.block * count + place.number;
         let slot = (usize::from(self.slot) + 2 * earlier) % 20;
         Init::new(self.rnti, self.q, slot as u8, self.cell).unwrap()
     }
 }
 
-impl Transmitter for Scramble {
-    ghost use Rattle.command_relay.specs.Scramble.{sending_scrambled};
+impl Converter for Scramble {
+    ghost use Rattle.command_relay.specs.Scramble.{scrambled_conversion};
 
-    ghost relaying = { λ s. sending_scrambled (record {
+    ghost conversion = { λ s. scrambled_conversion (record {
       rnti = s.rnti;
       q = s.q;
       slot = s.slot;
@@ -64,11 +64,11 @@ impl Transmitter for Scramble {
         alloc: Global,
         text: &mut Vec<u8>,
         header: &Header,
-        turn: Turn,
+        place: Place,
         m: &Match,
         bytes: &[u8],
     ) -> Result<(), NoMemory> {
-        let init = self.init(header.sends.len(), turn);
+        let init = self.init(header.sends.len(), place);
         match header.kind {
             Kind::Hard => {
                 let mut bits = bits_in(alloc, m, bytes)?;

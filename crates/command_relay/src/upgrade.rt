@@ -1,5 +1,5 @@
-//! What `upgrade` sends in place of a transmission.
-use crate::relay::{Transmitter, Turn};
+//! What `upgrade` makes of a transmission.
+use crate::converter::{Converter, Place};
 use coded_stream::{Header, Version, Want};
 use lte_bits::NoMemory;
 use rate_match::Match;
@@ -9,10 +9,10 @@ use std::alloc::Global;
 #[derive(Clone, Copy, Debug, Drop)]
 pub struct Upgrade;
 
-impl Transmitter for Upgrade {
+impl Converter for Upgrade {
     ghost use Rattle.command_relay.specs.Upgrade.{as_read};
 
-    ghost relaying = { λ _. as_read };
+    ghost conversion = { λ _. as_read };
 
     fn want(&self) -> Want {
         Want::Any
@@ -32,7 +32,7 @@ impl Transmitter for Upgrade {
         _alloc: Global,
         text: &mut Vec<u8>,
         _header: &Header,
-        _turn: Turn,
+        _place: Place,
         _m: &Match,
         bytes: &[u8],
     ) -> Result<(), NoMemory> {

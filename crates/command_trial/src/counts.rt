@@ -4,8 +4,8 @@ ghost use Rattle.command_trial.specs.Trials.{added, counts_of, none_counted, Are
 
 use model_receiver::TbOutcome;
 
-/// How many blocks were delivered, how many of them with the bytes that were sent, how many failed, and the sums
-/// of their transmissions and iterations.
+/// How many blocks were delivered, how many of them with the bytes that were sent, how many failed, and the
+/// sums of their transmissions and iterations.
 #[derive(Clone, Copy, Debug)]
 pub struct Counts {
     pub delivered: usize,

@@ -3,8 +3,8 @@
 
 mod block;
 mod counts;
-mod running;
 mod trial;
+mod whole_trial;
 
-pub use running::run_trial;
 pub use trial::Trial;
+pub use whole_trial::run_trial;

@@ -1,5 +1,6 @@
 //! What a trial is.
 ghost use Rattle.std.specs.Prelude.{◌≡◌, ◌≤◌, true};
+ghost use Rattle.segmentation.specs.declared.planning.TheConstants.{MOST_BYTES};
 ghost use Rattle.rate_match.specs.Sendings.{AreSendings, common};
 ghost use Rattle.rate_match.specs.Fitting.{fits_all};
 
@@ -20,7 +21,7 @@ pub struct Trial {
     pub effort: Effort,
     pub ghost few_blocks: { blocks ≤ 4096 },
     pub ghost some: { 1 ≤ tb },
-    pub ghost few: { tb ≤ 18722 },
+    pub ghost few: { tb ≤ MOST_BYTES },
     pub ghost sent: { AreSendings sends },
     pub ghost fits: { fits_all (common sends).limit tb ≡ true },
     pub ghost some_amp: { 1 ≤ amp },

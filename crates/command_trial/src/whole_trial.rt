@@ -51,8 +51,8 @@ fn summed(alloc: Global, trial: &Trial) -> Result<(Vec<u8>, bool), NoMemory>
     Ok((line, sums.failed > 0))
 }
 
-/// Runs a trial, and writes its line to the report: `Done`, or `SomeFailed` where a block failed. Nothing is read,
-/// and nothing goes to `out`.
+/// Runs a trial, and writes its line to the report: `Done`, or `SomeFailed` where a block failed. Nothing is
+/// read, and nothing goes to `out`.
 pub fn run_trial<R: Sink>(alloc: Global, trial: &Trial, report: &mut R) -> Status
     ensures { (left out : Option (List ℕ)) (reads outs : ℕ) → Ends (λ _. trial_reply (trial_of trial.now))
         (told left out (R.held report.old) reads outs (R.faults report.old))

@@ -2,7 +2,7 @@
 use Rattle.std.proofs.Common.{◌≡◌, ℕ, List, [], sym, ap, subst}
 use Rattle.std.specs.declared.option.Option.{Option}
 use Rattle.edge_io.proofs.Known.{takes_none}
-use Rattle.run_loop.specs.Answer.{Answer, behind, size_of}
+use Rattle.run_loop.specs.Answer.{Answer, preceded_by, size_of}
 use Rattle.run_loop.specs.Step.{Gives, Stops, parts_of}
 use Rattle.run_loop.specs.declared.work.Part.{Part}
 use Rattle.run_loop.specs.declared.work.Round.{Round}
@@ -14,7 +14,7 @@ gives_alone a after old new round stop none is at =
     let P : Stop → Type 0 = λ k. Stops a after old new k in (
       a,
       old,
-      sym (ap (λ (parts : List Part). behind (parts_of parts) a) none),
+      sym (ap (λ (parts : List Part). preceded_by (parts_of parts) a) none),
       ([], takes_none old, sym (ap (λ (parts : List Part). size_of (parts_of parts)) none)),
       subst P (sym is) at,
     )

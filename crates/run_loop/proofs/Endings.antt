@@ -5,7 +5,7 @@ use Rattle.std.specs.declared.option.Option.{Option}
 use Rattle.std.specs.Global.{Vec}
 use Rattle.edge_io.specs.Edge.{Adds}
 use Rattle.edge_io.proofs.Known.{takes_then, adds_then}
-use Rattle.run_loop.specs.Answer.{Part, Answer, behind, texts, lines, size_of}
+use Rattle.run_loop.specs.Answer.{Part, Answer, preceded_by, texts, lines, size_of}
 use Rattle.run_loop.specs.Due.{Stopped}
 use Rattle.run_loop.specs.Edges.{Edges, IsLater}
 use Rattle.run_loop.specs.Ended.{Ended, IsWhole, Stands}
@@ -33,7 +33,7 @@ wrote whole answer after old mid new round shown r s is putting =
     let had = r.stands.took in
     let more = s.3 in
     record {
-      split = r.stands.split ∙ ap (behind r.front) s.2 ∙ ap (λ (ps : List Part). record s.0 { parts = ps }) (sym (append_assoc r.front parts s.0.parts));
+      split = r.stands.split ∙ ap (preceded_by r.front) s.2 ∙ ap (λ (ps : List Part). record s.0 { parts = ps }) (sym (append_assoc r.front parts s.0.parts));
       took = (
         had.0 ++ more.0,
         takes_then old.left mid.left s.1 had.0 more.0 had.1 more.1,
@@ -102,7 +102,8 @@ closed_whole whole b front mid old between new closing last w none is_closing is
     subst P (sym w.split) (all.0, all.1, at_end)
 
 -- how it ends then
-pub closed_done : (whole b : Answer) (after : List ℕ → Answer) (front : List Part) (mid : Option (List ℕ)) (old between new : Edges) (stop : Stop) (closing last : Vec ℕ) (fails : Bool) (text line : List ℕ) →
+pub closed_done : (whole b : Answer) (after : List ℕ → Answer) (front : List Part) (mid : Option (List ℕ)) (old between new : Edges) (stop : Stop) (closing last : Vec ℕ) (fails : Bool)
+    (text line : List ℕ) →
     Stands whole front b mid old between → stop ≡ End closing last fails → Stops b after mid new.left stop → text ≡ closing.items → line ≡ last.items →
     Puts {T = Unit {0}} between.out new.out between.report new.report text line (Ok tt) →
     (whole.ending ≡ ending_of fails) × IsWhole whole old new
@@ -136,7 +137,8 @@ unclosed_at whole b front mid old between new closing last Report w none is_clos
       at.1,
     )
 
-pub unclosed : (whole b : Answer) (after : List ℕ → Answer) (front : List Part) (mid : Option (List ℕ)) (old between new : Edges) (stop : Stop) (closing last : Vec ℕ) (fails : Bool) (text line : List ℕ) (sink : SinkName) →
+pub unclosed : (whole b : Answer) (after : List ℕ → Answer) (front : List Part) (mid : Option (List ℕ)) (old between new : Edges) (stop : Stop) (closing last : Vec ℕ) (fails : Bool)
+    (text line : List ℕ) (sink : SinkName) →
     Stands whole front b mid old between → stop ≡ End closing last fails → Stops b after mid new.left stop → text ≡ closing.items → line ≡ last.items →
     Puts {T = Unit {0}} between.out new.out between.report new.report text line (Err sink) →
     Ended whole old new (status.WriteFault sink)
@@ -158,7 +160,7 @@ blocked_at whole answer after old mid new left round Out r s (f, aft, p, n, e, a
     let P : Answer → Type 0 = λ a. Ended a old new (status.WriteFault Out) in
     let Q : List ℕ → Type 0 = λ t. Adds old.out new.out (t ++ take n p.text) in
     let R : List ℕ → Type 0 = λ t. Adds old.report new.report t in
-    subst P (sym (r.stands.split ∙ ap (behind r.front) s.2)) (
+    subst P (sym (r.stands.split ∙ ap (preceded_by r.front) s.2)) (
       r.front ++ f,
       p ∷ (aft ++ s.0.parts),
       n,
@@ -172,7 +174,7 @@ blocked_at whole answer after old mid new left round Report r s (f, aft, p, n, e
     let P : Answer → Type 0 = λ a. Ended a old new (status.WriteFault Report) in
     let Q : List ℕ → Type 0 = λ t. Adds old.out new.out (t ++ p.text) in
     let R : List ℕ → Type 0 = λ t. Adds old.report new.report (t ++ take n p.line) in
-    subst P (sym (r.stands.split ∙ ap (behind r.front) s.2)) (
+    subst P (sym (r.stands.split ∙ ap (preceded_by r.front) s.2)) (
       r.front ++ f,
       p ∷ (aft ++ s.0.parts),
       n,

@@ -3,7 +3,7 @@ use Rattle.std.proofs.Common.{◌≡◌, ℕ, ◌<◌, List, [], ◌∷◌, ◌+
 use Rattle.std.proofs.lemmas.List.{append-nil}
 use Rattle.std.specs.declared.option.Option.{Option}
 use Rattle.edge_io.specs.Edge.{Adds, Takes}
-use Rattle.run_loop.specs.Answer.{Answer, behind, heading}
+use Rattle.run_loop.specs.Answer.{Answer, preceded_by, heading}
 use Rattle.run_loop.specs.Edges.{Edges}
 use Rattle.run_loop.specs.Ended.{Ended}
 use Rattle.run_loop.specs.Step.{Reached}
@@ -11,7 +11,7 @@ use Rattle.run_loop.specs.declared.status.SinkName.TheVariants.{Out}
 use Rattle.run_loop.specs.declared.status.Status.TheVariants as status
 
 pub opened : (a : Answer) (after : List ℕ → Answer) (text bytes rest : List ℕ) (old new : Edges) → old.left ≡ Some (bytes ++ rest) → new.left ≡ Some rest →
-    a ≡ behind (heading text (length bytes) ∷ []) (after rest) → Adds old.out new.out text → Adds old.report new.report [] → Reached a after old new
+    a ≡ preceded_by (heading text (length bytes) ∷ []) (after rest) → Adds old.out new.out text → Adds old.report new.report [] → Reached a after old new
 opened a after text bytes rest old new old_is new_is split wrote none =
     let T : Option (List ℕ) → Type 0 = λ o. Takes old.left o bytes in
     record {
@@ -28,7 +28,7 @@ opened a after text bytes rest old new old_is new_is split wrote none =
     }
 
 -- what it begins with couldn't be written
-pub unwritten : (a b : Answer) (text : List ℕ) (size n : ℕ) (old new : Edges) → a ≡ behind (heading text size ∷ []) b → 0 < length text →
+pub unwritten : (a b : Answer) (text : List ℕ) (size n : ℕ) (old new : Edges) → a ≡ preceded_by (heading text size ∷ []) b → 0 < length text →
     Adds old.out new.out (take n text) → Adds old.report new.report [] → Ended a old new (status.WriteFault Out)
 unwritten a b text size n old new split some wrote none =
     let A : Answer → Type 0 = λ x. Ended x old new (status.WriteFault Out) in

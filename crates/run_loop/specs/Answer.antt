@@ -42,8 +42,8 @@ abbrev pub size_of : List Part → ℕ
 size_of parts = sum_by (λ p. p.size) parts
 
 -- these parts, and then what the rest answers
-abbrev pub behind : List Part → Answer → Answer
-behind front a = record a { parts = front ++ a.parts }
+abbrev pub preceded_by : List Part → Answer → Answer
+preceded_by parts a = record a { parts = parts ++ a.parts }
 
 -- what `out` begins with, after a header of so many bytes (0: none)
 abbrev pub heading : (text : List ℕ) → (size : ℕ) → Part

@@ -32,7 +32,7 @@ pub record AddsLine (old new : Option (List ℕ)) (line : List ℕ) (before now 
   pub front : (n : ℕ) × Adds old new (take n line)
   pub whole : (Rose before now → ⊥) → Adds old new line
 
--- what stands when a run ends: what the command left, and then the fault line
+-- what is there when a run ends: what the command left, and then the fault line
 pub record Finished (reply : Reply) (old new : Edges) (status : Status) : Type 0 where
   pub mid : Edges
   pub ended : EndsReply reply old mid status

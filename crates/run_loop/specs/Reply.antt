@@ -26,7 +26,7 @@ AddsLast line ending old new (status.WriteFault Report) = (n : ℕ) × Adds old.
 AddsLast line ending old new status.NoMemory = new.report ≡ old.report
 AddsLast line ending old new _ = ⊥
 
--- what stands at each ending of a command
+-- what is written at each ending of a command
 abbrev pub EndsReply : Reply → Edges → Edges → Status → Type 0
 EndsReply (reading a) old new status = Ended a old new status
 EndsReply (unread line ending) old new status = (new.left ≡ old.left) × (new.out ≡ old.out)

@@ -4,7 +4,7 @@ use Rattle.std.specs.declared.option.Option.{Option}
 use Rattle.std.specs.declared.result.Result.{Result}
 use Rattle.edge_io.specs.Edge.{Rose}
 use Rattle.run_loop.specs.Answer as answer
-use Rattle.run_loop.specs.Answer.{Answer, Ending, finished, some_failed, behind, size_of}
+use Rattle.run_loop.specs.Answer.{Answer, Ending, finished, some_failed, preceded_by, size_of}
 use Rattle.run_loop.specs.Due.{Stopped, TakesSome}
 use Rattle.run_loop.specs.Edges.{Edges, Causes, IsLater}
 use Rattle.run_loop.specs.Ended.{Ended, Stands}
@@ -17,7 +17,7 @@ use Rattle.run_loop.specs.declared.work.Stop.TheVariants.{Go, End, Fails}
 
 -- ---- opening
 
--- Some parts stand, and `after` is still to come, for the input that is left.
+-- Some parts are written, and `after` is still to come, for the input that is left.
 pub record Reached (a : Answer) (after : List ℕ → Answer) (old new : Edges) : Type 0 where
   pub front : List answer.Part
   pub rest : List ℕ
@@ -25,7 +25,7 @@ pub record Reached (a : Answer) (after : List ℕ → Answer) (old new : Edges) 
   pub left : new.left ≡ Some rest
   pub stands : Stands a front (after rest) new.left old new
 
--- what `out` begins with stands, and then the work is still to do, or the run ended before
+-- what `out` begins with is written, and then the work is still to do, or the run ended before
 abbrev pub OpensTo : {W : Type 0} → Answer → (after : W → List ℕ → Answer) → Edges → Edges
     → Result W Status → Type 0
 OpensTo a after old new (Ok work) = Reached a (after work) old new
@@ -67,7 +67,7 @@ Stops b after mid new (Fails status) = Stopped b mid new status
 -- A round that began with the answer `a` still to come took the input of its parts, and then stopped.
 abbrev pub Gives : (a : Answer) → (after : List ℕ → Answer) → (old new : Option (List ℕ)) → Round → Type 0
 Gives a after old new round = (b : Answer) × (mid : Option (List ℕ))
-    × (a ≡ behind (parts_of round.parts.items) b)
+    × (a ≡ preceded_by (parts_of round.parts.items) b)
     × TakesSome old mid (λ n. n ≡ size_of (parts_of round.parts.items))
     × Stops b after mid new round.stop
 

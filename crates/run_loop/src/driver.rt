@@ -27,7 +27,7 @@ fn done(failed: bool) -> Status
 /// It ends `Done`, or `SomeFailed` where the work says so, with the whole answer written;
 /// `BadStream` after the blocks before the refused byte; `ReadFault`, `WriteFault` or `NoMemory`
 /// after those that were finished. After a failed write, a prefix of the text or line that was
-/// being written stands.
+/// being written is there.
 pub fn drive<O: Open, S: Source, D: Sink, R: Sink>(
     alloc: Global,
     command: O,

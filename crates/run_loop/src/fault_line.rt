@@ -34,7 +34,7 @@ fn write_place<R: Sink>(report: &mut R, text: &[u8], number: u8, place: u64)
 }
 
 /// Appends the line that tells how a run ended, where it isn't done and the report didn't fail.
-/// Where a write of it fails, a prefix of the line stands.
+/// Where a write of it fails, a prefix of the line is there.
 pub fn write_fault_line<R: Sink>(report: &mut R, status: Status)
     ensures told { AddsLine (R.held report.old) (R.held report.new) (fault_line status)
         (R.faults report.old) (R.faults report.new) }

@@ -27,7 +27,7 @@ pub enum Status {
     ReadFault,
     /// A sink failed.
     WriteFault { sink: SinkName },
-    /// Memory was wanting.
+    /// Memory ran out.
     NoMemory,
 }
 

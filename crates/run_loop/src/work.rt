@@ -74,7 +74,7 @@ pub trait Work: Drop {
     ghost budget: { Self → ℕ };
 
     /// Reads the input of the next blocks and computes them. All memory that the ending needs is
-    /// had before its bytes are read. An `Err` says how the run ends where the round has no part:
+    /// allocated before its bytes are read. An `Err` says how the run ends where the round has no part:
     /// the input is refused at a byte, the source failed, or memory ran out.
     fn round<S: Source>(&mut self, alloc: Global, source: &mut S) -> Result<Round, Status>
         requires { ready self.old }
@@ -83,7 +83,8 @@ pub trait Work: Drop {
         ensures ready { IfOk result (λ round. round.stop ≡ Stop.Go → ready self.new) }
         ensures fewer { IfOk result (λ round. Fewer (budget self.old) (budget self.new) round.stop) }
         ensures later { S.faults source.old ≤ S.faults source.new }
-        ensures stops { IfOk result (λ round. StopsBy (S.faults source.old) (S.faults source.new) round.stop) }
+        ensures stops { IfOk result
+            (λ round. StopsBy (S.faults source.old) (S.faults source.new) round.stop) }
         ensures fails { IfErr result (FailsBy (S.faults source.old) (S.faults source.new)) };
 }
 
@@ -100,8 +101,8 @@ pub trait Open {
     // Whether it may be opened.
     ghost able: { Self → Type 0 } = { λ _. Unit {0} };
 
-    /// Reads a header, if the command has one, and writes what `out` begins with. It takes no
-    /// memory.
+    /// Reads a header, if the command has one, and writes what `out` begins with. It allocates
+    /// nothing.
     fn open<S: Source, D: Sink>(
         self,
         alloc: Global,
@@ -110,8 +111,10 @@ pub trait Open {
     ) -> Result<Self::Rounds, Status>
         requires { able self }
         ensures opens { (report : Option (List ℕ)) (reports : ℕ) → Opens (answer self) Self.Rounds.answer
-            (told (S.left source.old) (D.held out.old) report (S.faults source.old) (D.faults out.old) reports)
-            (told (S.left source.new) (D.held out.new) report (S.faults source.new) (D.faults out.new) reports)
+            (told (S.left source.old) (D.held out.old) report
+            (S.faults source.old) (D.faults out.old) reports)
+            (told (S.left source.new) (D.held out.new) report
+            (S.faults source.new) (D.faults out.new) reports)
             result }
         ensures ready { IfOk result Self.Rounds.ready };
 }

@@ -11,7 +11,7 @@ use Rattle.coded_stream.specs.Steps.{Reading, Begins, IsBegun, opening_due}
 use Rattle.coded_stream.specs.declared.kind.Want.{Want}
 use Rattle.coded_stream.specs.declared.stop.StreamStop.{StreamStop}
 use Rattle.coded_stream.specs.declared.stop.StreamStop.TheVariants as reader
-use Rattle.run_loop.specs.Answer.{Part, behind, heading, refusal}
+use Rattle.run_loop.specs.Answer.{Part, preceded_by, heading, refusal}
 use Rattle.run_loop.specs.Due.{Stopped}
 use Rattle.run_loop.specs.Edges.{Edges, Causes}
 use Rattle.run_loop.specs.Ended.{Ended}
@@ -32,14 +32,14 @@ causes_of before now reader.NoMemory rose = tt
 
 -- what the stream says of an input whose header was read
 says_of : (w : Handling) (want : Want) (r : Reading) (input rest : List ℕ) → want ≡ w.want → opening want input ≡ opens r.header rest → IsBegun want r →
-    stream_answer w input ≡ behind (head_of w r.header ∷ []) (answer_ahead w r 0 rest)
+    stream_answer w input ≡ preceded_by (head_of w r.header ∷ []) (answer_ahead w r 0 rest)
 unfolding stream_answer
 says_of w want r input rest wanted says begun =
     let h = r.header in
     let P : List Part = head_of w h ∷ [] in
     ap (opening_answer w) (ap (λ (v : Want). opening v input) (sym wanted) ∙ says)
-    ∙ ap (λ (p : ℕ). behind P (body_answer w h 0 0 (body h most_blocks p rest))) (sym begun.place)
-    ∙ ap (λ (n : ℕ). behind P (body_answer w h n 0 (body h (most_blocks - n) r.place rest))) (sym begun.blocks)
+    ∙ ap (λ (p : ℕ). preceded_by P (body_answer w h 0 0 (body h most_blocks p rest))) (sym begun.place)
+    ∙ ap (λ (n : ℕ). preceded_by P (body_answer w h n 0 (body h (most_blocks - n) r.place rest))) (sym begun.blocks)
 
 -- the header was accepted, and `out` begins as it should
 pub opened_stream : (w : Handling) (want : Want) (r : Reading) (input : List ℕ) (old new : Edges) → want ≡ w.want → Begins (opening want input) old.left new.left (Ok r) → IsBegun want r →
@@ -47,7 +47,7 @@ pub opened_stream : (w : Handling) (want : Want) (r : Reading) (input : List ℕ
 opened_stream w want r input old new wanted (bytes, rest, old_is, new_is, size, says) begun wrote none =
     let text = opening_text (w.header r.header) in
     opened (stream_answer w input) (answer_ahead w r 0) text bytes rest old new old_is new_is
-    (says_of w want r input rest wanted says begun ∙ ap (λ (n : ℕ). behind (heading text n ∷ []) (answer_ahead w r 0 rest)) (sym (size ∙ begun.place)))
+    (says_of w want r input rest wanted says begun ∙ ap (λ (n : ℕ). preceded_by (heading text n ∷ []) (answer_ahead w r 0 rest)) (sym (size ∙ begun.place)))
     wrote none
 
 -- and where it couldn't be written

@@ -9,7 +9,7 @@ use Rattle.coded_stream.specs.Body.{Body, onto, no_more, whole, next_start}
 use Rattle.coded_stream.specs.Steps.{Reading, remaining, GoesOn, Advances}
 use Rattle.coded_stream.specs.declared.stop.StreamStop.{StreamStop}
 use Rattle.coded_stream.specs.declared.stop.StreamStop.TheVariants as reader
-use Rattle.run_loop.specs.Answer.{Part, Answer, behind, size_of}
+use Rattle.run_loop.specs.Answer.{Part, Answer, preceded_by, size_of}
 use Rattle.run_loop.specs.Due.{IsWithin, Stopped}
 use Rattle.run_loop.specs.Step.{Gives, Stops, ending_of}
 use Rattle.run_loop.specs.declared.work.Round.{Round}
@@ -51,7 +51,7 @@ block_read r r' input into n old new on moved =
 -- the answer begins with the block's part
 answered : (w : Handling) (r : Reading) (failed : ℕ) (input : List ℕ) (b : Block) (old new : Option (List ℕ)) → (read : ReadBlock r input b old new) →
     answer_ahead w r failed input
-    ≡ behind (part (w.block r.header r.blocks b) b ∷ []) (answer_ahead w (past r b) (failed + one_if (w.block r.header r.blocks b).failed) read.left)
+    ≡ preceded_by (part (w.block r.header r.blocks b) b ∷ []) (answer_ahead w (past r b) (failed + one_if (w.block r.header r.blocks b).failed) read.left)
 answered w r failed input b old new read = ap (body_answer w r.header r.blocks failed) read.says
 
 -- the block was made, and more is to come
@@ -72,7 +72,7 @@ gives_block w r r' failed failed' input into n old new round fails on moved made
     let P : Stop → Type 0 = λ stop. Stops more (answer_ahead w r' failed') new new stop in (
       more,
       new,
-      answered w r failed input b old new read ∙ ap (λ (ps : List Part). behind ps more) (sym made.0.0),
+      answered w r failed input b old new read ∙ ap (λ (ps : List Part). preceded_by ps more) (sym made.0.0),
       (read.bytes, taken old new read.bytes read.left read.old_is read.new_is, one ∙ sym (ap size_of made.0.0)),
       subst P (sym made.0.1) (read.left, read.new_is, read.new_is, same),
     )
@@ -89,7 +89,7 @@ stopped_starved w r r' failed input into n old new on moved =
       read.bytes,
       taken old new read.bytes read.left read.old_is read.new_is,
       subst P (sym (answered w r failed input b old new read))
-          (within_next (behind (part (w.block r.header r.blocks b) b ∷ []) more) (length read.bytes) (one_ahead w (past r b) _ read.left) (omega (arith, read.size)) (λ no. cc)),
+          (within_next (preceded_by (part (w.block r.header r.blocks b) b ∷ []) more) (length read.bytes) (one_ahead w (past r b) _ read.left) (omega (arith, read.size)) (λ no. cc)),
     )
 
 -- ---- no block

@@ -9,7 +9,7 @@ use Rattle.coded_stream.specs.Body as stream
 use Rattle.coded_stream.specs.Stream.{most_blocks}
 use Rattle.coded_stream.specs.Text.{end_word}
 use Rattle.coded_stream.specs.declared.kind.Want.{Want}
-use Rattle.run_loop.specs.Answer.{Part, Answer, behind, heading, refusal, closed}
+use Rattle.run_loop.specs.Answer.{Part, Answer, preceded_by, heading, refusal, closed}
 use Rattle.run_loop.specs.Step.{ending_of}
 
 -- what a block adds to `out` and to the report, and whether it failed
@@ -49,7 +49,7 @@ blocks_answer w h number failed [] whole =
 blocks_answer w h number failed [] (bad r) = refusal r.number r.place r.size r.due
 blocks_answer w h number failed (b ∷ blocks) ending =
     let x = w.block h number b in
-    behind (part x b ∷ []) (blocks_answer w h (number + 1) (failed + one_if x.failed) blocks ending)
+    preceded_by (part x b ∷ []) (blocks_answer w h (number + 1) (failed + one_if x.failed) blocks ending)
 
 abbrev pub body_answer : Handling → Header → (number failed : ℕ) → Body → Answer
 body_answer w h number failed rest = blocks_answer w h number failed rest.blocks rest.ending
@@ -65,7 +65,7 @@ opening_text (Some h) = header_text h
 abbrev pub opening_answer : Handling → Opening → Answer
 opening_answer w (opens h left) =
     let size = length (header_text h) in
-    behind (heading (opening_text (w.header h)) size ∷ []) (body_answer w h 0 0 (body h most_blocks size left))
+    preceded_by (heading (opening_text (w.header h)) size ∷ []) (body_answer w h 0 0 (body h most_blocks size left))
 opening_answer w (refuses r) = refusal r.number r.place r.size r.due
 
 unfoldable pub stream_answer : Handling → (input : List ℕ) → Answer

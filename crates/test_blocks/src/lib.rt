@@ -1,7 +1,10 @@
 //! Code blocks of chosen bits, for tests: what is sent of one, whether its check holds or not.
 #![tactic(auto)]
 
+mod outcomes;
+
 use lte_bits::{Bit, Block, List, NoMemory, Soft, unpack};
+pub use outcomes::told;
 use qpp_table::qpp;
 use rate_match::{Buffer, Match, fits_plan, select};
 use segmentation::{fill, plan, size};
@@ -9,13 +12,21 @@ use std::alloc::Global;
 use std::test::Fail;
 use turbo_encode::encode;
 
-/// Zeros, a one after them, and the bits of these bytes behind it.
-pub fn zeros_and_one(alloc: Global, zeros: usize, behind: &[u8]) -> Result<Vec<Bit>, NoMemory> {
+/// Zeros, a one after them, and then the bits of these bytes.
+pub fn zeros_and_one(alloc: Global, zeros: usize, after: &[u8]) -> Result<Vec<Bit>, NoMemory> {
     let mut bits = Vec::new(alloc);
     bits.resize(zeros, Bit::Zero)?;
     bits.push(Bit::One)?;
-    bits.extend_from_slice(unpack(alloc, behind)?.as_slice())?;
+    bits.extend_from_slice(unpack(alloc, after)?.as_slice())?;
     Ok(bits)
+}
+
+/// Appends so many equal values.
+pub fn push_equal(values: &mut Vec<Soft>, count: usize, value: i8) -> Result<(), NoMemory> {
+    for _ in 0..count {
+        values.push(Soft::from_i8(value))?;
+    }
+    Ok(())
 }
 
 /// What redundancy version 0 sends, with Q_m = 2 and over a full buffer, of code block `r` of a payload of so

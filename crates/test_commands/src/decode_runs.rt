@@ -63,8 +63,9 @@ fn failed_blocks_add_a_line_alone(rt: HostRuntime) -> Result<(), Fail> {
         rt.alloc(),
         &[&SOFT, &LENGTH_2, &values, &LENGTH_2, &[100; 132], &END],
     )?;
-    let report =
-        "block 0 failed transmissions 1 iterations 3\nblock 1 delivered bytes 2 transmissions 1 iterations 1\nend blocks 2 delivered 1 failed 1\n";
+    let report = "block 0 failed transmissions 1 iterations 3\n\
+                  block 1 delivered bytes 2 transmissions 1 iterations 1\n\
+                  end blocks 2 delivered 1 failed 1\n";
     let failed = (Status::SomeFailed, [0u8, 0].as_slice(), report);
     expect_run(rt.alloc(), "decode limit=3", &input, failed)
 }

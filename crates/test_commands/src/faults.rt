@@ -1,4 +1,4 @@
-//! Each read and each write of a run failing in turn: what stands then is a part of what the run
+//! Each read and each write of a run failing in turn: what is written then is a part of what the run
 //! without a fault wrote.
 use std::process::Abort;
 use std::test::Fail;

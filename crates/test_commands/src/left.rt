@@ -1,10 +1,10 @@
-//! What runs leave of their input: nothing once they are done, what stands behind a refused unit, and all of
+//! What runs leave of their input: nothing once they are done, what comes after a refused unit, and all of
 //! it where nothing is to be read.
 use std::test::Fail;
 use test_runs::{END, LENGTH_2, SOFT, joined, run_of, sound};
 
 #[test]
-fn no_byte_behind_a_refused_unit_is_taken(rt: HostRuntime) -> Result<(), Fail> {
+fn no_byte_after_a_refused_unit_is_taken(rt: HostRuntime) -> Result<(), Fail> {
     let stream = joined(rt.alloc(), &[&SOFT, &LENGTH_2, &[0; 132], &END])?;
     let longer = joined(rt.alloc(), &[&stream, &[0; 5]])?;
     let mut too_long = stream.clone()?;

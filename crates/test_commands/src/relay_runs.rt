@@ -66,7 +66,7 @@ fn second_headers_are_refused_at_their_byte(rt: HostRuntime) -> Result<(), Fail>
 }
 
 #[test]
-fn a_one_in_an_unused_bit_is_refused_behind_the_header(rt: HostRuntime) -> Result<(), Fail> {
+fn a_one_in_an_unused_bit_is_refused_after_the_header(rt: HostRuntime) -> Result<(), Fail> {
     let mut sent = [0; 17];
     sent[16] = 1;
     let input = joined(rt.alloc(), &[&HARD, &LENGTH_2, &sent, &END])?;

@@ -51,7 +51,8 @@ fn wide(values: [i8; 8]) -> [i16; 8] {
     numbers
 }
 
-/// Decodes N windows from known to unknown borders, of which one is the mixed window, and the others have zeros.
+/// Decodes N windows from known to unknown borders, of which one is the mixed window, and the others have
+/// zeros.
 fn decode_lane<const N: usize>(rt: &impl Abort, alloc: Global, lane: usize) -> Result<(), NoMemory>
     requires { IsLaneCount N }
 {

@@ -9,15 +9,7 @@ use segmentation::plans::Plan;
 use std::alloc::Global;
 use std::process::Abort;
 use std::test::Fail;
-use test_blocks::{sent_of_block, zeros_and_one};
-
-/// Appends so many equal values.
-fn push_equal(values: &mut Vec<Soft>, count: usize, value: i8) -> Result<(), NoMemory> {
-    for _ in 0..count {
-        values.push(Soft::from_i8(value))?;
-    }
-    Ok(())
-}
+use test_blocks::{push_equal, sent_of_block, told, zeros_and_one};
 
 /// Receives one transmission of redundancy version 0.
 fn receive_once(
@@ -49,31 +41,6 @@ fn receive_twice(
     receive_alone(alloc, plan, &sends, 8, 3, softs)
 }
 
-/// How many bytes were delivered, all 0, with how many transmissions and iterations.
-fn zeros_delivered(outcome: &TbOutcome) -> Option<(usize, usize, usize)> {
-    match outcome {
-        TbOutcome::Delivered {
-            bytes,
-            transmissions,
-            iterations,
-        } if bytes.as_slice().iter().all(|byte| *byte == 0) => {
-            Some((bytes.as_slice().len(), *transmissions, *iterations))
-        }
-        _ => None,
-    }
-}
-
-/// With how many transmissions and iterations a block failed.
-fn failed(outcome: &TbOutcome) -> Option<(usize, usize)> {
-    match outcome {
-        TbOutcome::Failed {
-            transmissions,
-            iterations,
-        } => Some((*transmissions, *iterations)),
-        TbOutcome::Delivered { .. } => None,
-    }
-}
-
 #[test]
 fn soft_zeros_deliver_zeros(rt: HostRuntime) -> Result<(), Fail> {
     let plan = plan(2).ok().ok_or("it has a plan")?;
@@ -82,7 +49,7 @@ fn soft_zeros_deliver_zeros(rt: HostRuntime) -> Result<(), Fail> {
         .ok_or("it is a matching")?;
     let softs = vec![in rt.alloc(); Soft::ZERO; 132]?;
     let outcome = receive_once(&rt, rt.alloc(), &plan, m, softs.as_slice())?;
-    assert_eq!(rt; zeros_delivered(&outcome), Some((2, 1, 1)));
+    assert_eq!(rt; told(&outcome), (2, 1, 1));
     Ok(())
 }
 
@@ -95,10 +62,10 @@ fn a_second_transmission_outweighs_the_first(rt: HostRuntime) -> Result<(), Fail
     let bits = zeros_and_one(rt.alloc(), 39, &[])?;
     let mut softs = sent_of_block(rt.alloc(), 2, 132, 0, bits)?;
     let outcome = receive_once(&rt, rt.alloc(), &plan, m, softs.as_slice())?;
-    assert_eq!(rt; failed(&outcome), Some((1, 3)));
+    assert_eq!(rt; told(&outcome), (0, 1, 3));
     push_equal(&mut softs, 132, 100)?;
     let outcome = receive_twice(&rt, rt.alloc(), &plan, m, 2, softs.as_slice())?;
-    assert_eq!(rt; zeros_delivered(&outcome), Some((2, 2, 1)));
+    assert_eq!(rt; told(&outcome), (2, 2, 1));
     Ok(())
 }
 
@@ -115,11 +82,11 @@ fn a_block_that_passed_is_kept(rt: HostRuntime) -> Result<(), Fail> {
     let second = sent_of_block(rt.alloc(), 766, 18840, 1, bits)?;
     softs.extend_from_slice(&second)?;
     let outcome = receive_once(&rt, rt.alloc(), &plan, m, softs.as_slice())?;
-    assert_eq!(rt; failed(&outcome), Some((1, 4)));
+    assert_eq!(rt; told(&outcome), (0, 1, 4));
     push_equal(&mut softs, 9420, -127)?;
     push_equal(&mut softs, 9420, 100)?;
     let outcome = receive_twice(&rt, rt.alloc(), &plan, m, 0, softs.as_slice())?;
-    assert_eq!(rt; zeros_delivered(&outcome), Some((766, 2, 2)));
+    assert_eq!(rt; told(&outcome), (766, 2, 2));
     Ok(())
 }
 
@@ -137,9 +104,9 @@ fn none_is_kept_where_all_passed(rt: HostRuntime) -> Result<(), Fail> {
     let second = sent_of_block(rt.alloc(), 766, 18840, 1, bits)?;
     softs.extend_from_slice(&second)?;
     let outcome = receive_once(&rt, rt.alloc(), &plan, m, softs.as_slice())?;
-    assert_eq!(rt; failed(&outcome), Some((1, 2)));
+    assert_eq!(rt; told(&outcome), (0, 1, 2));
     push_equal(&mut softs, 18840, 100)?;
     let outcome = receive_twice(&rt, rt.alloc(), &plan, m, 0, softs.as_slice())?;
-    assert_eq!(rt; zeros_delivered(&outcome), Some((766, 2, 2)));
+    assert_eq!(rt; told(&outcome), (766, 2, 2));
     Ok(())
 }

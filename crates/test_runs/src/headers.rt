@@ -1,4 +1,4 @@
-//! Headers of streams, and the words behind them.
+//! Headers of streams, and the words after them.
 use std::alloc::{AllocError, Global};
 
 /// The header of version One of a hard stream of payloads of at most 2 bytes, with one transmission a block:

@@ -1,4 +1,4 @@
-//! The numbers of rate matching, transmissions, and what stands in the circular buffer.
+//! The numbers of rate matching, transmissions, and what is in the circular buffer.
 use qpp_table::qpp;
 use rate_match::{
     BadMatch, Buffer, Match, Sends, Spot, buffer_len, fits, fits_buffer, fits_plan, piece_len,

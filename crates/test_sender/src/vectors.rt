@@ -1,4 +1,4 @@
-//! Blocks and their streams, made by an independent library. The bits stand in bytes, the highest
+//! Blocks and their streams, made by an independent library. The bits are in bytes, the highest
 //! first; a stream's last byte has four.
 
 pub const BITS_40: [u8; 5] = [0xB5, 0xA7, 0x2E, 0xAF, 0x35];

@@ -1,4 +1,4 @@
--- The four shares of 40 cells: ten each, and where these stand.
+-- The four shares of 40 cells: ten each, and where these are.
 use Rattle.std.proofs.Common.{◌≡◌, ℕ, ◌+◌, ◌*◌, ◌<◌, List, length, get_or, sym, ap, ◌∙◌, arith}
 use Rattle.cell_shares.specs.Orders.{place_in}
 use Rattle.cell_shares.specs.declared.order.Order.{Order}

@@ -1,39 +1,10 @@
 //! Transport blocks of several code blocks, received by several threads.
-use block_receive::{TbOutcome, receive_shared};
-use lte_bits::{NoMemory, Soft};
+use block_receive::receive_shared;
 use rate_match::{Buffer, Match, Sends, fits_plan};
 use segmentation::plan;
 use std::test::Fail;
-use test_blocks::{sent_of_block, zeros_and_one};
+use test_blocks::{push_equal, sent_of_block, told, zeros_and_one};
 use window_workers::NoGate;
-
-/// How many bytes an outcome delivers, all 0, and its transmissions and iterations.
-fn told(outcome: &TbOutcome) -> (usize, usize, usize) {
-    match outcome {
-        TbOutcome::Delivered {
-            bytes,
-            transmissions,
-            iterations,
-        } if bytes.as_slice().iter().all(|byte| *byte == 0) => {
-            (bytes.as_slice().len(), *transmissions, *iterations)
-        }
-        TbOutcome::Failed {
-            transmissions,
-            iterations,
-        } => (0, *transmissions, *iterations),
-        _ => (0, 0, 0),
-    }
-}
-
-/// Appends 9,420 soft values of each of these numbers.
-fn push_stretches(values: &mut Vec<Soft>, numbers: &[i8]) -> Result<(), NoMemory> {
-    for number in numbers {
-        for _ in 0..9420 {
-            values.push(Soft::from_i8(*number))?;
-        }
-    }
-    Ok(())
-}
 
 // Block 0 passes at once. In the first row its later values would spoil it, were it decoded anew; in the
 // second all pass but the transport block's check fails, so that none is kept.
@@ -45,18 +16,18 @@ fn workers_keep_blocks_that_passed(rt: HostRuntime) -> Result<(), Fail> {
     let once = Sends::one(m, 0).ok_or("a transmission")?;
     let mut twice = Sends::one(m, 0).ok_or("a transmission")?;
     assert!(rt; twice.add(m, 0));
-    // The zeros of block 1 before a one, and the bits behind it, which are none or those that check it; the
+    // The zeros of block 1 before a one, and the bits after it, which are none or those that check it; the
     // values of block 0 in the second transmission; and the iterations after the first.
     let rows: [(usize, &[u8], i8, usize); 2] = [
         (3135, &[], -127, 4),
         (3111, &[0x80, 0x00, 0x63], 100, 2),
     ];
-    for (zeros, behind, later, iterations) in rows {
+    for (zeros, after, later, iterations) in rows {
         for workers in [1usize, 4] {
             assert!(rt; 1 <= workers && workers <= 16);
-            let bits = zeros_and_one(rt.alloc(), zeros, behind)?;
+            let bits = zeros_and_one(rt.alloc(), zeros, after)?;
             let mut softs = Vec::new(rt.alloc());
-            push_stretches(&mut softs, &[100])?;
+            push_equal(&mut softs, 9420, 100)?;
             let second = sent_of_block(rt.alloc(), 766, 18840, 1, bits)?;
             softs.extend_from_slice(&second)?;
             assert!(rt; softs.len() == m.g());
@@ -72,7 +43,8 @@ fn workers_keep_blocks_that_passed(rt: HostRuntime) -> Result<(), Fail> {
                 &NoGate,
             )?;
             assert_eq!(rt; told(&outcome), (0, 1, iterations));
-            push_stretches(&mut softs, &[later, 100])?;
+            push_equal(&mut softs, 9420, later)?;
+            push_equal(&mut softs, 9420, 100)?;
             assert!(rt; softs.len() == 2 * m.g());
             let outcome = receive_shared(
                 &rt,

@@ -28,7 +28,7 @@ fn zeros(alloc: Global) -> Result<SoftStreams, NoMemory>
     })
 }
 
-/// A code block of 488 bits, in which a one stands where the place is 1, 2 or 4 modulo 7, and 24 check bits.
+/// A code block of 488 bits, ones where the place is 1, 2 or 4 modulo 7, and 24 check bits.
 fn code_block(alloc: Global) -> Result<Block, NoMemory> {
     let mut bits = Vec::new(alloc);
     for i in 0..488u32 {

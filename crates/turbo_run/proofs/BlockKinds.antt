@@ -5,20 +5,20 @@ use Rattle.std.proofs.lemmas.Grind.{common_steps}
 use Rattle.std.proofs.Math.Seq.{take-append_seam}
 use Rattle.std.proofs.lemmas.List.{length-append}
 use Rattle.coded_stream.specs.Header.{Header}
-use Rattle.run_loop.specs.Answer.{Answer, behind, refusal}
+use Rattle.run_loop.specs.Answer.{Answer, preceded_by, refusal}
 use Rattle.run_loop.specs.Due.{IsDue, IsWithin}
 use Rattle.run_loop.proofs.Within.{within_next}
-use Rattle.turbo_run.specs.Encode.{block_part, blocks_answer, end_behind}
+use Rattle.turbo_run.specs.Encode.{block_part, blocks_answer, end_answer}
 
 -- ---- which answer there is
 
 pub data Kind (h : Header) (more count : ℕ) (input : List ℕ) : Type 0 where
-  Nothing : length input ≡ 0 → blocks_answer h more count input ≡ end_behind count 1 → Kind h more count input
+  Nothing : length input ≡ 0 → blocks_answer h more count input ≡ end_answer count 1 → Kind h more count input
   Over : more ≡ 0 → 0 < length input → blocks_answer h more count input ≡ refusal 8 (4096 * h.tb) 1 1 → Kind h more count input
   Short : 0 < length input → length input < h.tb → 0 < more →
-      blocks_answer h more count input ≡ behind (block_part h input (length input + 1) ∷ []) (end_behind (count + 1) 0) → Kind h more count input
+      blocks_answer h more count input ≡ preceded_by (block_part h input (length input + 1) ∷ []) (end_answer (count + 1) 0) → Kind h more count input
   Whole : h.tb ≤ length input → (k : ℕ) → more ≡ suc k →
-      blocks_answer h more count input ≡ behind (block_part h (take h.tb input) h.tb ∷ []) (blocks_answer h k (count + 1) (drop h.tb input)) → Kind h more count input
+      blocks_answer h more count input ≡ preceded_by (block_part h (take h.tb input) h.tb ∷ []) (blocks_answer h k (count + 1) (drop h.tb input)) → Kind h more count input
 
 pub kinds : (h : Header) (more count : ℕ) (input : List ℕ) → Kind h more count input
 unfolding blocks_answer
@@ -34,12 +34,12 @@ kinds h (suc more) count input = elim (cases_lt 0 (length input)) [
   | inr none ↦ (let zero_long : length input ≡ 0 = omega (arith, none) in Nothing zero_long (grind (arith, common_steps, zero_long)))
 ]
 
-drop_behind : (xs ys : List ℕ) → drop (length xs) (xs ++ ys) ≡ ys
-drop_behind [] ys = refl
-drop_behind (x ∷ xs) ys = drop_behind xs ys
+drop_first : (xs ys : List ℕ) → drop (length xs) (xs ++ ys) ≡ ys
+drop_first [] ys = refl
+drop_first (x ∷ xs) ys = drop_first xs ys
 
 pub whole_answer : (h : Header) (k count : ℕ) (bytes rest : List ℕ) → 0 < h.tb → length bytes ≡ h.tb →
-    blocks_answer h (suc k) count (bytes ++ rest) ≡ behind (block_part h bytes (length bytes) ∷ []) (blocks_answer h k (count + 1) rest)
+    blocks_answer h (suc k) count (bytes ++ rest) ≡ preceded_by (block_part h bytes (length bytes) ∷ []) (blocks_answer h k (count + 1) rest)
 whole_answer h k count bytes rest some all =
     let long = length-append bytes rest in
     elim (kinds h (suc k) count (bytes ++ rest)) [
@@ -49,10 +49,10 @@ whole_answer h k count bytes rest some all =
       | Whole enough j next is ↦ (
           let same : j ≡ k = omega (arith, next) in
           is
-          ∙ ap (λ n. behind (block_part h (take n (bytes ++ rest)) n ∷ []) (blocks_answer h j (count + 1) (drop n (bytes ++ rest)))) (sym all)
-          ∙ ap (λ (xs : List ℕ). behind (block_part h xs (length bytes) ∷ []) (blocks_answer h j (count + 1) (drop (length bytes) (bytes ++ rest)))) (take-append_seam bytes rest)
-          ∙ ap (λ (xs : List ℕ). behind (block_part h bytes (length bytes) ∷ []) (blocks_answer h j (count + 1) xs)) (drop_behind bytes rest)
-          ∙ ap (λ i. behind (block_part h bytes (length bytes) ∷ []) (blocks_answer h i (count + 1) rest)) same
+          ∙ ap (λ n. preceded_by (block_part h (take n (bytes ++ rest)) n ∷ []) (blocks_answer h j (count + 1) (drop n (bytes ++ rest)))) (sym all)
+          ∙ ap (λ (xs : List ℕ). preceded_by (block_part h xs (length bytes) ∷ []) (blocks_answer h j (count + 1) (drop (length bytes) (bytes ++ rest)))) (take-append_seam bytes rest)
+          ∙ ap (λ (xs : List ℕ). preceded_by (block_part h bytes (length bytes) ∷ []) (blocks_answer h j (count + 1) xs)) (drop_first bytes rest)
+          ∙ ap (λ i. preceded_by (block_part h bytes (length bytes) ∷ []) (blocks_answer h i (count + 1) rest)) same
           )
     ]
 

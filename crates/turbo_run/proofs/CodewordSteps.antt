@@ -8,7 +8,7 @@ use Rattle.edge_io.specs.Edge.{Takes}
 use Rattle.edge_io.proofs.Known.{takes_none}
 use Rattle.model_sender.specs.CircularBuffer.{Match}
 use Rattle.std.proofs.lemmas.Bool.{cases_lt}
-use Rattle.run_loop.specs.Answer.{Part, Answer, finished, behind, refusal, closed, size_of}
+use Rattle.run_loop.specs.Answer.{Part, Answer, finished, preceded_by, refusal, closed, size_of}
 use Rattle.run_loop.specs.Due.{IsDue, IsWithin, Stopped}
 use Rattle.run_loop.specs.Step.{Gives, Stops, parts_of, ending_of}
 use Rattle.run_loop.specs.declared.work.Part as rust
@@ -24,7 +24,7 @@ use Rattle.turbo_run.specs.Input.{IsInput}
 
 -- a payload that isn't too long
 accepted : (m : Match) (rv : ℕ) (payload : List ℕ) → 0 < length payload → length payload ≤ 18722 →
-    block_answer m rv payload ≡ behind (codeword_part m rv payload ∷ []) (closed [] (bits_line m) finished 0 0)
+    block_answer m rv payload ≡ preceded_by (codeword_part m rv payload ∷ []) (closed [] (bits_line m) finished 0 0)
 accepted m rv payload some few = grind (arith, common_steps, some, few)
 
 -- a byte more is refused
@@ -35,7 +35,7 @@ too_long m rv bytes rest long = grind (arith, common_steps, long, length-append 
 data Kind (m : Match) (rv : ℕ) (input : List ℕ) : Type 0 where
   Empty : length input ≡ 0 → block_answer m rv input ≡ refusal 4 0 0 1 → Kind m rv input
   Long : block_answer m rv input ≡ refusal 4 18722 18723 18723 → Kind m rv input
-  Whole : block_answer m rv input ≡ behind (codeword_part m rv input ∷ []) (closed [] (bits_line m) finished 0 0) → Kind m rv input
+  Whole : block_answer m rv input ≡ preceded_by (codeword_part m rv input ∷ []) (closed [] (bits_line m) finished 0 0) → Kind m rv input
 
 kinds : (m : Match) (rv : ℕ) (input : List ℕ) → Kind m rv input
 kinds m rv input = elim (cases_lt 0 (length input)) [
@@ -54,7 +54,7 @@ not_whole m rv n input few within = elim (kinds m rv input) [
   | Whole is ↦ (let P : Answer → Type 0 = λ a. IsDue a.due a.parts n in subst P (sym is) (omega (arith, within)))
 ]
 
--- memory may be wanting before anything is read
+-- memory may run out before anything is read
 none_read : (m : Match) (rv : ℕ) (input : List ℕ) → IsWithin (block_answer m rv input) 0
 none_read m rv input = elim (kinds m rv input) [
   | Empty none is ↦ (let P : Answer → Type 0 = λ a. IsWithin a 0 in subst P (sym is) (omega arith, λ _. omega arith))
@@ -124,7 +124,7 @@ gives_coded m rv input payload after old new round is some few took ended told =
     let b = closed [] (bits_line m) finished 0 0 in (
       b,
       new,
-      ap (block_answer m rv) end.input_is ∙ accepted m rv payload some few ∙ ap (λ (ps : List Part). behind ps b) (sym coded.0),
+      ap (block_answer m rv) end.input_is ∙ accepted m rv payload some few ∙ ap (λ (ps : List Part). preceded_by ps b) (sym coded.0),
       (payload, took, one ∙ sym (ap size_of coded.0)),
       coded.1,
     )

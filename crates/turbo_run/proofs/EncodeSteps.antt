@@ -12,7 +12,7 @@ use Rattle.coded_stream.specs.Opening.{first_size}
 use Rattle.coded_stream.specs.declared.version.Version.{Version}
 use Rattle.coded_stream.specs.declared.version.Version.TheVariants.{One, Two}
 use Rattle.coded_stream.proofs.OpeningSteps.{text-long}
-use Rattle.run_loop.specs.Answer.{Part, Answer, behind, size_of}
+use Rattle.run_loop.specs.Answer.{Part, Answer, preceded_by, size_of}
 use Rattle.run_loop.specs.Due.{IsWithin, Stopped}
 use Rattle.run_loop.specs.Step.{Gives, Steps, Stops, parts_of, ending_of}
 use Rattle.run_loop.specs.declared.work.Part as rust
@@ -22,8 +22,8 @@ use Rattle.run_loop.specs.declared.work.Stop.TheVariants.{Go, End, Fails}
 use Rattle.run_loop.specs.declared.status.Status.{Status}
 use Rattle.run_loop.specs.declared.status.Status.TheVariants.{Done, SomeFailed, BadWords, BadStream, ReadFault, WriteFault, NoMemory}
 use Rattle.run_loop.proofs.Within.{within_next}
-use Rattle.turbo_run.specs.Encode.{block_part, blocks_answer, end_behind}
-use Rattle.turbo_run.specs.EncodeRounds.{IsEnd, IsOfBlock, IsLast, IsBehindAll}
+use Rattle.turbo_run.specs.Encode.{block_part, blocks_answer, end_answer}
+use Rattle.turbo_run.specs.EncodeRounds.{IsEnd, IsOfBlock, IsLast, IsAfterAllBlocks}
 use Rattle.turbo_run.specs.Input.{IsInput}
 use Rattle.turbo_run.proofs.BlockKinds.{Nothing, Over, Short, Whole, kinds, one_ahead, whole_answer, due, none_read, last_read}
 
@@ -61,7 +61,7 @@ stopped_unread h more count input old new (WriteFault sink) read some told = abs
 record ReadWhole (h : Header) (k count : ℕ) (input payload : List ℕ) (new : Option (List ℕ)) : Type 0 where
   left : List ℕ
   new_is : new ≡ Some left
-  answer : blocks_answer h (suc k) count input ≡ behind (block_part h payload (length payload) ∷ []) (blocks_answer h k (count + 1) left)
+  answer : blocks_answer h (suc k) count input ≡ preceded_by (block_part h payload (length payload) ∷ []) (blocks_answer h k (count + 1) left)
 
 read_whole : (h : Header) (k count : ℕ) (input payload : List ℕ) (old new : Option (List ℕ)) →
     0 < h.tb → length payload ≡ h.tb → Takes old new payload → old ≡ Some input → ReadWhole h k count input payload new
@@ -78,7 +78,8 @@ stopped_whole h k count input payload old new some all took told =
       payload,
       took,
       subst P (sym read.answer)
-          (within_next (behind (block_part h payload (length payload) ∷ []) (blocks_answer h k (count + 1) read.left)) (length payload) (one_ahead h k (count + 1) read.left) (omega arith) (λ no. cc)),
+          (within_next (preceded_by (block_part h payload (length payload) ∷ []) (blocks_answer h k (count + 1) read.left)) (length payload) (one_ahead h k (count + 1) read.left) (omega arith)
+          (λ no. cc)),
     )
 
 pub gives_whole : (h : Header) (k count : ℕ) (input payload : List ℕ) (old new : Option (List ℕ)) (round : Round) →
@@ -91,13 +92,13 @@ gives_whole h k count input payload old new round made some all took told =
     let one : length payload ≡ size_of (block_part h payload (length payload) ∷ []) = omega arith in (
       b,
       new,
-      read.answer ∙ ap (λ (ps : List Part). behind ps b) (sym made.0),
+      read.answer ∙ ap (λ (ps : List Part). preceded_by ps b) (sym made.0),
       (payload, took, one ∙ sym (ap size_of made.0)),
       subst P (sym made.1) (read.left, read.new_is, read.new_is, refl),
     )
 
 stops_end : (count due : ℕ) (after : List ℕ → Answer) (new : Option (List ℕ)) (stop : Stop) →
-    IsEnd count stop → new ≡ Some [] → Stops (end_behind count due) after new new stop
+    IsEnd count stop → new ≡ Some [] → Stops (end_answer count due) after new new stop
 stops_end count due after new (End closing last failed) is at = (at, refl, sym is.0, sym is.1, ap ending_of (sym is.2))
 stops_end count due after new Go is at = absurd is
 stops_end count due after new (Fails status) is at = absurd is
@@ -123,9 +124,9 @@ gives_last h more count input payload after old new round is few no_more took en
             let P : Answer → Type 0 = λ a. Gives a after old new round in
             let R : List ℕ → Type 0 = λ bytes. Takes old new bytes in
             subst P (sym answer) (
-              end_behind count 1,
+              end_answer count 1,
               new,
-              sym (ap (λ (blocks : List rust.Part). behind (parts_of blocks) (end_behind count 1)) empty.1),
+              sym (ap (λ (blocks : List rust.Part). preceded_by (parts_of blocks) (end_answer count 1)) empty.1),
               ([], subst R (none_of payload zero_long) took, sym (ap (λ (blocks : List rust.Part). size_of (parts_of blocks)) empty.1)),
               stops_end count 1 after new round.stop empty.2 end.new_is,
             )
@@ -136,11 +137,11 @@ gives_last h more count input payload after old new round is few no_more took en
       | Short some short more_come answer ↦ elim is [
         | inl empty ↦ absurd (omega (arith, some, empty.0))
         | inr made ↦ (
-            let b = end_behind (count + 1) 0 in
+            let b = end_answer (count + 1) 0 in
             let one : length payload ≡ size_of (block_part h payload (length payload + 1) ∷ []) = omega arith in (
               b,
               new,
-              answer ∙ ap (λ (ps : List Part). behind ps b) (sym made.1),
+              answer ∙ ap (λ (ps : List Part). preceded_by ps b) (sym made.1),
               (payload, took, one ∙ sym (ap size_of made.1)),
               stops_end (count + 1) 0 after new round.stop made.2 end.new_is,
             )
@@ -168,18 +169,18 @@ stopped_over h count input bytes old new one took told =
     ]
 
 -- the round after it
-pub step_behind_all : (h : Header) (count : ℕ) (input : List ℕ) (after : List ℕ → Answer) (old new : Option (List ℕ)) (result : Result Round Status) →
-    IsBehindAll h old new result → count ≡ 4096 → 0 < h.tb → old ≡ Some input →
+pub step_after_all_blocks : (h : Header) (count : ℕ) (input : List ℕ) (after : List ℕ → Answer) (old new : Option (List ℕ)) (result : Result Round Status) →
+    IsAfterAllBlocks h old new result → count ≡ 4096 → 0 < h.tb → old ≡ Some input →
     Steps (blocks_answer h 0 count input) after old new result
-step_behind_all h count input after old new (Ok round) (took, ended, is) all some told =
+step_after_all_blocks h count input after old new (Ok round) (took, ended, is) all some told =
     let P : ℕ → Type 0 = λ n. IsLast h n [] round in
     gives_last h 0 count input [] after old new round (subst P (sym all) is) some (λ _. refl) took ended told
-step_behind_all h count input after old new (Err (BadStream number place)) (number_is, place_is, (bytes, one, took)) all some told =
+step_after_all_blocks h count input after old new (Err (BadStream number place)) (number_is, place_is, (bytes, one, took)) all some told =
     let P : ℕ → ℕ → Type 0 = λ n p. Stopped (blocks_answer h 0 count input) old new (BadStream n p) in
     subst (λ (n : ℕ). P n place) (sym number_is) (subst (P 8) (sym place_is) (stopped_over h count input bytes old new one took told))
-step_behind_all h count input after old new (Err ReadFault) took all some told = stopped_fault h 0 count input [] old new some (λ _. refl) took told
-step_behind_all h count input after old new (Err NoMemory) (took, ended) all some told = stopped_last h 0 count input [] old new some (λ _. refl) took ended told
-step_behind_all h count input after old new (Err Done) is all some told = absurd is
-step_behind_all h count input after old new (Err SomeFailed) is all some told = absurd is
-step_behind_all h count input after old new (Err (BadWords number place)) is all some told = absurd is
-step_behind_all h count input after old new (Err (WriteFault sink)) is all some told = absurd is
+step_after_all_blocks h count input after old new (Err ReadFault) took all some told = stopped_fault h 0 count input [] old new some (λ _. refl) took told
+step_after_all_blocks h count input after old new (Err NoMemory) (took, ended) all some told = stopped_last h 0 count input [] old new some (λ _. refl) took ended told
+step_after_all_blocks h count input after old new (Err Done) is all some told = absurd is
+step_after_all_blocks h count input after old new (Err SomeFailed) is all some told = absurd is
+step_after_all_blocks h count input after old new (Err (BadWords number place)) is all some told = absurd is
+step_after_all_blocks h count input after old new (Err (WriteFault sink)) is all some told = absurd is

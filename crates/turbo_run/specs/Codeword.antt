@@ -4,7 +4,7 @@ use Rattle.lte_bits.specs.Packing.{packed}
 use Rattle.model_sender.specs.CircularBuffer.{Match}
 use Rattle.model_sender.specs.Codeword.{codeword}
 use Rattle.run_loop.specs.Lines.{line_end}
-use Rattle.run_loop.specs.Answer.{Part, Answer, finished, behind, heading, refusal, closed}
+use Rattle.run_loop.specs.Answer.{Part, Answer, finished, preceded_by, heading, refusal, closed}
 
 -- `end bits G`
 abbrev pub bits_line : Match → List ℕ
@@ -24,8 +24,8 @@ abbrev pub block_answer : Match → ℕ → List ℕ → Answer
 block_answer m rv input = if length input == 0
     then refusal 4 0 0 1
     else if nat_lt 18722 (length input) then refusal 4 18722 18723 18723
-    else behind (codeword_part m rv input ∷ []) (closed [] (bits_line m) finished 0 0)
+    else preceded_by (codeword_part m rv input ∷ []) (closed [] (bits_line m) finished 0 0)
 
 -- `out` begins with nothing
 abbrev pub codeword_answer : Match → ℕ → List ℕ → Answer
-codeword_answer m rv input = behind (heading [] 0 ∷ []) (block_answer m rv input)
+codeword_answer m rv input = preceded_by (heading [] 0 ∷ []) (block_answer m rv input)

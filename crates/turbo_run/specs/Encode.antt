@@ -7,7 +7,7 @@ use Rattle.coded_stream.specs.Header.{Header, header_text, word_text}
 use Rattle.coded_stream.specs.declared.kind.Kind.TheVariants.{Hard}
 use Rattle.coded_stream.specs.declared.version.Version.{Version}
 use Rattle.run_loop.specs.Lines.{blocks_line}
-use Rattle.run_loop.specs.Answer.{Part, Answer, finished, behind, heading, refusal, closed}
+use Rattle.run_loop.specs.Answer.{Part, Answer, finished, preceded_by, heading, refusal, closed}
 
 abbrev pub hard_header : Version → (tb : ℕ) → List Sending → Header
 hard_header version tb sends = record { version = version; kind = Hard; tb = tb; sends = sends }
@@ -29,23 +29,23 @@ block_part h payload wants =
 -- ---- all
 
 -- the end word and the last line
-abbrev pub end_behind : (count due : ℕ) → Answer
-end_behind count due = closed (word_text 0) (blocks_line count) finished 0 due
+abbrev pub end_answer : (count due : ℕ) → Answer
+end_answer count due = closed (word_text 0) (blocks_line count) finished 0 due
 
 -- After so many blocks, where so many more may come: the input is cut into blocks of tb bytes. The last may
 -- be shorter, which is known once the end of the input was seen. A byte after the last block that may come
 -- is refused.
 unfoldable pub blocks_answer : Header → (more count : ℕ) → (input : List ℕ) → Answer
 blocks_answer h zero count input = if length input == 0
-    then end_behind count 1
+    then end_answer count 1
     else refusal 8 (4096 * h.tb) 1 1
 blocks_answer h (suc more) count input = if length input == 0
-    then end_behind count 1
+    then end_answer count 1
     else if nat_lt (length input) h.tb
-    then behind (block_part h input (length input + 1) ∷ []) (end_behind (count + 1) 0)
-    else behind (block_part h (take h.tb input) h.tb ∷ [])
+    then preceded_by (block_part h input (length input + 1) ∷ []) (end_answer (count + 1) 0)
+    else preceded_by (block_part h (take h.tb input) h.tb ∷ [])
     (blocks_answer h more (count + 1) (drop h.tb input))
 
--- the header stands before anything is read, and 4,096 blocks may come
+-- the header is written before anything is read, and 4,096 blocks may come
 abbrev pub encode_answer : Header → (input : List ℕ) → Answer
-encode_answer h input = behind (heading (header_text h) 0 ∷ []) (blocks_answer h 4096 0 input)
+encode_answer h input = preceded_by (heading (header_text h) 0 ∷ []) (blocks_answer h 4096 0 input)

@@ -32,10 +32,10 @@ IsLast h count payload round = ((length payload ≡ 0) × (round.parts.items ≡
     × IsEnd (count + 1) round.stop)
 
 -- the end, the byte that is refused, a fault before it came, or running out of memory for the end
-abbrev pub IsBehindAll : Header → (old new : Option (List ℕ)) → Result Round Status → Type 0
-IsBehindAll h old new (Ok round) = Takes old new [] × IsAtEnd new × IsLast h 4096 [] round
-IsBehindAll h old new (Err (BadStream number place)) = (number ≡ 8) × (place ≡ 4096 * h.tb)
+abbrev pub IsAfterAllBlocks : Header → (old new : Option (List ℕ)) → Result Round Status → Type 0
+IsAfterAllBlocks h old new (Ok round) = Takes old new [] × IsAtEnd new × IsLast h 4096 [] round
+IsAfterAllBlocks h old new (Err (BadStream number place)) = (number ≡ 8) × (place ≡ 4096 * h.tb)
     × ((bytes : List ℕ) × (length bytes ≡ 1) × Takes old new bytes)
-IsBehindAll h old new (Err ReadFault) = Takes old new []
-IsBehindAll h old new (Err NoMemory) = Takes old new [] × IsAtEnd new
-IsBehindAll h old new (Err _) = ⊥
+IsAfterAllBlocks h old new (Err ReadFault) = Takes old new []
+IsAfterAllBlocks h old new (Err NoMemory) = Takes old new [] × IsAtEnd new
+IsAfterAllBlocks h old new (Err _) = ⊥

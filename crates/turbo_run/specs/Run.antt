@@ -4,7 +4,7 @@ use Rattle.std.specs.declared.option.Option.{Option}
 use Rattle.rate_match.specs.declared.sends.Sending.{Sending}
 use Rattle.run_loop.specs.Edges.{Edges, Causes, IsQuiet}
 use Rattle.run_loop.specs.FaultLine.{AddsLine, Finished, fault_line}
-use Rattle.run_loop.specs.Reply.{Reply, reading, EndsReply, IsEndingOf, ending_of_reply}
+use Rattle.run_loop.specs.Reply.{Reply, reading, IsEndingOf, ending_of_reply}
 use Rattle.run_loop.specs.declared.status.Status.{Status}
 use Rattle.run_loop.specs.declared.status.Status.TheVariants.{BadWords}
 use Rattle.stream_loop.specs.Handling.{stream_answer}
@@ -71,7 +71,7 @@ pub record Runs {S D : Type 0} (words : List (List ℕ)) (source source' : S) (o
   pub refused : IfErr (command_of words) (λ refusal. (status ≡ BadWords refusal.number refusal.place)
       × (source' ≡ source) × (out' ≡ out)
       × AddsLine old.report new.report (fault_line status) old.reports new.reports)
-  -- else the run ends as the command's answer says, by a fault, or since memory ran out, and after that stands the
+  -- else the run ends as the command's answer says, by a fault, or since memory ran out, and after that comes the
   -- fault line
   pub ends : IfOk (command_of words) (λ command. (input : List ℕ) → old.left ≡ Some input →
       Finished (answer_of command input) old new status)

@@ -1,5 +1,6 @@
 //! The command `codeword`.
 ghost use Rattle.std.specs.Prelude.{◌≡◌, ◌≤◌, IfOk, None, length};
+ghost use Rattle.segmentation.specs.declared.planning.TheConstants.{MOST_BYTES};
 ghost use Rattle.turbo_run.specs.Codeword.{bits_line, codeword_text};
 ghost use Rattle.turbo_run.specs.CodewordRound.{IsCoded};
 
@@ -9,6 +10,7 @@ use edge_io::{Sink, Source};
 use lte_bits::{List, NoMemory, pack};
 use rate_match::Match;
 use run_loop::{Open, Part, Round, Status, Stop, Work, end_line, push_number};
+use segmentation::MOST_BYTES;
 use std::alloc::Global;
 
 /// The codeword of one transport block, over a full buffer: all in one round.
@@ -20,14 +22,11 @@ pub struct Codeword {
     pub ghost version: { rv ≤ 3 },
 }
 
-/// The most bytes of a transport block.
-const MOST_BYTES: usize = 18_722;
-
 /// The codeword as bytes.
 #[tactic(auto, using(crate::proofs::FullBuffer::fits_full))]
 fn codeword_text(alloc: Global, payload: &[u8], m: &Match, rv: u8) -> Result<List<u8>, NoMemory>
     requires some { 1 ≤ length payload.now }
-    requires few { length payload.now ≤ 18722 }
+    requires few { length payload.now ≤ MOST_BYTES }
     requires full { m.now.limit ≡ None }
     requires version { rv ≤ 3 }
     ensures { IfOk result (λ text. text ≡ codeword_text m.now rv payload.now) }
@@ -46,10 +45,10 @@ fn bits_line(alloc: Global, m: &Match) -> Result<Vec<u8>, NoMemory>
     Ok(line)
 }
 
-/// The block of a payload, and the end: all memory is had before anything is written.
+/// The block of a payload, and the end: all memory is allocated before anything is written.
 fn coded(alloc: Global, payload: &[u8], m: &Match, rv: u8) -> Result<Round, NoMemory>
     requires some { 1 ≤ length payload.now }
-    requires few { length payload.now ≤ 18722 }
+    requires few { length payload.now ≤ MOST_BYTES }
     requires full { m.now.limit ≡ None }
     requires version { rv ≤ 3 }
     ensures { IfOk result (λ round. IsCoded m.now rv payload.now round.parts.items round.stop) }

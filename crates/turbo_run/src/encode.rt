@@ -2,7 +2,7 @@
 ghost use Rattle.std.specs.Prelude.{◌≡◌, ◌≤◌, ◌<◌, ◌+◌, IfOk, IfErr, length};
 ghost use Rattle.coded_stream.specs.Shown.{header_of};
 ghost use Rattle.run_loop.specs.Step.{FailsBy};
-ghost use Rattle.turbo_run.specs.EncodeRounds.{IsBehindAll, IsEnd, IsLast, IsOfBlock};
+ghost use Rattle.turbo_run.specs.EncodeRounds.{IsAfterAllBlocks, IsEnd, IsLast, IsOfBlock};
 
 use crate::blocks::block;
 use crate::input::{Input, read_up_to};
@@ -74,8 +74,12 @@ fn last(alloc: Global, header: &Header, count: usize, payload: &[u8]) -> Result<
 
 /// The round after the last block that may come: a byte more is refused, and it is read without
 /// memory of its own.
-fn behind_all<S: Source>(alloc: Global, header: &Header, source: &mut S) -> Result<Round, Status>
-    ensures bytes { IsBehindAll (header_of header.now) (S.left source.old) (S.left source.new) result }
+fn after_all_blocks<S: Source>(
+    alloc: Global,
+    header: &Header,
+    source: &mut S,
+) -> Result<Round, Status>
+    ensures bytes { IsAfterAllBlocks (header_of header.now) (S.left source.old) (S.left source.new) result }
     ensures later { S.faults source.old ≤ S.faults source.new }
     ensures fails { IfErr result (FailsBy (S.faults source.old) (S.faults source.new)) }
 {
@@ -127,7 +131,7 @@ impl Work for EncodeRounds {
 
     fn round<S: Source>(&mut self, alloc: Global, source: &mut S) -> Result<Round, Status> {
         if self.more == 0 {
-            return behind_all(alloc, &self.header, source);
+            return after_all_blocks(alloc, &self.header, source);
         }
         match read_up_to(alloc, source, self.header.tb)? {
             Input::Whole(payload) => {

@@ -6,8 +6,8 @@ mod codeword;
 mod encode;
 mod input;
 mod performing;
-mod running;
+mod top_calls;
 
 pub use command_words::{Command, WordRefusal, read_words};
 pub use run_loop::{SinkName, Status};
-pub use running::{run, run_alone, run_gated};
+pub use top_calls::{run, run_alone, run_gated};

@@ -13,7 +13,7 @@ use block_receive::{Effort, Task};
 use coded_stream::{Header, Kind};
 use command_batch::{Batch, BlockJob, Outcomes, Pipes};
 use command_decode::{Decoding, Received};
-use command_relay::{Channel, Points, Relay, Scramble, Upgrade};
+use command_relay::{Channel, Converted, Points, Scramble, Upgrade};
 use command_trial::{Trial, run_trial};
 use command_words::Command;
 use edge_io::{Sink, Source};
@@ -93,9 +93,9 @@ pub fn perform<
         }
         Command::Channel { amp, noise, seed } => {
             let channel = Channel { amp, noise, seed };
-            drive(alloc, Stream(Relay(channel)), source, out, report)
+            drive(alloc, Stream(Converted(channel)), source, out, report)
         }
-        Command::Upgrade => drive(alloc, Stream(Relay(Upgrade)), source, out, report),
+        Command::Upgrade => drive(alloc, Stream(Converted(Upgrade)), source, out, report),
         Command::Trial {
             seed,
             blocks,
@@ -129,13 +129,13 @@ pub fn perform<
                 slot,
                 cell,
             };
-            drive(alloc, Stream(Relay(scramble)), source, out, report)
+            drive(alloc, Stream(Converted(scramble)), source, out, report)
         }
         Command::Points { amp, noise, seed } => {
             let channel = Channel { amp, noise, seed };
             drive(
                 alloc,
-                Stream(Relay(Points { channel })),
+                Stream(Converted(Points { channel })),
                 source,
                 out,
                 report,

@@ -102,8 +102,8 @@ pub fn run_alone<S: Source, D: Sink, R: Sink>(
 }
 
 /// Does what the words ask for, from the source to `out` and the report. Where `decode` has several workers,
-/// they may run on threads of their own, and each enters `gate` before each window that it decodes; so may the
-/// pipes of `batch`, where there are several.
+/// they may run on threads of their own, and each enters `gate` before each window that it decodes; so may
+/// the pipes of `batch`, where there are several.
 pub fn run_gated<H: Threads + Wait + Sync, S: Source, D: Sink, R: Sink, G: Gate + Sync>(
     rt: &H,
     alloc: Global,

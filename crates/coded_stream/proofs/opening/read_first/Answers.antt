@@ -16,7 +16,8 @@ record AreFirst (version : Version) (size : ℕ) (unit : List ℕ) : Type 0 wher
   is : (more : List ℕ) → version_of (unit ++ more) ≡ version
   size_is : size ≡ first_size version
 
-first-are : (version : Version) (size : ℕ) (unit whole : List ℕ) → length whole ≡ 18 → length unit ≡ length (take 4 whole) → version ≡ version_of (unit ++ drop 4 whole) → size ≡ first_size version → AreFirst version size unit
+first-are : (version : Version) (size : ℕ) (unit whole : List ℕ) → length whole ≡ 18 → length unit ≡ length (take 4 whole) → version ≡ version_of (unit ++ drop 4 whole) → size ≡ first_size version →
+    AreFirst version size unit
 first-are version size unit whole long same is size_is =
     let four : length unit ≡ 4 = omega (arith, same, length-take-le 4 whole (omega (arith, long))) in
     record {
@@ -84,7 +85,8 @@ returns-in-Fault-read_unit-clause-bytes g c =
       unit ++ w.0,
       takes_then _ _ _ unit w.0 c.in-Whole.ensures.bytes w.2,
       λ left. (
-          let is : first_size (version_of ((unit ++ w.0) ++ left)) ≡ size = ap (λ (xs : List ℕ). first_size (version_of xs)) (append_assoc unit w.0 left) ∙ ap first_size (f.is (w.0 ++ left)) ∙ sym f.size_is in
+          let is : first_size (version_of ((unit ++ w.0) ++ left)) ≡ size = ap (λ (xs : List ℕ). first_size (version_of xs)) (append_assoc unit w.0 left) ∙ ap first_size (f.is (w.0 ++ left))
+          ∙ sym f.size_is in
           omega (arith, length-append unit w.0, f.long, is, less, rest_long, c.first_size.ensures.some)
           ),
     )

@@ -13,6 +13,7 @@ loop-turn-preserved c =
     let small = size-bounded h.kind g (record { some = c.length_at.ensures.some; few = c.length_at.ensures.few }) in
     let before = c.loop-turn.invariant in
     record {
-      total = ap (λ (n : ℕ). n + c.transmission_size-total.result) before.total ∙ ap (λ (n : ℕ). block_size h.kind (take c.loop-turn.turn (lengths (header_of h))) + n) c.transmission_size-total.ensures ∙ sym t.size;
+      total = ap (λ (n : ℕ). n + c.transmission_size-total.result) before.total
+          ∙ ap (λ (n : ℕ). block_size h.kind (take c.loop-turn.turn (lengths (header_of h))) + n) c.transmission_size-total.ensures ∙ sym t.size;
       few = omega (arith, before.few, small.few, c.transmission_size-total.ensures);
     }

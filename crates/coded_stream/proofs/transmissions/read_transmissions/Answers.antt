@@ -12,14 +12,16 @@ use Rattle.coded_stream.proofs.Midway.{midway-more, midway-bad, midway-cut, midw
 use Rattle.coded_stream.proofs.transmissions.read_transmissions.Goals as goal
 
 -- what is read at a turn is within the block
-within : (kind : Kind) (gs : List ℕ) (turn g read size long : ℕ) → IsTurn kind gs turn g → read ≡ block_size kind (take turn gs) → size ≡ transmission_size kind g → long ≡ block_size kind gs → read + size ≤ long
+within : (kind : Kind) (gs : List ℕ) (turn g read size long : ℕ) → IsTurn kind gs turn g → read ≡ block_size kind (take turn gs) → size ≡ transmission_size kind g → long ≡ block_size kind gs →
+    read + size ≤ long
 within kind gs turn g read size long t read_is size_is long_is = (let e = t.within in omega (arith, e, read_is, size_is, long_is))
 
 pub slice_bounds-read_transmission-end : goal.slice_bounds-read_transmission-end
 slice_bounds-read_transmission-end g c =
     let h = c.args.header.now in
     let t = turn-is h.kind (lengths (header_of h)) c.loop-turn.turn c.length_at-g.result c.length_at-g.ensures.value in
-    within h.kind (lengths (header_of h)) c.loop-turn.turn c.length_at-g.result c.loop-turn.read c.transmission_size-size.result _ t c.loop-turn.invariant.read c.transmission_size-size.ensures (c.loop-turn.auto.into ∙ c.requires.size)
+    within h.kind (lengths (header_of h)) c.loop-turn.turn c.length_at-g.result c.loop-turn.read c.transmission_size-size.result _ t c.loop-turn.invariant.read c.transmission_size-size.ensures
+    (c.loop-turn.auto.into ∙ c.requires.size)
 
 pub returns-in-BadBit-clause-told : goal.returns-in-BadBit-clause-told
 returns-in-BadBit-clause-told g c input is =
@@ -28,7 +30,8 @@ returns-in-BadBit-clause-told g c input is =
     let size : ℕ = c.transmission_size-size.result in
     let into = c.loop-turn.into in
     let t = turn-is h.kind (lengths (header_of h)) turn c.length_at-g.result c.length_at-g.ensures.value in
-    let room : c.loop-turn.read + size ≤ length into = within h.kind (lengths (header_of h)) turn c.length_at-g.result c.loop-turn.read size (length into) t c.loop-turn.invariant.read c.transmission_size-size.ensures (c.loop-turn.auto.into ∙ c.requires.size) in
+    let room : c.loop-turn.read + size ≤ length into = within h.kind (lengths (header_of h)) turn c.length_at-g.result c.loop-turn.read size (length into) t c.loop-turn.invariant.read
+    c.transmission_size-size.ensures (c.loop-turn.auto.into ∙ c.requires.size) in
     let read : length (take c.loop-turn.read into) ≡ c.loop-turn.read = length-take-le c.loop-turn.read into (omega (arith, room)) in
     let unit_long : length c.read_transmission.new.bytes ≡ transmission_size h.kind c.length_at-g.result = omega (arith, c.read_transmission.auto.bytes, c.transmission_size-size.ensures) in
     let some = (size-bounded h.kind c.length_at-g.result (record { some = c.length_at-g.ensures.some; few = c.length_at-g.ensures.few })).some in
@@ -43,7 +46,8 @@ returns-in-Short-clause-told g c input is =
     let size : ℕ = c.transmission_size-size.result in
     let into = c.loop-turn.into in
     let t = turn-is h.kind (lengths (header_of h)) turn c.length_at-g.result c.length_at-g.ensures.value in
-    let room : c.loop-turn.read + size ≤ length into = within h.kind (lengths (header_of h)) turn c.length_at-g.result c.loop-turn.read size (length into) t c.loop-turn.invariant.read c.transmission_size-size.ensures (c.loop-turn.auto.into ∙ c.requires.size) in
+    let room : c.loop-turn.read + size ≤ length into = within h.kind (lengths (header_of h)) turn c.length_at-g.result c.loop-turn.read size (length into) t c.loop-turn.invariant.read
+    c.transmission_size-size.ensures (c.loop-turn.auto.into ∙ c.requires.size) in
     let read : length (take c.loop-turn.read into) ≡ c.loop-turn.read = length-take-le c.loop-turn.read into (omega (arith, room)) in
     let took = c.in-Short.ensures.bytes in
     let part : List ℕ = take c.in-Short.got c.read_transmission.new.bytes in
@@ -73,7 +77,8 @@ loop-turn-preserved g c =
     let unit = c.read_transmission.new.bytes in
     let before = c.loop-turn.invariant in
     let t = turn-is h.kind (lengths (header_of h)) turn c.length_at-g.result c.length_at-g.ensures.value in
-    let room : read + size ≤ length into = within h.kind gs turn c.length_at-g.result read size (length into) t before.read c.transmission_size-size.ensures (c.loop-turn.auto.into ∙ c.requires.size) in
+    let room : read + size ≤ length into = within h.kind gs turn c.length_at-g.result read size (length into) t before.read c.transmission_size-size.ensures
+    (c.loop-turn.auto.into ∙ c.requires.size) in
     let unit_long : length unit ≡ transmission_size h.kind c.length_at-g.result = omega (arith, c.read_transmission.auto.bytes, c.transmission_size-size.ensures) in
     let front : take (read + size) (put_mid read (read + size - read) into unit) ≡ take read into ++ unit =
     take-put_mid read (read + size - read) into unit (read + size) (omega (arith, unit_long, c.transmission_size-size.ensures)) (omega (arith, room)) in
@@ -92,7 +97,8 @@ record IsDone (kind : Kind) (gs : List ℕ) (turn read : ℕ) (into : List ℕ) 
   all : take turn gs ≡ gs
   whole : take read into ≡ into
 
-done : (kind : Kind) (gs : List ℕ) (turn count read : ℕ) (into : List ℕ) → turn ≤ count → count ≤ turn → count ≡ length gs → read ≡ block_size kind (take turn gs) → length into ≡ block_size kind gs → IsDone kind gs turn read into
+done : (kind : Kind) (gs : List ℕ) (turn count read : ℕ) (into : List ℕ) → turn ≤ count → count ≤ turn → count ≡ length gs → read ≡ block_size kind (take turn gs) → length into ≡ block_size kind gs →
+    IsDone kind gs turn read into
 done kind gs turn count read into le ge count_is read_is long =
     let is : turn ≡ length gs = omega (arith, le, ge, count_is) in
     let all : take turn gs ≡ gs = take_all turn gs (omega (arith, is)) in
@@ -104,7 +110,8 @@ returns-clause-told g c input is =
     let gs : List ℕ = lengths (header_of h) in
     let turn : ℕ = c.loop-turn.turn in
     let into = c.loop-turn.into in
-    let end = done h.kind gs turn c.len-turn-end.result c.loop-turn.read into c.loop-turn.auto.turn-end c.loop-turn-test.false (c.len-turn-end.ensures.value ∙ sym (lengths-long h.sends)) c.loop-turn.invariant.read (c.loop-turn.auto.into ∙ c.requires.size) in
+    let end = done h.kind gs turn c.len-turn-end.result c.loop-turn.read into c.loop-turn.auto.turn-end c.loop-turn-test.false (c.len-turn-end.ensures.value ∙ sym (lengths-long h.sends))
+    c.loop-turn.invariant.read (c.loop-turn.auto.into ∙ c.requires.size) in
     let P : ℕ → Type 0 = λ n. IsMidway h.kind c.args.start c.args.payload gs n into input (g.S.Source.left c.loop-turn.source) in
     let Q : List ℕ → Type 0 = λ xs. IsMidway h.kind c.args.start c.args.payload gs turn xs input (g.S.Source.left c.loop-turn.source) in
     midway-done h.kind c.args.start c.args.payload gs into input _ _ (subst P end.is (subst Q end.whole (c.loop-turn.invariant.told input is))) is
@@ -115,7 +122,8 @@ returns-clause-taken g c =
     let gs : List ℕ = lengths (header_of h) in
     let turn : ℕ = c.loop-turn.turn in
     let into = c.loop-turn.into in
-    let end = done h.kind gs turn c.len-turn-end.result c.loop-turn.read into c.loop-turn.auto.turn-end c.loop-turn-test.false (c.len-turn-end.ensures.value ∙ sym (lengths-long h.sends)) c.loop-turn.invariant.read (c.loop-turn.auto.into ∙ c.requires.size) in
+    let end = done h.kind gs turn c.len-turn-end.result c.loop-turn.read into c.loop-turn.auto.turn-end c.loop-turn-test.false (c.len-turn-end.ensures.value ∙ sym (lengths-long h.sends))
+    c.loop-turn.invariant.read (c.loop-turn.auto.into ∙ c.requires.size) in
     let P : List ℕ → Type 0 = λ hs. AreTransmissions h.kind hs into in
     let Q : List ℕ → Type 0 = λ xs. AreTransmissions h.kind (take turn gs) xs in
     (refl, subst P end.all (subst Q end.whole c.loop-turn.invariant.taken))

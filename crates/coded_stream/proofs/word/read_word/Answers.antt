@@ -35,7 +35,8 @@ sized : (number place : ℕ) (unit : List ℕ) → length unit ≡ 4 → refused
 sized number place unit long = ap (λ (n : ℕ). refused (record { number = number; place = place; size = n; due = 4 })) (sym long)
 
 -- the step is that from the word on
-from_word : (h : Header) (more start payload : ℕ) (unit left input : List ℕ) → length unit ≡ 4 → payload ≡ word unit 0 → input ≡ unit ++ left → step h more start input ≡ word_step h more start payload left
+from_word : (h : Header) (more start payload : ℕ) (unit left input : List ℕ) → length unit ≡ 4 → payload ≡ word unit 0 → input ≡ unit ++ left →
+    step h more start input ≡ word_step h more start payload left
 from_word h more start payload unit left input long value is =
     ap (step h more start) is ∙ step-word h more start unit left long ∙ ap (λ (n : ℕ). word_step h more start n left) (sym value)
 
@@ -52,8 +53,15 @@ returns-then-bytes-header-clause-told g c input is =
     let unit = c.read_unit.new.unit in
     let h = header_of c.args.header.now in
     let t = told_rest _ _ unit input c.in-Whole.ensures.bytes is in
-    let s = from_word h c.args.more c.args.start c.word-bytes.result unit t.left input c.read_unit.auto.unit c.word-bytes.ensures t.input_is in
-    (unit, t.left, 4, t.old_is, t.new_is, s ∙ word-large h c.args.more c.args.start c.word-bytes.result t.left c.if-bytes-eq0.false c.if-more-eq0.false c.if-bytes-header.true ∙ sized 4 c.args.start unit c.read_unit.auto.unit)
+    let s = from_word h c.args.more c.args.start c.word-bytes.result unit t.left input c.read_unit.auto.unit c.word-bytes.ensures t.input_is in (
+      unit,
+      t.left,
+      4,
+      t.old_is,
+      t.new_is,
+      s ∙ word-large h c.args.more c.args.start c.word-bytes.result t.left c.if-bytes-eq0.false c.if-more-eq0.false c.if-bytes-header.true
+          ∙ sized 4 c.args.start unit c.read_unit.auto.unit,
+    )
 
 pub returns-else-bytes-header-clause-told : goal.returns-else-bytes-header-clause-told
 returns-else-bytes-header-clause-told g c input is =

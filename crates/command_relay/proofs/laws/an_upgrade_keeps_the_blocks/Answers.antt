@@ -1,6 +1,6 @@
 use Rattle.std.proofs.Common.{List, ℕ, ◌++◌, ap}
 use Rattle.coded_stream.specs.Header.{word_text}
-use Rattle.command_relay.proofs.Turns.{all_as_read}
+use Rattle.command_relay.proofs.Places.{all_as_read}
 use Rattle.command_relay.proofs.laws.an_upgrade_keeps_the_blocks.Goals as goal
 
 pub returns : goal.returns

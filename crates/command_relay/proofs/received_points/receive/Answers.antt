@@ -5,7 +5,7 @@ use Rattle.qam_points.specs.Constellation.{IsSmall}
 use Rattle.qam_points.specs.Reception.{received_point}
 use Rattle.qam_points.specs.declared.point.Point.{Point}
 use Rattle.command_relay.proofs.Modulation.{received_of}
-use Rattle.command_relay.proofs.receiving.receive.Goals as goal
+use Rattle.command_relay.proofs.received_points.receive.Goals as goal
 
 pub received-requires-clause-small : goal.received-requires-clause-small
 received-requires-clause-small c =

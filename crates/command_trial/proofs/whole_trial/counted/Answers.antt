@@ -5,7 +5,7 @@ use Rattle.command_trial.specs.Shown.{trial_of}
 use Rattle.command_trial.specs.Trials.{added, counted, counts_of, none_counted, payload, AreFew}
 use Rattle.command_trial.specs.declared.counts.Counts.{Counts}
 use Rattle.command_trial.proofs.Sums.{counted-more, counted-none}
-use Rattle.command_trial.proofs.running.counted.Goals as goal
+use Rattle.command_trial.proofs.whole_trial.counted.Goals as goal
 
 none_few : AreFew 0 none_counted
 none_few = record { delivered = omega arith; matched = omega arith; failed = omega arith; transmissions = omega arith; iterations = omega arith }

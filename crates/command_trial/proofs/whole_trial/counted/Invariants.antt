@@ -1,7 +1,7 @@
 use Rattle.std.proofs.Common.{◌≡◌}
 use Rattle.command_trial.specs.Shown.{trial_of}
 use Rattle.command_trial.specs.Trials.{counted, AreFew}
-use Rattle.command_trial.proofs.running.counted.Given as goal
+use Rattle.command_trial.proofs.whole_trial.counted.Given as goal
 
 abbrev pub invariant-loop-block : goal.invariant-loop-block
 invariant-loop-block l = record {

@@ -104,7 +104,8 @@ returns-in-Fails g c =
       ended = λ input is.
           let r = was.reached input is in
           let step = c.in-Ok-round.ensures.step r.rest r.left in
-          let w = wrote (whole input) (g.O.Rounds.Work.answer c.loop-round.work) after old mid new c.in-Ok-round.round c.as_slice.result.now r step c.as_slice.ensures.value c.in_default.ensures.bytes in
+          let w = wrote (whole input) (g.O.Rounds.Work.answer c.loop-round.work) after old mid new c.in-Ok-round.round c.as_slice.result.now r step c.as_slice.ensures.value
+          c.in_default.ensures.bytes in
           failed (whole input) step.0 after r.front _ step.1 old new c.in-Ok-round.round.stop c.in-Fails.status w r.some c.in-Fails.is step.4;
       causes = causes_failing old new mid.reads c.in-Fails.status was.later.reads (subst (StopsBy mid.reads new.reads) c.in-Fails.is c.in-Ok-round.ensures.stops);
       later = later_then old mid new was.later c.round.ensures.later c.put_all.ensures.cause.out_later c.put_all.ensures.cause.report_later;
@@ -122,7 +123,8 @@ loop-round-preserved g c =
       reached = λ input is.
           let r = was.reached input is in
           let step = c.in-Ok-round.ensures.step r.rest r.left in
-          let w = wrote (whole input) (g.O.Rounds.Work.answer c.loop-round.work) after old mid new c.in-Ok-round.round c.as_slice.result.now r step c.as_slice.ensures.value c.in_default.ensures.bytes in
+          let w = wrote (whole input) (g.O.Rounds.Work.answer c.loop-round.work) after old mid new c.in-Ok-round.round c.as_slice.result.now r step c.as_slice.ensures.value
+          c.in_default.ensures.bytes in
           went_on (whole input) step.0 after r.front _ step.1 old new c.in-Ok-round.round.stop w r.some c.in-Go.is step.4;
       ready = c.in-Ok-round.ensures.ready c.in-Go.is;
       later = later_then old mid new was.later c.round.ensures.later c.put_all.ensures.cause.out_later c.put_all.ensures.cause.report_later;

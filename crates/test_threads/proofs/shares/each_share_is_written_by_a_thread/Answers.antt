@@ -36,7 +36,8 @@ sign_all-requires-after_bounds g c = λ κs k d h.
     (let l : k < length shares = subst (λ (xs : List _). k < length xs) e h in omega (arith, l, n)) (ap (λ (xs : List _). get_or xs k d) e))
 
 -- the shares that the threads leave
-signed : (g : _) (c : After-sign_all g) → AreAllOf (name_of c.in_ok-new.field-0) (Interleaved c.expect.result) (take c.split-shares.result.len (c.sign_all.new.shares ++ drop (length c.sign_all.new.shares) c.split-shares.result.items))
+signed : (g : _) (c : After-sign_all g) →
+    AreAllOf (name_of c.in_ok-new.field-0) (Interleaved c.expect.result) (take c.split-shares.result.len (c.sign_all.new.shares ++ drop (length c.sign_all.new.shares) c.split-shares.result.items))
 signed g c =
     let shares = c.split-shares.result.items in let left = c.sign_all.new.shares in
     let e : map share_label left ≡ map share_label shares = c.sign_all.ensures ∙ ap (map share_label) c.as_mut_slice.ensures.value in

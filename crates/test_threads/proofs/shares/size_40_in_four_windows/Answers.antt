@@ -87,7 +87,8 @@ kept g c =
     let shares = c.split-shares.result.items in let s = c.set_at.new.self in let old = c.index_mut.result.now in
     let name = c.set_at.ensures.name in let order = c.set_at.ensures.order in let number = c.set_at.ensures.number in
     let label : share_label s ≡ share_label old = λ i. (name i, (order i, number i)) in
-    still-all (name_of c.in_ok-new.field-0) (Interleaved c.expect.result) shares c.split-shares.ensures.shares _ (map-set_same share_label shares 2 s old (label ∙ ap share_label c.index_mut.ensures.value))
+    still-all (name_of c.in_ok-new.field-0) (Interleaved c.expect.result) shares c.split-shares.ensures.shares _
+    (map-set_same share_label shares 2 s old (label ∙ ap share_label c.index_mut.ensures.value))
 
 pub join-requires : goal.join-requires
 join-requires g c = record { shares = (_, _, kept g (goal.at.join-requires g c).After-set_at) }

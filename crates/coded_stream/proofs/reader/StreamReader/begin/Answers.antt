@@ -3,7 +3,7 @@ use Rattle.std.proofs.lemmas.List.{append-nil, length-append}
 use Rattle.edge_io.proofs.Known.{takes_then}
 use Rattle.edge_io.proofs.Told.{told_rest, told_all}
 use Rattle.coded_stream.specs.Header.{Header, kind_code}
-use Rattle.coded_stream.specs.Opening.{is_wanted, version_of, first_size, count_in, sending_size, second_opening, opening, unless, opens}
+use Rattle.coded_stream.specs.Opening.{is_wanted, version_of, first_size, count_in, described_size, second_opening, opening, unless, opens}
 use Rattle.coded_stream.specs.Steps.{opening_due}
 use Rattle.coded_stream.proofs.Passed.{fields-passed, code-of_kind}
 use Rattle.coded_stream.proofs.OpeningSteps.{same_refuses, second-due, first-short, first-due}
@@ -69,7 +69,8 @@ returns-in-Bad-read_second-clause-begins g c input is =
       w.4,
       by-second v c.args.want unit t.left input _ _ u t.input_is c.in-Good.ensures.0
           ∙ w.5
-          ∙ same_refuses c.in-Bad-read_second.number c.in-Bad-read_second.place c.in-Bad-read_second.place (first_size v + length w.0) (length (unit ++ w.0)) w.2 w.2 refl (omega (arith, length-append unit w.0, long)) refl,
+          ∙ same_refuses c.in-Bad-read_second.number c.in-Bad-read_second.place c.in-Bad-read_second.place (first_size v + length w.0) (length (unit ++ w.0)) w.2 w.2 refl
+          (omega (arith, length-append unit w.0, long)) refl,
     )
 
 pub returns-in-Fault-read_second-clause-begins : goal.returns-in-Fault-read_second-clause-begins
@@ -82,7 +83,7 @@ returns-in-Fault-read_second-clause-begins g c input is =
     let long : length unit ≡ first_size v = u.long in
     let r = told_rest _ _ w.0 t.left w.1 t.new_is in
     let came : length w.0 ≤ length t.left = omega (arith, ap length r.input_is, length-append w.0 r.left) in
-    let less : length w.0 < count_in v unit * sending_size v = w.2 in
+    let less : length w.0 < count_in v unit * described_size v = w.2 in
     let all : length (unit ++ w.0) ≡ first_size v + length w.0 = omega (arith, length-append unit w.0, long) in
     let due = second-due v unit t.left (first_size v + length w.0) (omega (arith, less)) (omega (arith, came)) in (
       unit ++ w.0,
@@ -100,9 +101,9 @@ returns-in-Good-read_second-clause-begins g c input is =
     let long : length unit ≡ first_size v = u.long in
     let good = c.in-Good.ensures in
     let sends = c.in-Good-read_second.sends in
-    let second : length w.0 ≡ count_in v unit * sending_size v = w.4 in
-    let second_is : c.second_size.result ≡ count_in v unit * sending_size v = c.second_size.ensures.value ∙ ap (λ (n : ℕ). n * sending_size v) good.3 in
-    let counted : c.first_size-in-Good-read_second.result + c.second_size.result ≡ first_size v + count_in v unit * sending_size v =
+    let second : length w.0 ≡ count_in v unit * described_size v = w.4 in
+    let second_is : c.second_size.result ≡ count_in v unit * described_size v = c.second_size.ensures.value ∙ ap (λ (n : ℕ). n * described_size v) good.3 in
+    let counted : c.first_size-in-Good-read_second.result + c.second_size.result ≡ first_size v + count_in v unit * described_size v =
     (λ i. c.first_size-in-Good-read_second.ensures.value i + second_is i) in (
       unit ++ w.0,
       w.1,
@@ -142,7 +143,8 @@ returns-in-Good-read_second-clause-accepted g c =
     record {
       kind = ap (λ k. is_wanted c.args.want (kind_code k)) c.of.ensures ∙ ap (is_wanted c.args.want) (code-of_kind c.args.want (slice_index unit 4) passed.kind) ∙ passed.kind;
       header = header-accepted v c.of.result unit c.in-Good.tb c.in-Good-read_second.sends ok are;
-      place = place-is h unit c.first_size-in-Good-read_second.result c.second_size.result are c.first_size-in-Good-read_second.ensures.value (c.second_size.ensures.value ∙ ap (λ (n : ℕ). n * sending_size v) good.3);
+      place = place-is h unit c.first_size-in-Good-read_second.result c.second_size.result are c.first_size-in-Good-read_second.ensures.value
+          (c.second_size.ensures.value ∙ ap (λ (n : ℕ). n * described_size v) good.3);
       blocks = refl;
       live = refl;
     }

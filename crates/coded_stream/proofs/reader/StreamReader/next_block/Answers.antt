@@ -31,7 +31,8 @@ returns-in-Fault-clause-goes_on g c input is =
     let r = c.self.inside in
     let w = c.in-Fault.ensures.told input is in
     let few = w.2 in
-    let same : body_due (remaining c.args.self.now input) ≡ body_due (body (header_of r.header) (4096 - r.blocks) r.place input) = ap (λ (s : Reading). body_due (remaining s input)) (sym c.self.view_is) in
+    let same : body_due (remaining c.args.self.now input) ≡ body_due (body (header_of r.header) (4096 - r.blocks) r.place input) = ap (λ (s : Reading). body_due (remaining s input))
+    (sym c.self.view_is) in
     (w.0, w.1, omega (arith, few, same, body-due (header_of r.header) (4096 - r.blocks) r.place input))
 
 pub returns-in-Block-clause-goes_on : goal.returns-in-Block-clause-goes_on
@@ -52,7 +53,9 @@ returns-in-Block-clause-goes_on g c input is =
       omega (arith, size, ap length kept),
       ap (λ (s : Reading). remaining s input) (sym c.self.view_is)
           ∙ body-block h (4096 - r.blocks) r.place input (record { payload = c.in-Block.payload; bytes = into }) w.1 room w.5
-          ∙ ap (λ (n : ℕ). onto (record { payload = c.in-Block.payload; bytes = into }) (body h n (next_start r.place (record { payload = c.in-Block.payload; bytes = into })) w.1)) (let e : 4096 - r.blocks - 1 ≡ 4096 - (r.blocks + 1) = omega arith in e)
-          ∙ ap (λ (p : ℕ). onto (record { payload = c.in-Block.payload; bytes = into }) (body h (4096 - (r.blocks + 1)) p w.1)) (let e : r.place + (4 + length into) ≡ r.place + (4 + c.block_size-total.result) = omega (arith, long, total) in e)
+          ∙ ap (λ (n : ℕ). onto (record { payload = c.in-Block.payload; bytes = into }) (body h n (next_start r.place (record { payload = c.in-Block.payload; bytes = into })) w.1))
+          (let e : 4096 - r.blocks - 1 ≡ 4096 - (r.blocks + 1) = omega arith in e)
+          ∙ ap (λ (p : ℕ). onto (record { payload = c.in-Block.payload; bytes = into }) (body h (4096 - (r.blocks + 1)) p w.1))
+          (let e : r.place + (4 + length into) ≡ r.place + (4 + c.block_size-total.result) = omega (arith, long, total) in e)
           ∙ ap (λ (xs : List ℕ). onto (record { payload = c.in-Block.payload; bytes = xs }) (body h (4096 - (r.blocks + 1)) (r.place + (4 + c.block_size-total.result)) w.1)) (sym kept),
     )

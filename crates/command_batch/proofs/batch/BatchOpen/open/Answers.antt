@@ -15,7 +15,8 @@ returns-in-Ok-clause-opens g c report reports =
     let old = told (g.S.Source.left c.args.source.now) out report (g.S.Source.faults c.args.source.now) (g.D.Sink.faults c.args._out.now) reports in
     let new = told (g.S.Source.left c.begin.new.source) out report (g.S.Source.faults c.begin.new.source) (g.D.Sink.faults c.args._out.now) reports in
     record {
-      opens = λ input is. opened_batch (effort_of c.args.self.effort) (g.R.Runner.pipes c.args.self.runner) c.in-Ok.reader input old new (c.in-Ok.ensures.begins input is) c.in-Ok.ensures.accepted (adds_none out) (adds_none report);
+      opens = λ input is. opened_batch (effort_of c.args.self.effort) (g.R.Runner.pipes c.args.self.runner) c.in-Ok.reader input old new (c.in-Ok.ensures.begins input is) c.in-Ok.ensures.accepted
+          (adds_none out) (adds_none report);
       causes = tt;
       later = record { reads = c.begin.ensures.later; outs = omega arith; reports = omega arith };
     }

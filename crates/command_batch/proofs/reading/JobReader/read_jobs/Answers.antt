@@ -49,7 +49,8 @@ loop-preserved g c =
       count = omega (arith, ap length pushed, one, l.invariant.count);
       within = omega (arith, ap (λ (x : Reading). x.blocks) moved.2, moved.0);
       jobs = let P : List BlockJob → Type 0 = λ xs. All (IsJobOf (effort_of c.args.self.now.effort) r.header) xs in
-          subst P (sym pushed) (All-append (IsJobOf (effort_of c.args.self.now.effort) r.header) l.jobs.items (job ∷ []) l.invariant.jobs (All-cons (IsJobOf (effort_of c.args.self.now.effort) r.header) job [] same (All-nil (IsJobOf (effort_of c.args.self.now.effort) r.header))));
+          subst P (sym pushed) (All-append (IsJobOf (effort_of c.args.self.now.effort) r.header) l.jobs.items (job ∷ []) l.invariant.jobs
+          (All-cons (IsJobOf (effort_of c.args.self.now.effort) r.header) job [] same (All-nil (IsJobOf (effort_of c.args.self.now.effort) r.header))));
       room = omega (arith, c.push_reserved.ensures.capacity, l.invariant.room);
       later = omega (arith, c.read_job.ensures.later, l.invariant.later);
     }

@@ -31,7 +31,8 @@ returns-in_err-parts-clause-step g c input told =
     let some : 1 ≤ g.R.Runner.pipes s.runner = omega (arith, c.pipes-most.ensures.some, c.pipes-most.ensures.value) in
     let p = err_from_is_err_and c.from_residual.result c.from_residual.ensures.1 in
     rw (p.1, p.2)
-    (starved_round (effort_of s.jobs.effort) (g.R.Runner.pipes s.runner) s.failed s.jobs.reader read.new.self.reader input read.new.jobs.items (g.S.Source.left c.args.source.now) (g.S.Source.left read.new.source) read.result
+    (starved_round (effort_of s.jobs.effort) (g.R.Runner.pipes s.runner) s.failed s.jobs.reader read.new.self.reader input read.new.jobs.items (g.S.Source.left c.args.source.now)
+    (g.S.Source.left read.new.source) read.result
     some read.ensures.jobs (read.ensures.comes input told) counts)
 
 pub overflow_add-self : goal.overflow_add-self
@@ -57,7 +58,8 @@ returns-in_err-stop-clause-step g c input told =
     let some : 1 ≤ g.R.Runner.pipes s.runner = omega (arith, c.pipes-most.ensures.some, c.pipes-most.ensures.value) in
     let p = err_from_is_err_and c.from_residual-in_err-stop.result c.from_residual-in_err-stop.ensures.1 in
     rw (p.1, p.2)
-    (starved_round (effort_of s.jobs.effort) (g.R.Runner.pipes s.runner) s.failed s.jobs.reader read.new.self.reader input read.new.jobs.items (g.S.Source.left c.args.source.now) (g.S.Source.left read.new.source) read.result
+    (starved_round (effort_of s.jobs.effort) (g.R.Runner.pipes s.runner) s.failed s.jobs.reader read.new.self.reader input read.new.jobs.items (g.S.Source.left c.args.source.now)
+    (g.S.Source.left read.new.source) read.result
     some read.ensures.jobs (read.ensures.comes input told) counts)
 
 pub returns-clause-step : goal.returns-clause-step
@@ -75,7 +77,8 @@ returns-clause-step g c input told =
     let made = c.in_ok-parts.ensures.parts ∙ ap (job_parts c.blocks-first.result) c.as_slice.ensures.value ∙ ap (λ (n : ℕ). job_parts n jobs) c.blocks-first.ensures in
     let N : ℕ → Type 0 = λ n. StopsAs e r.header n failed read.result c.in_ok-stop.stop in
     let stops = subst N c.blocks-2.ensures (c.in_ok-stop.ensures e r.header) in
-    let G : rust.Effort → Reading → Type 0 = λ x t. Gives (batch_ahead e (g.R.Runner.pipes s.runner) r s.failed input) (batch_ahead (effort_of x) (g.R.Runner.pipes s.runner) t failed) source left round in
+    let G : rust.Effort → Reading → Type 0 =
+    λ x t. Gives (batch_ahead e (g.R.Runner.pipes s.runner) r s.failed input) (batch_ahead (effort_of x) (g.R.Runner.pipes s.runner) t failed) source left round in
     let gives : G s.jobs.effort read.new.self.reader =
     gives_round e (g.R.Runner.pipes s.runner) s.failed failed r read.new.self.reader input jobs source left read.result round read.ensures.jobs (read.ensures.comes input told) read.ensures.passes
     (ap (λ (n : ℕ). s.failed + n) counted) made stops in

@@ -1,5 +1,5 @@
 use Rattle.command_relay.proofs.HardBits.{hard_alone}
-use Rattle.command_relay.proofs.channel.ChannelTransmitter.push.Goals as goal
+use Rattle.command_relay.proofs.channel.ChannelConverter.push.Goals as goal
 
 pub bits_in-requires : goal.bits_in-requires
 bits_in-requires c =

@@ -24,7 +24,7 @@ receive-requires-clause-small c =
 
 pub receive-requires-clause-two : goal.receive-requires-clause-two
 receive-requires-clause-two c =
-    let t : Transmission = record { seed = c.args.self.now.channel.seed; block = c.args.turn.block; number = c.args.turn.number } in
+    let t : Transmission = record { seed = c.args.self.now.channel.seed; block = c.args.place.block; number = c.args.place.number } in
     ap length (c.as_slice-2.ensures ∙ c.in_ok-terms.ensures.value)
     ∙ (length_noise_terms c.args.self.now.channel.noise t (2 * length c.as_slice.result.now)
     ∙ ap (λ (xs : List Point). 2 * length xs) (c.as_slice.ensures ∙ sym c.as_mut_slice.ensures.value))
@@ -49,7 +49,7 @@ returns c =
     let m = c.args.m.now in
     let amp = c.args.self.now.channel.amp in
     let bits = c.args.bits.now in
-    let t : Transmission = record { seed = c.args.self.now.channel.seed; block = c.args.turn.block; number = c.args.turn.number } in
+    let t : Transmission = record { seed = c.args.self.now.channel.seed; block = c.args.place.block; number = c.args.place.number } in
     let noise : ℕ → List ℤ = λ count. noise_terms c.args.self.now.channel.noise t count in
     let sent : c.in_ok-points.points ≡ mapped m.qm bits = c.in_ok-points.ensures ∙ ap (λ (q : ℕ). mapped q bits) c.qm.ensures.value in
     let count = ap (λ (xs : List Point). 2 * length xs) c.as_slice.ensures ∙ terms_needed m bits c.in_ok-points.points c.requires sent in

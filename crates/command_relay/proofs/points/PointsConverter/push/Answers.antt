@@ -1,6 +1,6 @@
 use Rattle.std.proofs.Common.{length, ap, ◌∙◌}
 use Rattle.command_relay.proofs.HardBits.{hard_alone, length_bits}
-use Rattle.command_relay.proofs.points.PointsTransmitter.push.Goals as goal
+use Rattle.command_relay.proofs.points.PointsConverter.push.Goals as goal
 
 pub bits_in-requires : goal.bits_in-requires
 bits_in-requires c =

@@ -47,7 +47,8 @@ returns-clause-opens g c report reports =
     let H : Header → Type 0 = λ h. option_map header_of c.header-2.result ≡ w.header h in
     let same = ap opening_text (subst H c.header.ensures c.header-2.ensures) in
     record {
-      opens = λ input is. opened_stream w c.want.result c.in-Ok.reader input old new c.want.ensures (c.in-Ok.ensures.begins input is) c.in-Ok.ensures.accepted (subst (λ (t : List ℕ). Adds old.out new.out t) same c.in_default.ensures.ok) (adds_none report);
+      opens = λ input is. opened_stream w c.want.result c.in-Ok.reader input old new c.want.ensures (c.in-Ok.ensures.begins input is) c.in-Ok.ensures.accepted
+          (subst (λ (t : List ℕ). Adds old.out new.out t) same c.in_default.ensures.ok) (adds_none report);
       causes = tt;
       later = record { reads = c.begin.ensures.later; outs = c.write_opening.ensures.cause.later; reports = omega arith };
     }

@@ -9,7 +9,7 @@ use Rattle.turbo_run.specs.Encode.{blocks_answer}
 use Rattle.turbo_run.specs.EncodeRounds.{IsLast, IsOfBlock}
 use Rattle.turbo_run.specs.Input.{IsInput}
 use Rattle.turbo_run.specs.declared.input.Input.{Input}
-use Rattle.turbo_run.proofs.EncodeSteps.{gives_last, gives_whole, step_behind_all, stopped_last, stopped_unread, stopped_whole}
+use Rattle.turbo_run.proofs.EncodeSteps.{gives_last, gives_whole, step_after_all_blocks, stopped_last, stopped_unread, stopped_whole}
 use Rattle.turbo_run.proofs.encode.EncodeRoundsWork.round.Goals as goal
 
 pub returns-then-self-eq0-clause-step : goal.returns-then-self-eq0-clause-step
@@ -19,11 +19,11 @@ returns-then-self-eq0-clause-step g c input told =
     let none = c.if-self-eq0.true in
     let most = s.most in
     let some = s.header.some in
-    let new = g.S.Source.left c.behind_all.new.source in
-    let P : ℕ → Type 0 = λ n. Steps (blocks_answer h n s.count input) (blocks_answer h s.more s.count) (g.S.Source.left c.args.source.now) new c.behind_all.result in
+    let new = g.S.Source.left c.after_all_blocks.new.source in
+    let P : ℕ → Type 0 = λ n. Steps (blocks_answer h n s.count input) (blocks_answer h s.more s.count) (g.S.Source.left c.args.source.now) new c.after_all_blocks.result in
     subst P (sym none)
-    (step_behind_all h s.count input (blocks_answer h s.more s.count) _ new c.behind_all.result
-    c.behind_all.ensures.bytes (omega (arith, most, none)) (omega (arith, some)) told)
+    (step_after_all_blocks h s.count input (blocks_answer h s.more s.count) _ new c.after_all_blocks.result
+    c.after_all_blocks.ensures.bytes (omega (arith, most, none)) (omega (arith, some)) told)
 
 pub returns-in_err-payload-clause-step : goal.returns-in_err-payload-clause-step
 returns-in_err-payload-clause-step g c input told =
