@@ -4,4 +4,4 @@ mod FilledCells
 mod FourSteps
 mod FourWritten
 mod Coders
-mod Halves
+mod Quarters
