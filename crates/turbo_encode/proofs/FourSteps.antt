@@ -165,11 +165,11 @@ cells_more xs ys four old new cells is before push made =
 
 -- ---- sizes are whole
 
-eights : list_all (λ k. k % 4 == 0) sizes ≡ true
+eights : list_all (λ k. k % 8 == 0) sizes ≡ true
 unfolding sizes
 eights = refl
 
-pub size-whole : (k : ℕ) → Contains sizes k → k % 4 ≡ 0
+pub size-whole : (k : ℕ) → Contains sizes k → k % 8 ≡ 0
 size-whole k inside =
-    let P : ℕ → Type 0 = λ n. (n % 4 == 0) ≡ true in
-    eqb-true (k % 4) 0 (subst P inside.2 (AllPass-from_list_all (λ k. k % 4 == 0) sizes eights inside.0 k inside.1))
+    let P : ℕ → Type 0 = λ n. (n % 8 == 0) ≡ true in
+    eqb-true (k % 8) 0 (subst P inside.2 (AllPass-from_list_all (λ k. k % 8 == 0) sizes eights inside.0 k inside.1))

@@ -4,3 +4,4 @@ mod FilledCells
 mod FourSteps
 mod FourWritten
 mod Coders
+mod Quarters

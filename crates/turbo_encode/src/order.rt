@@ -1,12 +1,68 @@
 //! The order in which the second coder takes a block's bits (36.212 5.1.3.2.3).
-ghost use Rattle.std.specs.Prelude.{◌≡◌, Contains, IfOk, map};
+ghost use Rattle.std.specs.Prelude.{◌≡◌, ℕ, ◌+◌, ◌%◌, ◌<◌, ◌≤◌, Contains, IfOk, length, map, slice_index};
 ghost use Rattle.std.specs.List.{range_with_len};
 ghost use Rattle.model_sender.specs.Interleaver.{place, sizes};
 
 use lte_bits::NoMemory;
-use qpp_table::addresses;
+use qpp_table::{Walk, qpp};
 use std::alloc::Global;
 use std::marker::Model;
+
+/// The place that lies `apart` further, round a block of `k` bits.
+fn further(k: u16, place: u16, apart: u16) -> u16
+    requires few { k ≤ 6144 }
+    requires place { place < k }
+    requires apart { apart < k }
+    ensures { result ≡ (place + apart) % k }
+{
+    let sum = place + apart;
+    if sum < k { sum } else { sum - k }
+}
+
+/// Writes the first `count` places of the order.
+fn write_first(places: &mut [u16], count: usize)
+    requires size { Contains sizes (length places.old) }
+    requires room { count ≤ length places.old }
+    ensures { (j : ℕ) → j < count → slice_index places.new j ≡ place (length places.old) j }
+{
+    let k = places.len();
+    let interleaver = qpp(k).unwrap();
+    let mut walk = Walk::new(k, interleaver.f1(), interleaver.f2());
+    for i in 0..count {
+        places[i] = walk.place as u16;
+        walk = walk.next();
+    }
+}
+
+/// Writes as many places again as there are, `count`. They lie `apart` further round the block.
+fn write_further(places: &mut [u16], count: usize, apart: usize)
+    requires size { Contains sizes (length places.old) }
+    requires room { count + count ≤ length places.old }
+    requires apart { apart < length places.old }
+    requires further { (i : ℕ) → place (length places.old) (count + i)
+        ≡ (place (length places.old) i + apart) % length places.old }
+    requires written { (j : ℕ) → j < count → slice_index places.old j ≡ place (length places.old) j }
+    ensures { (j : ℕ) → j < count + count → slice_index places.new j ≡ place (length places.old) j }
+{
+    let k = places.len() as u16;
+    for i in 0..count {
+        places[count + i] = further(k, places[i], apart as u16);
+    }
+}
+
+/// Writes the places from which a block takes its bits. Since f2 is even and K a multiple of eight, those
+/// a quarter of a block apart take theirs from places of a fixed distance.
+fn write_places(places: &mut [u16])
+    requires { Contains sizes (length places.old) }
+    ensures { places.new ≡ map (place (length places.old)) (range_with_len 0 (length places.old)) }
+{
+    let k = places.len();
+    let quarter = k / 4;
+    let f1 = qpp(k).unwrap().f1();
+    write_first(places, quarter);
+    write_further(places, quarter, f1 * quarter % k);
+    write_further(places, 2 * quarter, f1 * (2 * quarter) % k);
+}
 
 /// The places from which the second coder takes its bits, one after the other, for code blocks of one
 /// size. Contracts see the size.
@@ -34,7 +90,7 @@ impl Order {
         ensures { IfOk result (λ order. order ≡ k) }
     {
         let mut places = vec![in alloc; 0u16; k]?;
-        addresses(k, places.as_mut_slice());
+        write_places(places.as_mut_slice());
         Ok(Order { places })
     }
 
