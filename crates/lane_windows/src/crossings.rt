@@ -108,16 +108,17 @@ fn put_window<const N: usize>(windows: &mut [u8; N], bank: u8, t: u8)
     }
 }
 
-/// The window of each bank.
-fn turned<const N: usize>(banks: &[u8; N]) -> [u8; N]
+/// Leaves the window of each bank. They are written where they stay: read back whole from a local, they would
+/// wait for their single bytes.
+fn turn<const N: usize>(banks: &[u8; N], windows: &mut [u8; N])
     requires { IsLaneCount N }
-    ensures { IsTurned N banks.now result }
+    ensures { IsTurned N banks.now windows.new }
 {
-    let mut windows = [0; N];
+    let first = [0; N];
+    *windows = first;
     for t in 0..N {
-        put_window(&mut windows, banks[t], t as u8);
+        put_window(windows, banks[t], t as u8);
     }
-    windows
 }
 
 impl<const N: usize> Crossings<N> {
@@ -146,7 +147,7 @@ impl<const N: usize> Crossings<N> {
         ensures banks { self.new.banks.items ≡ slice_set self.old.banks.items j banks.entry }
     {
         self.rows[j] = row;
-        self.windows[j] = turned(&banks);
+        turn(&banks, &mut self.windows[j]);
         self.banks[j] = banks;
     }
 
