@@ -111,10 +111,6 @@ same-by_banks n w xs ys some ex ey same =
 pub bank-below : (n w b r i : ℕ) → b * w + r ≡ i → r < w → i < n * w → b < n
 bank-below n w b r i e lr lt = let d = div_below i w n (omega (arith, lr)) lt in let q = div-mul-add b w r lr in omega (arith, d, q, ap (λ (k : ℕ). k / w) e)
 
--- the place after the last of a bank
-pub next-place : (w b r i : ℕ) → b * w + r ≡ i → r + 1 ≡ w → (b + 1) * w + 0 ≡ i + 1
-next-place w b r i e er = let s : (b + 1) * w ≡ b * w + w = omega arith in omega (arith, s, e, er)
-
 -- ---- the decided bit of a place
 
 pub bit-at : (fill i : ℕ) (cells : List Extrinsic) → i < length cells

@@ -26,7 +26,7 @@ places_differ (Interleaved q) k i j e li lj same = values_differ q i j (subst (�
 divides : (n w k : ℕ) → k ≡ n * w → w ∣ k
 divides n w k e = subst (λ (x : ℕ). w ∣ x) ((let s : w * n ≡ n * w = omega arith in s) ∙ sym e) (dvd-mul_right w n)
 
--- the cells of a step stand in one row
+-- the cells of a step are in one row
 pub one-row : (order : Order) (n w t j : ℕ) → IsOrderOf (n * w) order → t < n → j < w → place_of (place_in order) w t j % w ≡ row_of_step order w j
 one-row Natural n w t j e lt lj = mod-mul-add t w j lj ∙ (sym (mod-mul-add 0 w j lj) ∙ ap (λ (k : ℕ). k % w) (let s : 0 * w + j ≡ j = omega arith in s))
 one-row (Interleaved q) n w t j e lt lj = rows t lt
@@ -77,7 +77,7 @@ module _ (order : Order) (n w j : ℕ) (e : IsOrderOf (n * w) order) (lj : j < w
   made-by_crossbar banks r eb er t lt =
       ap (λ (b : ℕ). b * w + r) (banks-at banks eb t lt) ∙ (ap (λ (k : ℕ). (place_of (place_in order) w t j / w) * w + k) er ∙ place-made t lt)
 
--- different positions stand at different places
+-- different positions are at different places
 pub order-apart : (order : Order) (n w : ℕ) → IsOrderOf (n * w) order → AreApart n w (place_in order)
 order-apart order n w e i j li lj same = places_differ order (n * w) i j e li lj same
 

@@ -1,19 +1,15 @@
 -- Rows brought into the order of the windows, and put back, step after step.
 use Rattle.std.proofs.Common.{◌≡◌, ℕ, ◌+◌, ◌*◌, ◌<◌, ◌≤◌, ℤ, List, [], length, get_or, set, sym, ap, ◌∙◌, subst, arith, inl, inr, get_or-set_other, get_or-set_same}
-use Rattle.std.specs.Prelude.{slice_index, slice_index_or}
+use Rattle.std.specs.Prelude.{slice_index}
 use Rattle.std.proofs.lemmas.Bool.{cases_eq}
 use Rattle.std.proofs.lemmas.List.{get_or_default}
 use Rattle.std.proofs.lemmas.Nat.{same_from_place}
 use Rattle.model_receiver.specs.Borders.{at}
 use Rattle.lane_windows.specs.Banks.{number_in}
-use Rattle.lane_windows.specs.Crossings.{place_of, IsTable, AreApart}
+use Rattle.lane_windows.specs.Crossings.{place_of, bank_at, IsTable, AreApart}
 use Rattle.lane_windows.proofs.BankCells.{place-inside}
 use Rattle.lane_windows.proofs.BankRows.{read-number}
 use Rattle.lane_windows.proofs.Columns.{number-in_same, number-in_other}
-
--- the bank of window t at step j
-abbrev pub bank_at : List (List ℕ) → ℕ → ℕ → ℕ
-bank_at banks j t = slice_index (slice_index_or banks j []) t
 
 -- a bank of a row that was read
 pub read-bank : (banks : List (List ℕ)) (j t : ℕ) (row : List ℕ) → j < length banks → row ≡ get_or banks j row → slice_index row t ≡ bank_at banks j t

@@ -1,5 +1,6 @@
 -- The cells of all windows at one step, and the banks in which they stand.
-use Rattle.std.specs.Prelude.{◌≡◌, ℕ, ◌+◌, ◌*◌, ◌/◌, ◌%◌, ◌<◌, List, [], length, map, slice_index, slice_index_or}
+use Rattle.std.specs.Prelude.{◌≡◌, ℕ, ◌+◌, ◌*◌, ◌/◌, ◌%◌, ◌<◌, List, []}
+use Rattle.std.specs.Prelude.{length, map, slice_index, slice_index_or}
 use Rattle.std.specs.List.{range_with_len}
 use Rattle.cell_shares.specs.declared.order.Order.{Order}
 use Rattle.cell_shares.specs.Orders.{place_in}
@@ -35,7 +36,12 @@ pub record IsTurned (n : ℕ) (banks windows : List ℕ) : Type 0 where
 
 -- the same at each step
 abbrev pub AreTurned : (n : ℕ) → (banks windows : List (List ℕ)) → Type 0
-AreTurned n banks windows = (j : ℕ) → j < length banks → IsTurned n (slice_index_or banks j []) (slice_index_or windows j [])
+AreTurned n banks windows = (j : ℕ) → j < length banks
+    → IsTurned n (slice_index_or banks j []) (slice_index_or windows j [])
+
+-- the bank of window t at step j
+abbrev pub bank_at : List (List ℕ) → ℕ → ℕ → ℕ
+bank_at banks j t = slice_index (slice_index_or banks j []) t
 
 -- the row and the banks of each of w steps, where n windows w wide have their positions at these places
 pub record IsTable (n w : ℕ) (place : ℕ → ℕ) (rows : List ℕ) (banks : List (List ℕ)) : Type 0 where
@@ -44,6 +50,6 @@ pub record IsTable (n w : ℕ) (place : ℕ → ℕ) (rows : List ℕ) (banks : 
   pub stands : (j t : ℕ) → j < w → t < n
       → slice_index (slice_index_or banks j []) t * w + slice_index rows j ≡ place_of place w t j
 
--- different positions of n windows w wide stand at different places
+-- different positions of n windows w wide are at different places
 abbrev pub AreApart : (n w : ℕ) → (ℕ → ℕ) → Type 0
 AreApart n w place = (i j : ℕ) → i < n * w → j < n * w → place i ≡ place j → i ≡ j

@@ -1,4 +1,4 @@
--- Windows whose cells stand in banks.
+-- Windows whose cells are in banks.
 use Rattle.std.specs.Prelude.{◌≡◌, ℕ, ◌*◌, ◌<◌, ℤ, List, length, map}
 use Rattle.std.specs.List.{range_with_len}
 use Rattle.model_receiver.specs.Borders.{Border, at}
@@ -26,7 +26,7 @@ window_of_rows w place from to sys par cells t =
     window_between (border_at from t) (border_at to t) (column t sys) (column t par)
     (cells_of_window w place cells t)
 
--- n windows w wide, whose positions stand at these places, have run: their new cells and the borders that they
+-- n windows w wide, whose positions are at these places, have run: their new cells and the borders that they
 -- leave
 pub record HaveRun
     (n w : ℕ) (place : ℕ → ℕ) (from to : List Border) (sys par : List (List ℤ))

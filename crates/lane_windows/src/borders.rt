@@ -51,8 +51,8 @@ fn end_of(left: &[BordersLeft], tail: Border, t: usize) -> Border
     }
 }
 
-/// Takes the borders that so many windows left: each window starts with the forward one of the window before, the first
-/// with the known border; it ends with the backward one of the next window, the last with the tail's.
+/// Takes the borders that so many windows left: each window starts with the forward one of the window before,
+/// the first with the known border; it ends with the backward one of the next window, the last with the tail's.
 pub fn take_left(
     windows: usize,
     left: &[BordersLeft],
@@ -66,7 +66,8 @@ pub fn take_left(
     ensures from { (t : ℕ) → t < length left.now
         → border_at from.new t ≡ start_border (start_of [] left.now) t }
     ensures to { (t : ℕ) → t < length left.now
-        → border_at to.new t ≡ if t + 1 == length left.now then tail else (left_by left.now (t + 1)).backward }
+        → border_at to.new t
+        ≡ if t + 1 == length left.now then tail else (left_by left.now (t + 1)).backward }
 {
     let mut start = Border::known();
     for t in 0..windows {
@@ -81,7 +82,8 @@ pub fn take_left(
 pub fn leave(ahead: &[Border], back: &[Border], left: &mut [BordersLeft])
     requires ahead { length ahead.now ≡ length left.old }
     requires back { length back.now ≡ length left.old }
-    ensures { left.new ≡ map (λ t. record { forward = border_at ahead.now t; backward = border_at back.now t })
+    ensures { left.new
+        ≡ map (λ t. record { forward = border_at ahead.now t; backward = border_at back.now t })
         (range_with_len 0 (length left.old)) }
 {
     for (t, left) in left.iter_mut().enumerate() {

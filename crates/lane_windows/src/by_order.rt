@@ -6,16 +6,16 @@ ghost use Rattle.lock_step.specs.Lanes.{border_at, AreWithin, IsLaneCount};
 ghost use Rattle.lane_windows.specs.Lanes.{cells_of_window, window_of, HaveRun};
 
 use crate::banks::Banks;
+use crate::crossed::{run_crossed, run_straight};
 use crate::crossings::Crossings;
 use crate::places::follow;
 use crate::rows::lay_front;
-use crate::running::{run_crossed, run_straight};
 use crate::work::{Engine, LaneWork};
 use cell_shares::Order;
 use lte_bits::Soft;
 use window_decode::Border;
 
-/// Decodes N windows whose positions stand at the places of an order.
+/// Decodes N windows whose positions are at the places of an order.
 fn run_in_order<const N: usize>(
     engine: &mut Engine<N>,
     crossings: &mut Crossings<N>,
@@ -57,9 +57,9 @@ fn run_in_order<const N: usize>(
     }
 }
 
-/// Decodes N windows of W positions in lock step between their borders: leaves the new cells in the banks, and the
-/// borders that each window leaves, the forward one in `ahead` and the backward one in `back`. `sys` and `par` have
-/// the N*W values by position. An interleaved order has N*W places, and the work has room for W.
+/// Decodes N windows of W positions in lock step between their borders: leaves the new cells in the banks, and
+/// the borders that each window leaves, the forward one in `ahead` and the backward one in `back`. `sys` and
+/// `par` have the N*W values by position. An interleaved order has N*W places, and the work has room for W.
 pub fn run_lock_step<const N: usize>(
     work: &mut LaneWork<N>,
     order: &Order,

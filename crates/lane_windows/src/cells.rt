@@ -1,5 +1,6 @@
 //! Cells as numbers: a value, and a sum that is negative exactly where the decided bit is 1.
-ghost use Rattle.std.specs.Prelude.{◌≡◌, ℕ, ◌+◌, ◌*◌, ◌<◌, ◌≤◌, pos, int_lt, length, nat_lt, slice_index_or, if◌then◌else◌};
+ghost use Rattle.std.specs.Prelude.{◌≡◌, ℕ, ◌+◌, ◌*◌, ◌<◌, ◌≤◌, pos, int_lt, length};
+ghost use Rattle.std.specs.Prelude.{nat_lt, slice_index_or, if◌then◌else◌};
 ghost use Rattle.lte_bits.specs.Softs.{IsWithin};
 ghost use Rattle.lte_bits.specs.declared.bit.Bit.TheVariants.{Zero};
 ghost use Rattle.model_receiver.specs.Borders.{at};

@@ -1,17 +1,17 @@
 //! Rows brought from the order of the banks into that of the windows, and back.
-ghost use Rattle.std.specs.Prelude.{◌≡◌, ℕ, ◌+◌, ◌*◌, ◌<◌, ◌≤◌, [], IfOk, length, slice_index, slice_index_or, slice_set};
+ghost use Rattle.std.specs.Prelude.{◌≡◌, ℕ, ◌<◌, ◌≤◌, IfOk, length, slice_index, slice_set};
 ghost use Rattle.lte_bits.specs.Softs.{IsWithin};
 ghost use Rattle.model_receiver.specs.Borders.{at};
 ghost use Rattle.lock_step.specs.Lanes.{IsLaneCount, AreWithin};
 ghost use Rattle.lane_windows.specs.Banks.{number_in};
-ghost use Rattle.lane_windows.specs.Crossings.{AreDistinct, IsTurned, AreTurned, IsTable, AreApart};
+ghost use Rattle.lane_windows.specs.Crossings.{bank_at, AreDistinct, IsTurned, AreTurned, IsTable, AreApart};
 
 use crate::shuffles::shuffle;
 use crate::zeros::zero_banks;
 use lte_bits::NoMemory;
 use std::alloc::Global;
 
-/// The row and the banks in which the cells of N windows stand at each step, and the window of each bank.
+/// The row and the banks in which the cells of N windows are at each step, and the window of each bank.
 #[derive(Drop)]
 pub struct Crossings<const N: usize> {
     pub rows: Vec<u16>,
@@ -60,7 +60,8 @@ fn put_each<const N: usize>(from: &[i16; N], banks: &[u8; N], to: &mut [i16; N])
     requires below { (t : ℕ) → t < N → slice_index banks.now t < N }
     requires apart { (t u : ℕ) → t < N → u < N → slice_index banks.now t ≡ slice_index banks.now u → t ≡ u }
     ensures put { (t : ℕ) → t < N → at to.new (slice_index banks.now t) ≡ at from.now t }
-    ensures others { (b : ℕ) → ((t : ℕ) → t < N → slice_index banks.now t ≡ b → ⊥) → at to.new b ≡ at to.old b }
+    ensures others { (b : ℕ) → ((t : ℕ) → t < N → slice_index banks.now t ≡ b → ⊥)
+        → at to.new b ≡ at to.old b }
     ensures kept { (n : ℕ) → ((b : ℕ) → b < N → IsWithin n (at from.now b))
         → ((b : ℕ) → b < N → IsWithin n (at to.old b)) → (b : ℕ) → b < N → IsWithin n (at to.new b) }
 {
@@ -81,7 +82,8 @@ fn put_row_back<const N: usize>(
     requires turned { IsTurned N banks.now windows.now }
     requires within { (t : ℕ) → t < N → IsWithin 32767 (at from.now t) }
     ensures put { (t : ℕ) → t < N → at to.new (slice_index banks.now t) ≡ at from.now t }
-    ensures others { (b : ℕ) → ((t : ℕ) → t < N → slice_index banks.now t ≡ b → ⊥) → at to.new b ≡ at to.old b }
+    ensures others { (b : ℕ) → ((t : ℕ) → t < N → slice_index banks.now t ≡ b → ⊥)
+        → at to.new b ≡ at to.old b }
     ensures kept { (n : ℕ) → ((b : ℕ) → b < N → IsWithin n (at from.now b))
         → ((b : ℕ) → b < N → IsWithin n (at to.old b)) → (b : ℕ) → b < N → IsWithin n (at to.new b) }
 {
@@ -97,7 +99,8 @@ fn put_window<const N: usize>(windows: &mut [u8; N], bank: u8, t: u8)
     requires { t < N }
     ensures long { length windows.new ≡ length windows.old }
     ensures put { bank < N → windows.new ≡ slice_set windows.old bank t }
-    ensures below { ((b : ℕ) → b < N → slice_index windows.old b < N) → (b : ℕ) → b < N → slice_index windows.new b < N }
+    ensures below { ((b : ℕ) → b < N → slice_index windows.old b < N)
+        → (b : ℕ) → b < N → slice_index windows.new b < N }
 {
     let bank = usize::from(bank);
     if bank < N {
@@ -105,16 +108,17 @@ fn put_window<const N: usize>(windows: &mut [u8; N], bank: u8, t: u8)
     }
 }
 
-/// The window of each bank.
-fn turned<const N: usize>(banks: &[u8; N]) -> [u8; N]
+/// Leaves the window of each bank. They are written where they stay: read back whole from a local, they would
+/// wait for their single bytes.
+fn turn<const N: usize>(banks: &[u8; N], windows: &mut [u8; N])
     requires { IsLaneCount N }
-    ensures { IsTurned N banks.now result }
+    ensures { IsTurned N banks.now windows.new }
 {
-    let mut windows = [0; N];
+    let first = [0; N];
+    *windows = first;
     for t in 0..N {
-        put_window(&mut windows, banks[t], t as u8);
+        put_window(windows, banks[t], t as u8);
     }
-    windows
 }
 
 impl<const N: usize> Crossings<N> {
@@ -143,7 +147,7 @@ impl<const N: usize> Crossings<N> {
         ensures banks { self.new.banks.items ≡ slice_set self.old.banks.items j banks.entry }
     {
         self.rows[j] = row;
-        self.windows[j] = turned(&banks);
+        turn(&banks, &mut self.windows[j]);
         self.banks[j] = banks;
     }
 
@@ -154,9 +158,10 @@ impl<const N: usize> Crossings<N> {
         requires banks { length to.old ≤ length self.now.banks.items }
         requires from { length from.now ≡ length to.old }
         requires within { AreWithin N 32767 from.now }
-        requires table { (place : ℕ → ℕ) × IsTable N (length to.old) place self.now.rows.items self.now.banks.items }
+        requires table { (place : ℕ → ℕ)
+            × IsTable N (length to.old) place self.now.rows.items self.now.banks.items }
         ensures brought { (j t : ℕ) → j < length to.old → t < N → number_in to.new j t
-            ≡ number_in from.now (slice_index self.now.rows.items j) (slice_index (slice_index_or self.now.banks.items j []) t) }
+            ≡ number_in from.now (slice_index self.now.rows.items j) (bank_at self.now.banks.items j t) }
         ensures kept { (n : ℕ) → AreWithin N n from.now → AreWithin N n to.new }
     {
         for j in 0..to.len() {
@@ -172,10 +177,11 @@ impl<const N: usize> Crossings<N> {
         requires banks { length from.now ≤ length self.now.banks.items }
         requires to { length to.old ≡ length from.now }
         requires within { AreWithin N 32767 from.now }
-        requires table { (place : ℕ → ℕ) × IsTable N (length from.now) place self.now.rows.items self.now.banks.items
+        requires table { (place : ℕ → ℕ)
+            × IsTable N (length from.now) place self.now.rows.items self.now.banks.items
             × AreApart N (length from.now) place }
         ensures put { (j t : ℕ) → j < length from.now → t < N
-            → number_in to.new (slice_index self.now.rows.items j) (slice_index (slice_index_or self.now.banks.items j []) t)
+            → number_in to.new (slice_index self.now.rows.items j) (bank_at self.now.banks.items j t)
             ≡ number_in from.now j t }
         ensures kept { (n : ℕ) → AreWithin N n from.now → AreWithin N n to.old → AreWithin N n to.new }
     {

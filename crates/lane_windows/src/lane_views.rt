@@ -6,9 +6,9 @@ ghost use Rattle.lane_windows.specs.Crossings.{AreApart, IsTable};
 ghost use Rattle.lane_windows.specs.Halves.{AreRowsOf};
 
 use crate::banks::Banks;
+use crate::crossed::{run_crossed, run_straight};
 use crate::crossings::Crossings;
 use crate::places::crossings_of;
-use crate::running::{run_crossed, run_straight};
 use crate::soft_rows::SoftRows;
 use crate::work::Engine;
 use lte_bits::{NoMemory, SoftStreams};

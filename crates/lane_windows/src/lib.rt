@@ -1,4 +1,4 @@
-//! The decoding of a code block whose windows run in lock step: their cells stand in banks, and those of all
+//! The decoding of a code block whose windows run in lock step: their cells are in banks, and those of all
 //! windows at one step in one row.
 #![tactic(auto)]
 
@@ -10,13 +10,13 @@ pub mod banks;
 pub mod borders;
 pub mod by_order;
 pub mod cells;
+pub mod crossed;
 pub mod crossings;
 pub mod decoder;
 pub mod halves;
 pub mod lane_views;
 pub mod places;
 pub mod rows;
-pub mod running;
 mod shuffles;
 pub mod soft_rows;
 pub mod steps;

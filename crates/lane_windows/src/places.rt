@@ -11,23 +11,40 @@ use cell_shares::Order;
 use lte_bits::NoMemory;
 use std::alloc::Global;
 
-/// The bank of each of `size` places, where each bank has `width`.
-fn banks_of_places(alloc: Global, size: usize, width: usize) -> Result<Vec<u8>, NoMemory>
-    requires some { 1 ≤ width }
-    requires few { size ≤ 64 * width }
-    ensures { IfOk result (λ banks. banks.items ≡ map (λ i. i / width) (range_with_len 0 size)) }
+/// Leaves `b` at the places of bank `b`, where each bank has `width`.
+fn fill_bank(banks: &mut [u8], width: usize, b: usize)
+    requires few { b < 64 }
+    requires inside { (b + 1) * width ≤ length banks.old }
+    ensures bank { (r : ℕ) → r < width → slice_index banks.new (b * width + r) ≡ b }
+    ensures before { (i : ℕ) → i < b * width → slice_index banks.new i ≡ slice_index banks.old i }
 {
-    let mut banks = Vec::with_capacity(alloc, size)?;
-    let mut bank = 0u8;
-    let mut row = 0;
-    for _i in 0..size {
-        banks.push(bank)?;
-        row += 1;
-        if row == width {
-            row = 0;
-            bank += 1;
-        }
+    let first = b * width;
+    for r in 0..width {
+        banks[first + r] = b as u8;
     }
+}
+
+/// Leaves the bank of each place, where each of N banks has `width`.
+fn fill_banks<const N: usize>(banks: &mut [u8], width: usize)
+    requires lanes { IsLaneCount N }
+    requires some { 1 ≤ width }
+    requires long { length banks.old ≡ N * width }
+    ensures { banks.new ≡ map (λ i. i / width) (range_with_len 0 (N * width)) }
+{
+    for b in 0..N {
+        fill_bank(banks, width, b);
+    }
+}
+
+/// The bank of each place, where each of N banks has `width`.
+fn banks_of_places<const N: usize>(alloc: Global, width: usize) -> Result<Vec<u8>, NoMemory>
+    requires lanes { IsLaneCount N }
+    requires some { 1 ≤ width }
+    requires most { width ≤ 768 }
+    ensures { IfOk result (λ banks. banks.items ≡ map (λ i. i / width) (range_with_len 0 (N * width))) }
+{
+    let mut banks = vec![in alloc; 0u8; N * width]?;
+    fill_banks::<N>(banks.as_mut_slice(), width);
     Ok(banks)
 }
 
@@ -68,8 +85,8 @@ fn banks_at<const N: usize>(places: &[u16], banks: &[u8], width: usize, j: usize
     crossing
 }
 
-/// The crossings of N windows of `width` positions that stand at these places. It needs no division: each place's
-/// bank is found by counting, and its row is what its bank leaves.
+/// The crossings of N windows of `width` positions at these places. It needs no division: a list has the bank
+/// of each place, and its row is what its bank leaves.
 pub fn crossings_of<const N: usize>(
     alloc: Global,
     places: &[u16],
@@ -86,7 +103,7 @@ pub fn crossings_of<const N: usize>(
     ensures banks { IfOk result (λ c. length c.banks.items ≡ width) }
     ensures table { IfOk result (λ c. IsTable N width (slice_index places.now) c.rows.items c.banks.items) }
 {
-    let banks = banks_of_places(alloc, places.len(), width)?;
+    let banks = banks_of_places::<N>(alloc, width)?;
     let mut crossings = Crossings::<N>::new(alloc, width)?;
     let banks = banks.as_slice();
     for j in 0..width {

@@ -9,8 +9,8 @@ use lte_bits::NoMemory;
 use serial_decode::views::Views;
 use std::alloc::Global;
 
-/// The systematic and the parity values that the halves of one order read: row j has in lane t those of position
-/// j of window t.
+/// The systematic and the parity values that the halves of one order read: row j has in lane t those of
+/// position j of window t.
 #[derive(Drop)]
 pub struct SoftRows<const N: usize> {
     pub systematic: Vec<[i16; N]>,

@@ -1,4 +1,4 @@
-//! The banks in which the cells of all windows stand at one step.
+//! The banks in which the cells of all windows are at one step.
 ghost use Rattle.std.specs.Prelude.{◌≡◌, ℕ, ◌+◌, ◌*◌, ◌%◌, ◌<◌, ◌≤◌, slice_index};
 ghost use Rattle.cell_shares.specs.Orders.{place_in, IsOrderOf};
 ghost use Rattle.lock_step.specs.Lanes.{IsLaneCount};
@@ -6,7 +6,7 @@ ghost use Rattle.lane_windows.specs.Crossings.{row_of_step, crossbar_of, place_o
 
 use cell_shares::Order;
 
-/// The row in which the cells of N windows of `width` places stand at step `j`, and the bank of each. An
+/// The row in which the cells of N windows of `width` places are at step `j`, and the bank of each. An
 /// interleaved order has N*width places; `width` is 8 to 768, and `j` is below it.
 pub fn crossbar<const N: usize>(order: &Order, width: usize, j: usize) -> (usize, [u8; N])
     requires lanes { IsLaneCount N }

@@ -37,7 +37,7 @@ impl<const N: usize> Engine<N> {
     }
 }
 
-/// Room for N windows of up to some width: also for their soft values by rows, and for the banks of each step.
+/// Room for N windows of up to some width: also for their soft values by rows, and the banks of each step.
 #[derive(Drop)]
 pub struct LaneWork<const N: usize> {
     pub(crate) engine: Engine<N>,
@@ -53,8 +53,10 @@ impl<const N: usize> Model for LaneWork<N> {
 
     ghost view = { λ w. w.engine.kernel };
 
-    ghost invariant = { λ w. (length w.systematic.items ≡ w.engine.kernel) × (length w.parity.items ≡ w.engine.kernel)
-        × (length w.crossings.rows.items ≡ w.engine.kernel) × (length w.crossings.banks.items ≡ w.engine.kernel) };
+    ghost invariant = { λ w. (length w.systematic.items ≡ w.engine.kernel)
+        × (length w.parity.items ≡ w.engine.kernel)
+        × (length w.crossings.rows.items ≡ w.engine.kernel)
+        × (length w.crossings.banks.items ≡ w.engine.kernel) };
 }
 
 impl<const N: usize> LaneWork<N> {

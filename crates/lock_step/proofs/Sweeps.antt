@@ -1,4 +1,4 @@
--- What stands after each position of the sweeps.
+-- What the sweeps leave at each position.
 use Rattle.std.proofs.Common.{◌≡◌, ◌≢◌, ℕ, suc, ◌+◌, ◌<◌, ◌≤◌, List, [], length, map, set, get_or, ℤ, pos, ◌+ℤ◌, ◌*ℤ◌, sym, ap, ◌∙◌, subst, inl, inr, arith}
 use Rattle.std.specs.Prelude.{int_lt, int_div}
 use Rattle.std.specs.List.{range_with_len}

@@ -28,7 +28,7 @@ loop-j-init g c = record {
 
 pub row_at-row-requires : goal.row_at-row-requires
 row_at-row-requires g c =
-    let n = g.row.N in let w = c.args.width in let k : ℕ = length c.args.places.now in
+    let n = g.row.N in let w = c.args.width in let k : ℕ = n * w in
     let banks = c.as_slice-banks.result.now in
     let e : banks ≡ map (λ i. i / w) (range_with_len 0 k) = c.as_slice-banks.ensures.value ∙ c.in_ok-banks.ensures in
     let lj : c.loop-j.j < n * w = first-row n w c.loop-j.j c.requires.lanes c.loop-j-test.true in
@@ -41,7 +41,7 @@ row_at-row-requires g c =
 
 pub banks_at-requires : goal.banks_at-requires
 banks_at-requires g c =
-    let n = g.row.N in let w = c.args.width in let k : ℕ = length c.args.places.now in
+    let n = g.row.N in let w = c.args.width in let k : ℕ = n * w in
     let banks = c.as_slice-banks.result.now in
     let e : banks ≡ map (λ i. i / w) (range_with_len 0 k) = c.as_slice-banks.ensures.value ∙ c.in_ok-banks.ensures in
     let below : (i : ℕ) → i < length c.args.places.now → slice_index c.args.places.now i < length banks =

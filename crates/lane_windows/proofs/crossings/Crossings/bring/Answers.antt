@@ -6,7 +6,8 @@ use Rattle.lte_bits.specs.Softs.{IsWithin}
 use Rattle.model_receiver.specs.Borders.{at}
 use Rattle.lock_step.specs.Lanes.{AreWithin}
 use Rattle.lane_windows.specs.Banks.{number_in}
-use Rattle.lane_windows.proofs.CrossingSteps.{bank_at, read-bank, bring-more}
+use Rattle.lane_windows.specs.Crossings.{bank_at}
+use Rattle.lane_windows.proofs.CrossingSteps.{read-bank, bring-more}
 use Rattle.lane_windows.proofs.BankCells.{fits-twice, fits-once}
 use Rattle.lane_windows.proofs.BankRows.{read-number}
 use Rattle.lane_windows.proofs.Columns.{number-in_same, number-in_other}

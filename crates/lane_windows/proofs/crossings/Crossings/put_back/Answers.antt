@@ -5,8 +5,8 @@ use Rattle.lte_bits.specs.Softs.{IsWithin}
 use Rattle.model_receiver.specs.Borders.{at}
 use Rattle.lock_step.specs.Lanes.{AreWithin}
 use Rattle.lane_windows.specs.Banks.{number_in}
-use Rattle.lane_windows.specs.Crossings.{IsTurned}
-use Rattle.lane_windows.proofs.CrossingSteps.{bank_at, read-bank, banks_apart, put-more}
+use Rattle.lane_windows.specs.Crossings.{bank_at, IsTurned}
+use Rattle.lane_windows.proofs.CrossingSteps.{read-bank, banks_apart, put-more}
 use Rattle.lane_windows.proofs.BankCells.{fits-twice, fits-once}
 use Rattle.lane_windows.proofs.BankRows.{read-number}
 use Rattle.lane_windows.proofs.Columns.{within-set}

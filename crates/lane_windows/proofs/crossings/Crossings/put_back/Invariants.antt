@@ -2,7 +2,7 @@ use Rattle.std.proofs.Common.{◌≡◌, ℕ, ◌<◌}
 use Rattle.std.specs.Prelude.{slice_index}
 use Rattle.lock_step.specs.Lanes.{AreWithin}
 use Rattle.lane_windows.specs.Banks.{number_in}
-use Rattle.lane_windows.proofs.CrossingSteps.{bank_at}
+use Rattle.lane_windows.specs.Crossings.{bank_at}
 use Rattle.lane_windows.proofs.crossings.Crossings.put_back.Given as goal
 
 abbrev pub invariant-loop-j : goal.invariant-loop-j

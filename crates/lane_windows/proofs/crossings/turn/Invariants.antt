@@ -1,7 +1,7 @@
 use Rattle.std.proofs.Common.{◌≡◌, ℕ, ◌<◌, length}
 use Rattle.std.specs.Prelude.{slice_index}
 use Rattle.lane_windows.specs.Crossings.{AreDistinct}
-use Rattle.lane_windows.proofs.crossings.turned.Given as goal
+use Rattle.lane_windows.proofs.crossings.turn.Given as goal
 
 abbrev pub invariant-loop-t : goal.invariant-loop-t
 invariant-loop-t g l = record {

@@ -4,7 +4,7 @@ use Rattle.lock_step.specs.Lanes.{AreWithin}
 use Rattle.lane_windows.proofs.BankCells.{fits-twice}
 use Rattle.lane_windows.proofs.BankRows.{width-of_view, banks-of_rows}
 use Rattle.lane_windows.proofs.LaneRuns.{KernelRan, straight-run}
-use Rattle.lane_windows.proofs.running.run_straight.Goals as goal
+use Rattle.lane_windows.proofs.crossed.run_straight.Goals as goal
 
 pub run_rows-requires : goal.run_rows-requires
 run_rows-requires g c =

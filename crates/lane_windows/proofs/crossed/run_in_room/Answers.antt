@@ -4,13 +4,12 @@ use Rattle.std.proofs.lemmas.List.{length-take-le}
 use Rattle.serial_decode.proofs.Parts.{written}
 use Rattle.lock_step.specs.Lanes.{AreWithin}
 use Rattle.lane_windows.specs.Banks.{number_in}
-use Rattle.lane_windows.specs.Crossings.{IsTable, AreApart}
+use Rattle.lane_windows.specs.Crossings.{bank_at, IsTable, AreApart}
 use Rattle.lane_windows.proofs.BankCells.{fits-twice}
 use Rattle.lane_windows.proofs.BankRows.{width-of_view, banks-of_rows}
 use Rattle.lane_windows.proofs.Columns.{within-words}
-use Rattle.lane_windows.proofs.CrossingSteps.{bank_at}
 use Rattle.lane_windows.proofs.LaneRuns.{crossed-run}
-use Rattle.lane_windows.proofs.running.run_in_room.Goals as goal
+use Rattle.lane_windows.proofs.crossed.run_in_room.Goals as goal
 
 -- a table for a width that is the same
 table-for : (n : ℕ) (v w : ℕ) (rows : List ℕ) (banks : List (List ℕ)) → v ≡ w → (place : ℕ → ℕ) × IsTable n w place rows banks × AreApart n w place

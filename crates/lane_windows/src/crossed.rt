@@ -1,4 +1,4 @@
-//! Windows in lock step over banks of cells, by a table of crossings.
+//! Windows in lock step over banks of cells: straight, or crossed by a table.
 ghost use Rattle.std.specs.Prelude.{◌≡◌, ℕ, ◌*◌, ◌/◌, ◌≤◌, length};
 ghost use Rattle.lock_step.specs.Lanes.{AreWithin};
 ghost use Rattle.lane_windows.specs.Lanes.{HaveRun};
@@ -10,8 +10,8 @@ use crate::work::Engine;
 use lock_step::{LaneWork as Kernel, run_rows};
 use window_decode::Border;
 
-/// Decodes N windows whose positions stand at the places of the same number: the cells of step j stand in row
-/// j, that of window t in bank t.
+/// Decodes N windows whose positions are at the places of the same number: the cells of step j are in row j,
+/// that of window t in bank t.
 pub fn run_straight<const N: usize>(
     kernel: &mut Kernel<N>,
     sys: &[[i16; N]],
@@ -47,8 +47,8 @@ pub fn run_straight<const N: usize>(
     );
 }
 
-/// Decodes N windows whose positions stand at the places of a table of crossings, with room for their cells in
-/// the order of the windows.
+/// Decodes N windows whose positions are at the places of a table of crossings, with room for their cells in the
+/// order of the windows.
 fn run_in_room<const N: usize>(
     kernel: &mut Kernel<N>,
     values: &mut [[i16; N]],
@@ -74,7 +74,8 @@ fn run_in_room<const N: usize>(
     requires back { length back.old ≡ N }
     requires rows { length sys.now ≤ length crossings.now.rows.items }
     requires banks { length sys.now ≤ length crossings.now.banks.items }
-    requires table { (place : ℕ → ℕ) × IsTable N (length sys.now) place crossings.now.rows.items crossings.now.banks.items
+    requires table { (place : ℕ → ℕ)
+        × IsTable N (length sys.now) place crossings.now.rows.items crossings.now.banks.items
         × AreApart N (length sys.now) place }
     ensures room { kernel.new ≡ kernel.old }
     ensures ran { (place : ℕ → ℕ)
@@ -91,7 +92,7 @@ fn run_in_room<const N: usize>(
     crossings.put_back(sums, banks.sums.as_mut_slice());
 }
 
-/// Decodes N windows whose positions stand at the places of a table of crossings.
+/// Decodes N windows whose positions are at the places of a table of crossings.
 pub fn run_crossed<const N: usize>(
     engine: &mut Engine<N>,
     crossings: &Crossings<N>,
@@ -113,7 +114,8 @@ pub fn run_crossed<const N: usize>(
     requires back { length back.old ≡ N }
     requires rows { length sys.now ≤ length crossings.now.rows.items }
     requires banks { length sys.now ≤ length crossings.now.banks.items }
-    requires table { (place : ℕ → ℕ) × IsTable N (length sys.now) place crossings.now.rows.items crossings.now.banks.items
+    requires table { (place : ℕ → ℕ)
+        × IsTable N (length sys.now) place crossings.now.rows.items crossings.now.banks.items
         × AreApart N (length sys.now) place }
     ensures room { engine.new.kernel ≡ engine.old.kernel }
     ensures ran { (place : ℕ → ℕ)
