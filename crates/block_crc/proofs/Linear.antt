@@ -102,7 +102,8 @@ entry : (g n i : ℕ) (rs : List ℕ) → IsTrue (is_table g n rs) → i < 256 �
 entry g n i rs is below = entry-from g n 0 i rs is (omega (arith, below)) ∙ ap (top_remainder g n) (let e : 0 + i ≡ i = omega arith in e)
 
 -- a byte and what follows it, after a remainder: the table has what the remainder's highest eight digits leave
-pub byte-by_table : (g r m k : ℕ) (rs : List ℕ) (byte rest : List Bit) → IsMonic g → IsTrue (is_table g k rs) → r < 2 ^ 24 → length byte ≡ 8 → k ≡ 8 + length rest → number byte < 256 → m ≡ r % 2 ^ 16 * 256 + number byte
+pub byte-by_table : (g r m k : ℕ) (rs : List ℕ) (byte rest : List Bit) → IsMonic g → IsTrue (is_table g k rs) → r < 2 ^ 24 → length byte ≡ 8
+    → k ≡ 8 + length rest → number byte < 256 → m ≡ r % 2 ^ 16 * 256 + number byte
     → bit_xor (get_or rs (r / 65536) 0) (remainder g m rest) ≡ remainder g r (byte ++ rest)
 byte-by_table g r m k rs byte rest monic is h long all few made =
     let top : ℕ = r / 2 ^ 16 * 2 ^ 16 in let low : ℕ = r % 2 ^ 16 in

@@ -80,7 +80,8 @@ zero-lane t before after p l k =
     let m : (s : State) → number_for (column t before) s ≡ _ = λ s. number-column before t s l in
     let n : (s : State) → number_for (column t after) s ≡ _ = λ s. number-column after t s k in
     let j : State → ℤ = joined (number_for (column t before)) (number_for (column t after)) p Zero in
-    outer (both_at t before after 0 0) (both_at t before after 1 4) (both_at t before after 2 5) (both_at t before after 3 1) (both_at t before after 4 2) (both_at t before after 5 6) (both_at t before after 6 7) (both_at t before after 7 3) p
+    outer (both_at t before after 0 0) (both_at t before after 1 4) (both_at t before after 2 5) (both_at t before after 3 1) (both_at t before after 4 2)
+    (both_at t before after 5 6) (both_at t before after 6 7) (both_at t before after 7 3) p
     (j s0) (j s1) (j s2) (j s3) (j s4) (j s5) (j s6) (j s7)
     (earning _ _ _ _ p (m s0) (n s0)) (earning _ _ _ _ p (m s1) (n s4)) (idle _ _ _ _ (m s2) (n s5)) (idle _ _ _ _ (m s3) (n s1))
     (idle _ _ _ _ (m s4) (n s2)) (idle _ _ _ _ (m s5) (n s6)) (earning _ _ _ _ p (m s6) (n s7)) (earning _ _ _ _ p (m s7) (n s3))
@@ -92,7 +93,8 @@ one-lane t before after p l k =
     let m : (s : State) → number_for (column t before) s ≡ _ = λ s. number-column before t s l in
     let n : (s : State) → number_for (column t after) s ≡ _ = λ s. number-column after t s k in
     let j : State → ℤ = joined (number_for (column t before)) (number_for (column t after)) p One in
-    inner (both_at t before after 0 4) (both_at t before after 1 0) (both_at t before after 2 1) (both_at t before after 3 5) (both_at t before after 4 6) (both_at t before after 5 2) (both_at t before after 6 3) (both_at t before after 7 7) p
+    inner (both_at t before after 0 4) (both_at t before after 1 0) (both_at t before after 2 1) (both_at t before after 3 5) (both_at t before after 4 6)
+    (both_at t before after 5 2) (both_at t before after 6 3) (both_at t before after 7 7) p
     (j s0) (j s1) (j s2) (j s3) (j s4) (j s5) (j s6) (j s7)
     (idle _ _ _ _ (m s0) (n s4)) (idle _ _ _ _ (m s1) (n s0)) (earning _ _ _ _ p (m s2) (n s1)) (earning _ _ _ _ p (m s3) (n s5))
     (earning _ _ _ _ p (m s4) (n s6)) (earning _ _ _ _ p (m s5) (n s2)) (idle _ _ _ _ (m s6) (n s3)) (idle _ _ _ _ (m s7) (n s7))

@@ -98,7 +98,8 @@ set_eight m r0 r1 r2 r3 r4 r5 r6 r7 long =
 pub rows_kept : (m : List (List ℤ)) (r0 r1 r2 r3 r4 r5 r6 r7 : List ℤ) → length m ≡ 8 → r0 ≡ row_at m 0 → r1 ≡ row_at m 1 → r2 ≡ row_at m 2 → r3 ≡ row_at m 3
     → r4 ≡ row_at m 4 → r5 ≡ row_at m 5 → r6 ≡ row_at m 6 → r7 ≡ row_at m 7 → r0 ∷ r1 ∷ r2 ∷ r3 ∷ r4 ∷ r5 ∷ r6 ∷ r7 ∷ [] ≡ m
 rows_kept m r0 r1 r2 r3 r4 r5 r6 r7 long =
-    eight_rows (λ m. r0 ≡ row_at m 0 → r1 ≡ row_at m 1 → r2 ≡ row_at m 2 → r3 ≡ row_at m 3 → r4 ≡ row_at m 4 → r5 ≡ row_at m 5 → r6 ≡ row_at m 6 → r7 ≡ row_at m 7 → r0 ∷ r1 ∷ r2 ∷ r3 ∷ r4 ∷ r5 ∷ r6 ∷ r7 ∷ [] ≡ m)
+    eight_rows (λ m. r0 ≡ row_at m 0 → r1 ≡ row_at m 1 → r2 ≡ row_at m 2 → r3 ≡ row_at m 3 → r4 ≡ row_at m 4 → r5 ≡ row_at m 5 → r6 ≡ row_at m 6
+    → r7 ≡ row_at m 7 → r0 ∷ r1 ∷ r2 ∷ r3 ∷ r4 ∷ r5 ∷ r6 ∷ r7 ∷ [] ≡ m)
     (λ a b c d e f g h p0 p1 p2 p3 p4 p5 p6 p7. same a b c d e f g h p0 p1 p2 p3 p4 p5 p6 p7) m long
   where
     same : (a b c d e f g h : List ℤ) → r0 ≡ a → r1 ≡ b → r2 ≡ c → r3 ≡ d → r4 ≡ e → r5 ≡ f → r6 ≡ g → r7 ≡ h → r0 ∷ r1 ∷ r2 ∷ r3 ∷ r4 ∷ r5 ∷ r6 ∷ r7 ∷ [] ≡ a ∷ b ∷ c ∷ d ∷ e ∷ f ∷ g ∷ h ∷ []

@@ -49,7 +49,8 @@ lane-narrow n t sys par cells lt soft j =
 pub lane-earns : (n t : ℕ) (sys par cells : List (List ℤ)) (j : ℕ) (x p : ℤ) → t < n → AreSoft n sys par cells → j < length sys → j < length par → j < length cells
     → x ≡ at (row_at sys j) t +ℤ at (row_at cells j) t → p ≡ at (row_at par j) t → Earns (lane_gain t sys par cells) j x p
 lane-earns n t sys par cells j x p lt soft ls lp lc e f =
-    let input : at (column t sys) j +ℤ at (column t cells) j ≡ x = ap (λ z. z +ℤ at (column t cells) j) (at-column sys t j ls) ∙ (ap (λ z. at (row_at sys j) t +ℤ z) (at-column cells t j lc) ∙ sym e) in
+    let input : at (column t sys) j +ℤ at (column t cells) j ≡ x = ap (λ z. z +ℤ at (column t cells) j) (at-column sys t j ls)
+    ∙ (ap (λ z. at (row_at sys j) t +ℤ z) (at-column cells t j lc) ∙ sym e) in
     let own : at (column t par) j ≡ p = at-column par t j lp ∙ sym f in
     record {
       is = λ s u. ap (λ z. if_zero u z +ℤ if_zero (parity s u) (at (column t par) j)) input ∙ ap (λ z. if_zero u x +ℤ if_zero (parity s u) z) own;
@@ -82,7 +83,8 @@ set-more P rows j row inside h here i lt =
     ]
 
 -- the rows from the last i positions are new
-pub kept-more : (old rows : List (List ℤ)) (n i j : ℕ) (row : List ℤ) → j + suc i ≡ n → ((k : ℕ) → k + i < n → row_at rows k ≡ row_at old k) → (k : ℕ) → k + (i + 1) < n → row_at (set rows j row) k ≡ row_at old k
+pub kept-more : (old rows : List (List ℤ)) (n i j : ℕ) (row : List ℤ) → j + suc i ≡ n → ((k : ℕ) → k + i < n → row_at rows k ≡ row_at old k) → (k : ℕ)
+    → k + (i + 1) < n → row_at (set rows j row) k ≡ row_at old k
 kept-more old rows n i j row place h k lt = get_or-set_other rows j k row [] (λ e. omega (arith, lt, e, place)) ∙ h k (omega (arith, lt))
 
 -- the sums of position j, and those after it
@@ -170,7 +172,8 @@ new-within n len w cells sums lc ls same h = λ j t inside lt.
 -- ---- the ends
 
 -- metrics that are borders
-pub borders_from : (n : ℕ) (m : List (List ℤ)) (borders : List Border) → AreMetrics n m → ((t : ℕ) → t < n → column t m ≡ border_at borders t) → ((t : ℕ) → t < n → IsBorder (border_at borders t)) → AreBorders n m
+pub borders_from : (n : ℕ) (m : List (List ℤ)) (borders : List Border) → AreMetrics n m → ((t : ℕ) → t < n → column t m ≡ border_at borders t)
+    → ((t : ℕ) → t < n → IsBorder (border_at borders t)) → AreBorders n m
 borders_from n m borders shape lanes h = record { shape = shape; border = λ t lt. subst (λ (b : Border). IsBorder b) (sym (lanes t lt)) (h t lt) }
 
 pub width-column : (rows : List (List ℤ)) (t n : ℕ) → length rows ≡ n → n ≡ length (column t rows)

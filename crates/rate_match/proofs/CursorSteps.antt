@@ -81,7 +81,8 @@ next_row r n c is order within =
     same n (column ∙ sym quotient) (omega (arith, place, at, rest))
 
 -- the column is full
-pub next_column : (r n : ℕ) (c : Cursor) → c ≡ cursor_at r c.n → order_of r n ≡ order_of r c.n + 1 → order_of r n < 32 * r → 32 * r ≤ c.by_rows + 32 → made n (c.column + 1) (slice_index column_order (c.column + 1)) ≡ cursor_at r n
+pub next_column : (r n : ℕ) (c : Cursor) → c ≡ cursor_at r c.n → order_of r n ≡ order_of r c.n + 1 → order_of r n < 32 * r → 32 * r ≤ c.by_rows + 32
+    → made n (c.column + 1) (slice_index column_order (c.column + 1)) ≡ cursor_at r n
 next_column r n c is order within full =
     let i : ℕ = order_of r c.n in
     let some : 0 < r = omega (arith, within) in

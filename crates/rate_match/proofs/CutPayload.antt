@@ -20,7 +20,8 @@ pub record AreCut (payload : List ℕ) (p : Plan) (bs : List Block) : Type 0 whe
   pub are : bs ≡ blocks p payload
   pub shape : AreBlocksOf p bs
 
-pub are_cut : (payload : List ℕ) (p : Plan) (bs list : List Block) → 1 ≤ length payload → length payload ≤ 18722 → p ≡ plan_of (length payload) → bs ≡ list → list ≡ blocks p payload → AreBlocksOf p list
+pub are_cut : (payload : List ℕ) (p : Plan) (bs list : List Block) → 1 ≤ length payload → length payload ≤ 18722 → p ≡ plan_of (length payload) → bs ≡ list
+    → list ≡ blocks p payload → AreBlocksOf p list
     → AreCut payload p bs
 are_cut payload p bs list some few planned lent are shape =
     record {

@@ -119,7 +119,8 @@ need-rises a b some le few =
     let second = plan-sound b more few in
     rises (bits_of a) (bits_of b) (plan_of a).c (plan_of b).c (plan_of a).k_plus (plan_of b).k_plus
     (needed a some fewer) (needed b more few) (omega (arith, le))
-    (λ same. larger-rises (carried (bits_of a)) (carried (bits_of b)) (plan_of a).c (plan_of b).c (plan_of a).k_plus (plan_of b).k_plus same (carried-rises (bits_of a) (bits_of b) (omega (arith, le)) (sym (plan-count a) ∙ same ∙ plan-count b)) first.larger second.larger)
+    (λ same. larger-rises (carried (bits_of a)) (carried (bits_of b)) (plan_of a).c (plan_of b).c (plan_of a).k_plus (plan_of b).k_plus same
+    (carried-rises (bits_of a) (bits_of b) (omega (arith, le)) (sym (plan-count a) ∙ same ∙ plan-count b)) first.larger second.larger)
   where
     carried-rises : (m n : ℕ) → m ≤ n → count_of m ≡ count_of n → carried m ≤ carried n
     carried-rises m n le same = (let all : count_of m * check_length (count_of m) ≡ count_of n * check_length (count_of n) = ap (λ (c : ℕ). c * check_length c) same in omega (arith, all, le))

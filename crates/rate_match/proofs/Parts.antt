@@ -19,7 +19,8 @@ part_written done run n out new fits long =
     ∙ ap (λ xs. front ++ xs) (take-append_seam new after)
 
 -- what stands after a list that got longer is written
-pub rest_written : {X : Type 0} (from n len : ℕ) (old now new post rest : List X) → from ≡ length old → len ≡ from + n → length new ≡ n → take from now ≡ old → take len ((take from now ++ (new ++ post)) ++ rest) ≡ old ++ new
+pub rest_written : {X : Type 0} (from n len : ℕ) (old now new post rest : List X) → from ≡ length old → len ≡ from + n → length new ≡ n → take from now ≡ old
+    → take len ((take from now ++ (new ++ post)) ++ rest) ≡ old ++ new
 rest_written {X} from n len old now new post rest first all long kept =
     ap (λ (xs : List X). take len ((xs ++ (new ++ post)) ++ rest)) kept
     ∙ ap (take len) regroup

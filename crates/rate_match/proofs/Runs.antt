@@ -118,7 +118,12 @@ run-bit k fill c i is within inside above inner =
     elim (cases_lt c.n (32 * r)) [
       | inl front ↦
           let b : j ≡ i = down-first r c i front in
-          let low : o < 32 * r = omega (arith, at.order, (read-down r (order_of r c.n) j within (omega (arith, inside, row-of r (order_of r c.n) c.by_rows within (ap (λ (c : Cursor). c.by_rows) is)))).below) in
+          let low : o < 32 * r = omega (
+            arith,
+            at.order,
+            (read-down r (order_of r c.n) j within
+                (omega (arith, inside, row-of r (order_of r c.n) c.by_rows within (ap (λ (c : Cursor). c.by_rows) is)))).below,
+          ) in
           let here : n < 32 * r = omega (arith, low, at.order, b, order-first r c.n front) in
           spot-first k fill n here
           ∙ ap (λ (q : ℕ). padded (d0 k fill) (read_place r q)) (sym (order-first r n here))
@@ -189,7 +194,8 @@ few-first r q p d count column m x most height is at least few =
     let e : d ≡ div_ceil (32 * r - p) 32 = is ∙ ap (λ (n : ℕ). div_ceil (32 * n - p) 32) height in
     subst (λ (n : ℕ). count ≤ n) e (omega (arith, at, least, few))
 
-pub few-later : (r q p n d column s count m x most : ℕ) → q ≡ r → d ≡ div_ceil (32 * q - 1 - p) 32 → s ≡ 2 * d - n % 2 → column ≡ s → m ≡ min column x → count ≡ min m most → count ≤ 2 * div_ceil (32 * r - 1 - p) 32 - n % 2
+pub few-later : (r q p n d column s count m x most : ℕ) → q ≡ r → d ≡ div_ceil (32 * q - 1 - p) 32 → s ≡ 2 * d - n % 2 → column ≡ s → m ≡ min column x
+    → count ≡ min m most → count ≤ 2 * div_ceil (32 * r - 1 - p) 32 - n % 2
 few-later r q p n d column s count m x most height is twice at least few =
     let e : d ≡ div_ceil (32 * r - 1 - p) 32 = is ∙ ap (λ (n : ℕ). div_ceil (32 * n - 1 - p) 32) height in
     subst (λ (u : ℕ). count ≤ 2 * u - n % 2) e (omega (arith, twice, at, least, few))

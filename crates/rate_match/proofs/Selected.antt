@@ -33,7 +33,8 @@ selected_all f keep k n count had s left has is places all some =
 
 -- a run of places more
 pub selecting_run : {X : Type 0} (f : ℕ → X) (keep : ℕ → Bool) (k n count : ℕ) (had : List X) (s left less : ℕ) (has more : List X) (p m : ℕ) → IsSelecting f keep k n count had s left has →
-    p ≡ (k + s) % n → p + m ≤ n → ((i : ℕ) → i < m → keep (p + i) ≡ true) → more ≡ has ++ map (λ i. f (p + i)) (range_with_len 0 m) → less + m ≡ left → IsSelecting f keep k n count had (s + m) less more
+    p ≡ (k + s) % n → p + m ≤ n → ((i : ℕ) → i < m → keep (p + i) ≡ true) → more ≡ has ++ map (λ i. f (p + i)) (range_with_len 0 m) → less + m ≡ left
+    → IsSelecting f keep k n count had (s + m) less more
 selecting_run {X} f keep k n count had s left less has more p m is at within kept push fewer =
     let places : List ℕ = map (λ i. p + i) (range_with_len 0 m) in
     let step : walked keep k n (s + m) ≡ walked keep k n s ++ places = run_kept keep k n s p m at within kept in

@@ -121,7 +121,8 @@ run-found keep k n p a b (suc m) at kept =
     (λ i h. ap (λ q. (k + q) % n) (let e : a + 1 + i ≡ a + suc i = omega arith in e) ∙ at (suc i) (omega (arith, h)) ∙ (let e : p + (b + suc i) ≡ p + (b + 1 + i) = omega arith in e))
     (λ i h. ap keep (let e : p + (b + 1 + i) ≡ p + (b + suc i) = omega arith in e) ∙ kept (suc i) (omega (arith, h))))
 
-pub run_kept : (keep : ℕ → Bool) (k n s p m : ℕ) → p ≡ (k + s) % n → p + m ≤ n → ((i : ℕ) → i < m → keep (p + i) ≡ true) → walked keep k n (s + m) ≡ walked keep k n s ++ map (λ i. p + i) (range_with_len 0 m)
+pub run_kept : (keep : ℕ → Bool) (k n s p m : ℕ) → p ≡ (k + s) % n → p + m ≤ n → ((i : ℕ) → i < m → keep (p + i) ≡ true)
+    → walked keep k n (s + m) ≡ walked keep k n s ++ map (λ i. p + i) (range_with_len 0 m)
 run_kept keep k n s p m is within kept =
     let at : (i : ℕ) → i < m → (k + (0 + s + i)) % n ≡ p + (0 + i) = λ i h. (
     ap (λ q. q % n) (let e : k + (0 + s + i) ≡ i + (k + s) = omega arith in e)

@@ -12,7 +12,8 @@ fn soft_of(byte: u8) -> Soft
     Soft::from_i8(byte.cast_signed())
 }
 
-/// Leaves the soft values of bytes. Its loop has no branch but its end, so that several bytes are read at once.
+/// Leaves the soft values of bytes. Its loop has no branch but its end, so that several bytes are read at
+/// once.
 fn read_softs(bytes: &[u8], softs: &mut [Soft])
     requires { length softs.old ≡ length bytes.now }
     ensures { softs.new ≡ softs_of bytes.now }

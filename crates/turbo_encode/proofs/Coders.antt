@@ -70,7 +70,8 @@ bits_at_places bits places are =
     ∙ ap (λ xs. at bits (get_or xs i 0)) are
     ∙ ap (at bits) (get_or-map-range_with_len (place k) 0 k i i 0 h (let e : 0 + i ≡ i = omega arith in e)))
 
-pub four_interleaved : (bits : List Bit) (places d : List ℕ) (chunks : List (List ℕ)) (n i : ℕ) → places ≡ map (place (length bits)) (range_with_len 0 (length bits)) → i < n → chunks ≡ first_chunks 4 n places
+pub four_interleaved : (bits : List Bit) (places d : List ℕ) (chunks : List (List ℕ)) (n i : ℕ)
+    → places ≡ map (place (length bits)) (range_with_len 0 (length bits)) → i < n → chunks ≡ first_chunks 4 n places
     → take ((i + 1) * 4) (interleaved bits) ≡ take (i * 4) (interleaved bits) ++ map (at bits) (get_or chunks i d)
 four_interleaved bits places d chunks n i are below cut =
     ap (take ((i + 1) * 4)) (sym (bits_at_places bits places are))
@@ -80,7 +81,8 @@ four_interleaved bits places d chunks n i are below cut =
     ∙ ap (λ xs. xs ++ map (at bits) (get_or chunks i d)) (sym (take-map (at bits) (i * 4) places) ∙ ap (take (i * 4)) (bits_at_places bits places are))
 
 -- four places are places of the block
-pub places_below : (k : ℕ) (places d : List ℕ) (chunks : List (List ℕ)) (n i j : ℕ) → Contains sizes k → places ≡ map (place k) (range_with_len 0 k) → i < n → n * 4 ≤ k → chunks ≡ first_chunks 4 n places
+pub places_below : (k : ℕ) (places d : List ℕ) (chunks : List (List ℕ)) (n i j : ℕ) → Contains sizes k → places ≡ map (place k) (range_with_len 0 k) → i < n
+    → n * 4 ≤ k → chunks ≡ first_chunks 4 n places
     → j < length (get_or chunks i d) → get_or (get_or chunks i d) j 0 < k
 places_below k places d chunks n i j size are below most cut within =
     let some : 1 ≤ k = omega (arith, (range-of_size k size).0) in

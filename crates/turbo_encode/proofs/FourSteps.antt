@@ -154,7 +154,8 @@ parities-append (x ∷ xs) ys s = ap (λ zs. parity s x ∷ zs) (parities-append
 pub reached_more : (xs ys four : List Bit) (n : ℕ) → ys ≡ xs ++ four → state_number (reached (reached zero_state xs) four) ≡ n → state_number (reached zero_state ys) ≡ n
 reached_more xs ys four n is at = ap (λ zs. state_number (reached zero_state zs)) is ∙ ap state_number (reached-append xs four zero_state) ∙ at
 
-pub cells_more : (xs ys four : List Bit) (old new cells : List Cell) → ys ≡ xs ++ four → old ≡ cells_of (parities xs) → new ≡ old ++ cells → cells ≡ cells_of (parities_from (reached zero_state xs) four) → new ≡ cells_of (parities ys)
+pub cells_more : (xs ys four : List Bit) (old new cells : List Cell) → ys ≡ xs ++ four → old ≡ cells_of (parities xs) → new ≡ old ++ cells
+    → cells ≡ cells_of (parities_from (reached zero_state xs) four) → new ≡ cells_of (parities ys)
 cells_more xs ys four old new cells is before push made =
     push
     ∙ ap (λ zs. zs ++ cells) before

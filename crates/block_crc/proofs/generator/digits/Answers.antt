@@ -7,9 +7,11 @@ use Rattle.model_sender.proofs.BitNumbers.{number-append}
 use Rattle.block_crc.proofs.generator.digits.Goals as goal
 
 -- one more digit is written
-one_digit : (bits : List Bit) (i n : ℕ) (b : Bit) → i < 24 → length bits ≡ 24 → digit b ≡ n / 2 ^ (23 - i) % 2 → number (take i bits) ≡ n / 2 ^ (24 - i) → number (take (i + 1) (set bits i b)) ≡ n / 2 ^ (24 - (i + 1))
+one_digit : (bits : List Bit) (i n : ℕ) (b : Bit) → i < 24 → length bits ≡ 24 → digit b ≡ n / 2 ^ (23 - i) % 2 → number (take i bits) ≡ n / 2 ^ (24 - i)
+    → number (take (i + 1) (set bits i b)) ≡ n / 2 ^ (24 - (i + 1))
 one_digit bits i n b below width d e =
-    let a : number (take (i + 1) (set bits i b)) ≡ number (take i bits) * 2 ^ 1 + number (b ∷ []) = ap number (take_more_set bits i b (omega (arith, width, below))) ∙ number-append (take i bits) (b ∷ []) in
+    let a : number (take (i + 1) (set bits i b)) ≡ number (take i bits) * 2 ^ 1 + number (b ∷ []) =
+    ap number (take_more_set bits i b (omega (arith, width, below))) ∙ number-append (take i bits) (b ∷ []) in
     let one : number (b ∷ []) ≡ digit b = omega arith in
     let s : n / 2 ^ (23 - i) / 2 ^ 1 ≡ n / 2 ^ (24 - i) = shr-shr n (23 - i) 1 ∙ ap (λ k. n / 2 ^ k) (let k : 23 - i + 1 ≡ 24 - i = omega (arith, below) in k) in
     let t : n / 2 ^ (24 - (i + 1)) ≡ n / 2 ^ (23 - i) = ap (λ k. n / 2 ^ k) (let f : 24 - (i + 1) ≡ 23 - i = omega (arith, below) in f) in

@@ -73,8 +73,25 @@ put_back-requires g c =
     let rows : length c.run_rows.new.cells ≤ length c.args.crossings.now.rows.items = omega (arith, e, c.requires.rows) in
     let banks : length c.run_rows.new.cells ≤ length c.args.crossings.now.banks.items = omega (arith, e, c.requires.banks) in
     let full : length c.as_mut_slice.result.now ≡ length c.run_rows.new.cells = ap length c.as_mut_slice.ensures.value ∙ (sym ww ∙ (sym c.requires.systematic ∙ sym e)) in
-    let within : AreWithin n 32767 c.run_rows.new.cells = within-words n c.run_rows.new.cells c.run_rows.ensures.within in
-    (omega arith, (fits-twice n inv.lanes, (inv.lanes, (rows, (banks, (full, (within, table-for n (length c.run_rows.new.cells) w c.args.crossings.now.rows.items c.args.crossings.now.banks.items e c.requires.table)))))))
+    let within : AreWithin n 32767 c.run_rows.new.cells = within-words n c.run_rows.new.cells c.run_rows.ensures.within in (
+      omega arith,
+      (
+        fits-twice n inv.lanes,
+        (
+          inv.lanes,
+          (
+            rows,
+            (
+              banks,
+              (
+                full,
+                (within, table-for n (length c.run_rows.new.cells) w c.args.crossings.now.rows.items c.args.crossings.now.banks.items e c.requires.table),
+              ),
+            ),
+          ),
+        ),
+      ),
+    )
 
 pub put_back-requires-2 : goal.put_back-requires-2
 put_back-requires-2 g c =
@@ -84,8 +101,25 @@ put_back-requires-2 g c =
     let e : length c.run_rows.new.sums ≡ w = c.run_rows.auto.sums ∙ length-take-le w c.args.sums.now room in
     let rows : length c.run_rows.new.sums ≤ length c.args.crossings.now.rows.items = omega (arith, e, c.requires.rows) in
     let banks : length c.run_rows.new.sums ≤ length c.args.crossings.now.banks.items = omega (arith, e, c.requires.banks) in
-    let full : length c.as_mut_slice-2.result.now ≡ length c.run_rows.new.sums = ap length c.as_mut_slice-2.ensures.value ∙ (inv.sums_long ∙ (sym ww ∙ (sym c.requires.systematic ∙ sym e))) in
-    (omega arith, (fits-twice n inv.lanes, (inv.lanes, (rows, (banks, (full, (c.run_rows.ensures.sums, table-for n (length c.run_rows.new.sums) w c.args.crossings.now.rows.items c.args.crossings.now.banks.items e c.requires.table)))))))
+    let full : length c.as_mut_slice-2.result.now ≡ length c.run_rows.new.sums = ap length c.as_mut_slice-2.ensures.value ∙ (inv.sums_long ∙ (sym ww ∙ (sym c.requires.systematic ∙ sym e))) in (
+      omega arith,
+      (
+        fits-twice n inv.lanes,
+        (
+          inv.lanes,
+          (
+            rows,
+            (
+              banks,
+              (
+                full,
+                (c.run_rows.ensures.sums, table-for n (length c.run_rows.new.sums) w c.args.crossings.now.rows.items c.args.crossings.now.banks.items e c.requires.table),
+              ),
+            ),
+          ),
+        ),
+      ),
+    )
 
 pub invariant_of-banks : goal.invariant_of-banks
 invariant_of-banks g c =

@@ -17,7 +17,8 @@ loop-t-preserved g c =
       long = ap length new ∙ (length-set l.to bank x ∙ inv.long);
       put = λ k lk. ap (λ (xs : List ℤ). at xs (get_or c.args.banks.now k 0)) new
           ∙ elim (cases_eq k l.t) [
-            | inl e ↦ subst (λ (i : ℕ). at (set l.to bank x) (get_or c.args.banks.now i 0) ≡ at c.args.from.now i) (sym e) (get_or-set_same l.to bank x (pos 0) (omega (arith, inv.long, c.requires.below l.t lt)))
+            | inl e ↦ subst (λ (i : ℕ). at (set l.to bank x) (get_or c.args.banks.now i 0) ≡ at c.args.from.now i) (sym e)
+                (get_or-set_same l.to bank x (pos 0) (omega (arith, inv.long, c.requires.below l.t lt)))
             | inr ne ↦ get_or-set_other l.to bank (get_or c.args.banks.now k 0) x (pos 0) (λ e. ne (c.requires.apart k l.t (omega (arith, lk, lt)) lt e)) ∙ inv.put k (omega (arith, lk, ne))
           ];
       others = λ b free. ap (λ (xs : List ℤ). at xs b) new ∙ (get_or-set_other l.to bank b x (pos 0) (λ e. free l.t lt (sym e)) ∙ inv.others b free);

@@ -11,7 +11,8 @@ many : (g : Over) (c : goal.After-left-1 g) → length c.args.left.now ≡ c.arg
 many g c = c.requires.left ∙ sym c.args.views.now.windows
 
 ends : (g : Over) (c : goal.After-left-1 g) (t : ℕ) → t < length c.args.left.now
-    → border_at c.take_left.new.to t ≡ cond (t + 1 == length c.args.left.now) (tail_border c.args.views.now.views.streams.now c.args.views.now.views.shape.k c.args.h) (left_by c.args.left.now (t + 1)).backward
+    → border_at c.take_left.new.to t ≡ cond (t + 1 == length c.args.left.now)
+    (tail_border c.args.views.now.views.streams.now c.args.views.now.views.shape.k c.args.h) (left_by c.args.left.now (t + 1)).backward
 ends g c t lt =
     c.take_left.ensures.to t lt ∙ ap (λ (b : Border). cond (t + 1 == length c.args.left.now) b (left_by c.args.left.now (t + 1)).backward) c.tail.ensures
 

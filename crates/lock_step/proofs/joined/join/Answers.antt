@@ -14,7 +14,8 @@ store-requires g c = (search rules, vector-still g.row.N 511 32767 c.scaled.resu
 pub sum-requires : goal.sum-requires
 sum-requires g c =
     let n = g.row.N in
-    let e : AreLanes n 25818 (λ t. better_by c.args.before.now c.args.after.now (at c.args.p.now t) t) c.extrinsic-e.result = record { vector = c.extrinsic-e.ensures.vector; is = c.extrinsic-e.ensures.lanes } in
+    let e : AreLanes n 25818 (λ t. better_by c.args.before.now c.args.after.now (at c.args.p.now t) t) c.extrinsic-e.result =
+    record { vector = c.extrinsic-e.ensures.vector; is = c.extrinsic-e.ensures.lanes } in
     let x = same-lanes n 638 _ _ c.loaded.ensures (small-vector n 638 _ c.told-x c.requires.input) in
     (search rules, (any_passed n 25818 _ _ (omega arith) e, (any_passed n 638 _ _ (omega arith) x, sum-fits n 25818 638 _ _ _ _ (omega arith) e x)))
 
@@ -38,6 +39,7 @@ returns-clause-cells g c = λ t lt.
 pub returns-clause-sums : goal.returns-clause-sums
 returns-clause-sums g c =
     let n = g.row.N in
-    let e : AreLanes n 25818 (λ t. better_by c.args.before.now c.args.after.now (at c.args.p.now t) t) c.extrinsic-e.result = record { vector = c.extrinsic-e.ensures.vector; is = c.extrinsic-e.ensures.lanes } in
+    let e : AreLanes n 25818 (λ t. better_by c.args.before.now c.args.after.now (at c.args.p.now t) t) c.extrinsic-e.result =
+    record { vector = c.extrinsic-e.ensures.vector; is = c.extrinsic-e.ensures.lanes } in
     let x = same-lanes n 638 _ _ c.loaded.ensures (small-vector n 638 _ c.told-x c.requires.input) in
     (lanes_stored n 26456 _ _ _ (omega arith) c.store-2.ensures (sum-lanes n 25818 638 _ _ _ _ _ (omega arith) e x c.sum.ensures.vector.long c.sum.ensures.lanes)).is

@@ -6,16 +6,52 @@ use Rattle.lock_step.proofs.Joins.{pair, zero-lane}
 use Rattle.lock_step.proofs.joined.through_zero.Goals as goal
 
 pub better-requires : goal.better-requires
-better-requires g c = let n = g.row.N in (search rules, ((row-vector n c.args.before.now c.requires.before s0, row-vector n c.args.after.now c.requires.after s0), (row-vector n c.args.before.now c.requires.before s1, row-vector n c.args.after.now c.requires.after s4)))
+better-requires g c = let n = g.row.N in (
+  search rules,
+  (
+    (
+      row-vector n c.args.before.now c.requires.before s0,
+      row-vector n c.args.after.now c.requires.after s0,
+    ),
+    (row-vector n c.args.before.now c.requires.before s1, row-vector n c.args.after.now c.requires.after s4),
+  ),
+)
 
 pub better-requires-2 : goal.better-requires-2
-better-requires-2 g c = let n = g.row.N in (search rules, ((row-vector n c.args.before.now c.requires.before s6, row-vector n c.args.after.now c.requires.after s7), (row-vector n c.args.before.now c.requires.before s7, row-vector n c.args.after.now c.requires.after s3)))
+better-requires-2 g c = let n = g.row.N in (
+  search rules,
+  (
+    (
+      row-vector n c.args.before.now c.requires.before s6,
+      row-vector n c.args.after.now c.requires.after s7,
+    ),
+    (row-vector n c.args.before.now c.requires.before s7, row-vector n c.args.after.now c.requires.after s3),
+  ),
+)
 
 pub better-requires-3 : goal.better-requires-3
-better-requires-3 g c = let n = g.row.N in (search rules, ((row-vector n c.args.before.now c.requires.before s2, row-vector n c.args.after.now c.requires.after s5), (row-vector n c.args.before.now c.requires.before s3, row-vector n c.args.after.now c.requires.after s1)))
+better-requires-3 g c = let n = g.row.N in (
+  search rules,
+  (
+    (
+      row-vector n c.args.before.now c.requires.before s2,
+      row-vector n c.args.after.now c.requires.after s5,
+    ),
+    (row-vector n c.args.before.now c.requires.before s3, row-vector n c.args.after.now c.requires.after s1),
+  ),
+)
 
 pub better-requires-4 : goal.better-requires-4
-better-requires-4 g c = let n = g.row.N in (search rules, ((row-vector n c.args.before.now c.requires.before s4, row-vector n c.args.after.now c.requires.after s2), (row-vector n c.args.before.now c.requires.before s5, row-vector n c.args.after.now c.requires.after s6)))
+better-requires-4 g c = let n = g.row.N in (
+  search rules,
+  (
+    (
+      row-vector n c.args.before.now c.requires.before s4,
+      row-vector n c.args.after.now c.requires.after s2,
+    ),
+    (row-vector n c.args.before.now c.requires.before s5, row-vector n c.args.after.now c.requires.after s6),
+  ),
+)
 
 pub larger-zero-requires : goal.larger-zero-requires
 larger-zero-requires g c =
@@ -64,7 +100,8 @@ returns-clause-vector g c =
     let one = larger-lanes n 12782 _ _ _ _ _ (omega arith) b2 b3 c.larger-one.ensures.vector.long c.larger-one.ensures.lanes in
     let p = same-lanes n 127 _ _ c.loaded.ensures (small-vector n 127 _ c.told-p c.requires.parity) in
     let earned = sum-lanes n 12782 127 _ _ _ _ _ (omega arith) zero p c.sum.ensures.vector.long c.sum.ensures.lanes in
-    (lanes_passed n 12909 _ _ (omega arith) (larger-lanes n 12909 _ _ _ _ _ (omega arith) earned (more-lanes n 12782 12909 _ _ (omega arith) one) c.larger.ensures.vector.long c.larger.ensures.lanes)).vector
+    (lanes_passed n 12909 _ _ (omega arith) (larger-lanes n 12909 _ _ _ _ _ (omega arith) earned
+    (more-lanes n 12782 12909 _ _ (omega arith) one) c.larger.ensures.vector.long c.larger.ensures.lanes)).vector
 
 pub returns-clause-lanes : goal.returns-clause-lanes
 returns-clause-lanes g c = λ t lt.
@@ -77,5 +114,6 @@ returns-clause-lanes g c = λ t lt.
     let one = larger-lanes n 12782 _ _ _ _ _ (omega arith) b2 b3 c.larger-one.ensures.vector.long c.larger-one.ensures.lanes in
     let p = same-lanes n 127 _ _ c.loaded.ensures (small-vector n 127 _ c.told-p c.requires.parity) in
     let earned = sum-lanes n 12782 127 _ _ _ _ _ (omega arith) zero p c.sum.ensures.vector.long c.sum.ensures.lanes in
-    (lanes_passed n 12909 _ _ (omega arith) (larger-lanes n 12909 _ _ _ _ _ (omega arith) earned (more-lanes n 12782 12909 _ _ (omega arith) one) c.larger.ensures.vector.long c.larger.ensures.lanes)).is t lt
+    (lanes_passed n 12909 _ _ (omega arith) (larger-lanes n 12909 _ _ _ _ _ (omega arith) earned
+    (more-lanes n 12782 12909 _ _ (omega arith) one) c.larger.ensures.vector.long c.larger.ensures.lanes)).is t lt
     ∙ zero-lane t c.args.before.now c.args.after.now (at c.args.p.now t) c.told-before c.told-after

@@ -39,7 +39,8 @@ take_borders-requires g c = (
       record {
         shape = c.sweep_forward.ensures.shape;
         border = λ t lt.
-            forward_row-border _ _ (length c.args.sys.now) _ c.requires.least (λ i below. lane-narrow g.row.N t c.args.sys.now c.args.par.now c.args.cells.now lt c.requires.soft i) (c.sweep_forward.ensures.last t lt);
+            forward_row-border _ _ (length c.args.sys.now) _ c.requires.least
+            (λ i below. lane-narrow g.row.N t c.args.sys.now c.args.par.now c.args.cells.now lt c.requires.soft i) (c.sweep_forward.ensures.last t lt);
       },
     ),
   ),
@@ -87,7 +88,8 @@ take_borders-requires-2 g c = (
       record {
         shape = c.sweep_backward.ensures.shape;
         border = λ t lt.
-            backward_row-border _ _ (length c.args.sys.now) _ c.requires.least (λ i below. lane-narrow g.row.N t c.args.sys.now c.args.par.now c.args.cells.now lt c.requires.soft i) (c.sweep_backward.ensures.first t lt);
+            backward_row-border _ _ (length c.args.sys.now) _ c.requires.least
+            (λ i below. lane-narrow g.row.N t c.args.sys.now c.args.par.now c.args.cells.now lt c.requires.soft i) (c.sweep_backward.ensures.first t lt);
       },
     ),
   ),

@@ -17,7 +17,8 @@ loop-i-init g c =
     let n : ℕ = length c.args.sys.now in
     record {
       shape = c.requires.end.shape;
-      row = λ t lt. backward_at _ _ n (n - 0) 0 0 _ (omega arith) refl (backward_first (column t c.args.m.now) (lane_gain t c.args.sys.now c.args.par.now c.args.cells.now) n (column t c.args.m.now) refl (c.requires.end.border t lt));
+      row = λ t lt. backward_at _ _ n (n - 0) 0 0 _ (omega arith) refl (backward_first (column t c.args.m.now)
+          (lane_gain t c.args.sys.now c.args.par.now c.args.cells.now) n (column t c.args.m.now) refl (c.requires.end.border t lt));
       long = c.requires.cells;
       sums_long = c.requires.sums;
       kept = λ k lt. refl;
@@ -93,9 +94,12 @@ loop-i-preserved g c =
           (cell-set t c.loop-i.cells c.loop-i.sums j c.step_back.new.cell c.step_back.new.sum (new_cell w j) (omega (arith, place, h.long)) (omega (arith, place, h.sums_long))
           (c.step_back.ensures.cells t lt
           ∙ (ap (λ (m : List ℤ). cell_through m (column t c.loop-i.m) (at c.index-sys-j.result t) (at c.index-par-j.result t) (at (row_at c.loop-i.cells j) t)) before
-          ∙ (ap (λ (z : ℤ). cell_through (column t (metrics_at c.args.rows.now j)) (column t c.loop-i.m) z (at c.index-par-j.result t) (at (row_at c.loop-i.cells j) t)) (ap (λ (xs : List ℤ). at xs t) s ∙ sym (at-column sys t j in_sys))
-          ∙ (ap (λ (z : ℤ). cell_through (column t (metrics_at c.args.rows.now j)) (column t c.loop-i.m) (at w.sys j) z (at (row_at c.loop-i.cells j) t)) (ap (λ (xs : List ℤ). at xs t) p ∙ sym (at-column par t j in_par))
-          ∙ (ap (λ (z : ℤ). cell_through (column t (metrics_at c.args.rows.now j)) (column t c.loop-i.m) (at w.sys j) (at w.par j) z) (ap (λ (xs : List ℤ). at xs t) own ∙ sym (at-column cells t j in_cells))
+          ∙ (ap (λ (z : ℤ). cell_through (column t (metrics_at c.args.rows.now j)) (column t c.loop-i.m) z (at c.index-par-j.result t)
+          (at (row_at c.loop-i.cells j) t)) (ap (λ (xs : List ℤ). at xs t) s ∙ sym (at-column sys t j in_sys))
+          ∙ (ap (λ (z : ℤ). cell_through (column t (metrics_at c.args.rows.now j)) (column t c.loop-i.m) (at w.sys j) z (at (row_at c.loop-i.cells j) t))
+          (ap (λ (xs : List ℤ). at xs t) p ∙ sym (at-column par t j in_par))
+          ∙ (ap (λ (z : ℤ). cell_through (column t (metrics_at c.args.rows.now j)) (column t c.loop-i.m) (at w.sys j) (at w.par j) z)
+          (ap (λ (xs : List ℤ). at xs t) own ∙ sym (at-column cells t j in_cells))
           ∙ cell-best w j i (column t (metrics_at c.args.rows.now j)) (column t c.loop-i.m) (length-map cells (λ (row : List ℤ). at row t) ∙ (c.requires.cells ∙ sym place))
           (rows j in_sys) (backward_at _ _ (n - i) (suc j) i i (column t c.loop-i.m) (omega (arith, place)) refl (h.row t lt))))))))
           k le below;

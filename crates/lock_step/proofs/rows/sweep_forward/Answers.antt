@@ -36,8 +36,13 @@ keep-requires g c =
 pub add-requires : goal.add-requires
 add-requires g c =
     let s = row-read c.args.sys.now c.loop-j.j c.index-sys-j.result c.loop-j-test.true c.index-sys-j.is in
-    let k = row-read c.args.cells.now c.loop-j.j c.index-cells-j.result (omega (arith, c.loop-j-test.true, c.requires.cells)) c.index-cells-j.is in
-    (search rules, (read-small g.row.N 127 638 c.args.sys.now c.loop-j.j _ (omega arith) c.loop-j-test.true c.requires.soft.systematic s, read-small g.row.N 511 511 c.args.cells.now c.loop-j.j _ (omega arith) (omega (arith, c.loop-j-test.true, c.requires.cells)) c.requires.soft.extrinsic k))
+    let k = row-read c.args.cells.now c.loop-j.j c.index-cells-j.result (omega (arith, c.loop-j-test.true, c.requires.cells)) c.index-cells-j.is in (
+      search rules,
+      (
+        read-small g.row.N 127 638 c.args.sys.now c.loop-j.j _ (omega arith) c.loop-j-test.true c.requires.soft.systematic s,
+        read-small g.row.N 511 511 c.args.cells.now c.loop-j.j _ (omega arith) (omega (arith, c.loop-j-test.true, c.requires.cells)) c.requires.soft.extrinsic k,
+      ),
+    )
 
 pub forward-requires : goal.forward-requires
 forward-requires g c =
@@ -57,7 +62,8 @@ forward-requires g c =
           }),
           (
             sum-small g.row.N c.index-sys-j.result c.index-cells-j.result c.add.new.out
-                (read-small g.row.N 127 127 c.args.sys.now j _ (omega arith) c.loop-j-test.true c.requires.soft.systematic s) (read-small g.row.N 511 511 c.args.cells.now j _ (omega arith) (omega (arith, c.loop-j-test.true, c.requires.cells)) c.requires.soft.extrinsic k)
+                (read-small g.row.N 127 127 c.args.sys.now j _ (omega arith) c.loop-j-test.true c.requires.soft.systematic s)
+                (read-small g.row.N 511 511 c.args.cells.now j _ (omega arith) (omega (arith, c.loop-j-test.true, c.requires.cells)) c.requires.soft.extrinsic k)
                 c.add.ensures.lanes,
             read-small g.row.N 127 127 c.args.par.now j _ (omega arith) (omega (arith, c.loop-j-test.true, c.requires.parities)) c.requires.soft.parity p,
           ),

@@ -34,14 +34,16 @@ pub for_size-requires : goal.for_size-requires
 for_size-requires c =
     let p : Plan = c.unwrap-plan.result in
     let bs = c.as_slice-block-items.result.now in
-    let cut = are_cut c.args.payload.now p bs c.in_ok-blocks.blocks c.requires.some c.requires.few (rw c.unwrap-plan.ensures at c.plan.ensures.numbers) c.as_slice-block-items.ensures c.in_ok-blocks.ensures.blocks c.in_ok-blocks.ensures.shape in
+    let cut = are_cut c.args.payload.now p bs c.in_ok-blocks.blocks c.requires.some c.requires.few
+    (rw c.unwrap-plan.ensures at c.plan.ensures.numbers) c.as_slice-block-items.ensures c.in_ok-blocks.ensures.blocks c.in_ok-blocks.ensures.shape in
     subst (λ (k : ℕ). Contains sizes k) (sym (ap length c.as_slice.ensures)) (cut_block c.args.payload.now p bs c.loop-r.r c.block-item.result cut c.loop-r-test.true c.block-item.is).inside
 
 pub push_piece-requires-clause-block : goal.push_piece-requires-clause-block
 push_piece-requires-clause-block c =
     let p : Plan = c.unwrap-plan.result in
     let bs = c.as_slice-block-items.result.now in
-    let cut = are_cut c.args.payload.now p bs c.in_ok-blocks.blocks c.requires.some c.requires.few (rw c.unwrap-plan.ensures at c.plan.ensures.numbers) c.as_slice-block-items.ensures c.in_ok-blocks.ensures.blocks c.in_ok-blocks.ensures.shape in
+    let cut = are_cut c.args.payload.now p bs c.in_ok-blocks.blocks c.requires.some c.requires.few
+    (rw c.unwrap-plan.ensures at c.plan.ensures.numbers) c.as_slice-block-items.ensures c.in_ok-blocks.ensures.blocks c.in_ok-blocks.ensures.shape in
     (cut_block c.args.payload.now p bs c.loop-r.r c.block-item.result cut c.loop-r-test.true c.block-item.is).below
 
 pub push_piece-requires-clause-streams : goal.push_piece-requires-clause-streams
@@ -49,8 +51,10 @@ push_piece-requires-clause-streams c =
     let p : Plan = c.unwrap-plan.result in
     let bs = c.as_slice-block-items.result.now in
     let r : ℕ = c.loop-r.r in
-    let cut = are_cut c.args.payload.now p bs c.in_ok-blocks.blocks c.requires.some c.requires.few (rw c.unwrap-plan.ensures at c.plan.ensures.numbers) c.as_slice-block-items.ensures c.in_ok-blocks.ensures.blocks c.in_ok-blocks.ensures.shape in
-    subst (λ (s : Streams). AreStreams (size p r) (fill p r) s) (sym c.in_ok-streams.ensures) (cut_block c.args.payload.now p bs r c.block-item.result cut c.loop-r-test.true c.block-item.is).streams_are
+    let cut = are_cut c.args.payload.now p bs c.in_ok-blocks.blocks c.requires.some c.requires.few
+    (rw c.unwrap-plan.ensures at c.plan.ensures.numbers) c.as_slice-block-items.ensures c.in_ok-blocks.ensures.blocks c.in_ok-blocks.ensures.shape in
+    subst (λ (s : Streams). AreStreams (size p r) (fill p r) s) (sym c.in_ok-streams.ensures)
+    (cut_block c.args.payload.now p bs r c.block-item.result cut c.loop-r-test.true c.block-item.is).streams_are
 
 pub loop-r-preserved : goal.loop-r-preserved
 loop-r-preserved c =
@@ -62,7 +66,8 @@ loop-r-preserved c =
     let r : ℕ = c.loop-r.r in
     let bs = c.as_slice-block-items.result.now in
     let old : List Bit = c.loop-r.bits.items in
-    let cut = are_cut payload q bs c.in_ok-blocks.blocks c.requires.some c.requires.few (rw c.unwrap-plan.ensures at c.plan.ensures.numbers) c.as_slice-block-items.ensures c.in_ok-blocks.ensures.blocks c.in_ok-blocks.ensures.shape in
+    let cut = are_cut payload q bs c.in_ok-blocks.blocks c.requires.some c.requires.few
+    (rw c.unwrap-plan.ensures at c.plan.ensures.numbers) c.as_slice-block-items.ensures c.in_ok-blocks.ensures.blocks c.in_ok-blocks.ensures.shape in
     let at = cut_block payload q bs r c.block-item.result cut c.loop-r-test.true c.block-item.is in
     c.in_ok-push_piece.ensures
     ∙ ap (λ (s : Streams). old ++ sent q m s r rv) c.in_ok-streams.ensures
@@ -77,7 +82,8 @@ returns-clause-codeword c =
     let payload = c.args.payload.now in
     let p : Plan = plan_of (length payload) in
     let bs = c.as_slice-block-items.result.now in
-    let cut = are_cut payload c.unwrap-plan.result bs c.in_ok-blocks.blocks c.requires.some c.requires.few (rw c.unwrap-plan.ensures at c.plan.ensures.numbers) c.as_slice-block-items.ensures c.in_ok-blocks.ensures.blocks c.in_ok-blocks.ensures.shape in
+    let cut = are_cut payload c.unwrap-plan.result bs c.in_ok-blocks.blocks c.requires.some c.requires.few
+    (rw c.unwrap-plan.ensures at c.plan.ensures.numbers) c.as_slice-block-items.ensures c.in_ok-blocks.ensures.blocks c.in_ok-blocks.ensures.shape in
     let all : c.loop-r.r ≡ p.c = omega (arith, c.loop-r-test.false, c.loop-r.auto.r-end, shape-count c.unwrap-plan.result bs cut.shape, ap (λ (n : Plan). n.c) cut.planned) in
     c.from_vec.ensures ∙ c.loop-r.invariant
     ∙ ap (λ (n : ℕ). flat_map (λ i. sent p c.args.m.now (streams (block p payload i)) i c.args.rv) (range_with_len 0 n)) all

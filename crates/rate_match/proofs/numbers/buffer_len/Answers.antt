@@ -14,5 +14,6 @@ returns-in-Limited-clause-kept c fits =
     let block = block-numbers p c.args.r c.size.ensures.lawful c.requires in
     let rows : c.rows_of-whole.result ≡ rows_of (size p c.args.r) = c.rows_of-whole.ensures.value ∙ ap rows_of c.size.ensures.value in
     let part : c.in-Limited.limit / c.plan.inside.c ≡ c.in-Limited.limit / p.c = ap (λ (q : Plan). c.in-Limited.limit / q.c) c.plan.view_is in
-    let kept : 32 * rows_of (size p c.args.r) ≤ c.in-Limited.limit / p.c = limit-kept c.args.m.now.limit c.in-Limited.limit p.c (size p c.args.r) p.k_plus c.in-Limited.ensures.value fits block.larger in
+    let kept : 32 * rows_of (size p c.args.r) ≤ c.in-Limited.limit / p.c = limit-kept c.args.m.now.limit c.in-Limited.limit p.c
+    (size p c.args.r) p.k_plus c.in-Limited.ensures.value fits block.larger in
     omega (arith, rows, part, kept, c.min.ensures)

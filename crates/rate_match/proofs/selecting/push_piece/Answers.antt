@@ -46,7 +46,11 @@ pub write_bits-requires-clause-some : goal.write_bits-requires-clause-some
 write_bits-requires-clause-some c =
     let plan : Plan = c.args.plan.now in
     let block = block-numbers plan c.args.r c.ring_of-ring.ensures.lawful c.requires.block in
-    omega (arith, fitting_bit plan c.args.m.now c.args.r c.start.result (omega (arith, block.fills)) block.larger c.requires.fits, same_kept c.start.result c.ring_of-ring.ensures.size c.ring_of-ring.ensures.fillers c.ring_of-ring.ensures.places)
+    omega (
+      arith,
+      fitting_bit plan c.args.m.now c.args.r c.start.result (omega (arith, block.fills)) block.larger c.requires.fits,
+      same_kept c.start.result c.ring_of-ring.ensures.size c.ring_of-ring.ensures.fillers c.ring_of-ring.ensures.places,
+    )
 
 pub returns : goal.returns
 unfolding chosen

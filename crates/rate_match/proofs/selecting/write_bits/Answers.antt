@@ -86,14 +86,16 @@ loop-step-preserved c =
           let new : w.write_run.new.out ≡ map g (range_with_len 0 run) = w.write_run.ensures ∙ ap (λ m. map g (range_with_len 0 m)) part in
           let long : length w.write_run.new.out ≡ run = ap length new ∙ length-map-range_with_len g 0 run in
           let more : take c.if-run-gt0.done c.if-run-gt0.out ≡ take step.done step.out ++ map g (range_with_len 0 run) =
-          ap (λ m. take m c.if-run-gt0.out) w.done-is ∙ ap (take (step.done + run)) w.out-is ∙ part_written step.done run _ step.out w.write_run.new.out fits long ∙ ap (λ xs. take step.done step.out ++ xs) new in
+          ap (λ m. take m c.if-run-gt0.out) w.done-is ∙ ap (take (step.done + run)) w.out-is
+          ∙ part_written step.done run _ step.out w.write_run.new.out fits long ∙ ap (λ xs. take step.done step.out ++ xs) new in
           record {
             within = omega (arith, w.done-is, fits, c.if-run-gt0.auto.out, step.auto.out);
             walking = record {
               gone = gone + run;
               far = omega (arith, walking.far, some);
               at = c.next-cursor.ensures ∙ ap (cursor_at ring.rows) (place_behind c.args.start gone ring.size n c.if-run-gt0.cursor.n run here some end);
-              selecting = selecting_run f keep c.args.start ring.size count [] gone (count - step.done) (count - c.if-run-gt0.done) (take step.done step.out) (take c.if-run-gt0.done c.if-run-gt0.out) n run
+              selecting = selecting_run f keep c.args.start ring.size count [] gone (count - step.done) (count - c.if-run-gt0.done) (take step.done step.out)
+                  (take c.if-run-gt0.done c.if-run-gt0.out) n run
                   walking.selecting here c.run-run.ensures.within (λ i h. ap is_some (c.run-run.ensures.run.bits i h)) more (omega (arith, w.done-is, fits, step.auto.out));
             };
           }
@@ -108,8 +110,10 @@ loop-step-preserved c =
               gone = gone + 1;
               far = omega (arith, walking.far);
               at = c.next-cursor.ensures ∙ ap (λ (m : ℕ). cursor_at ring.rows ((m + 1) % ring.size)) there ∙ ap (cursor_at ring.rows) (next_place c.args.start gone ring.size n here);
-              selecting = selecting_kept f keep c.args.start ring.size count [] gone (count - step.done) (count - c.if-run-gt0.done) (take step.done step.out) (take c.if-run-gt0.done c.if-run-gt0.out) w.bit_at.result n
-                  walking.selecting here (ap is_some (sym w.in-Some.ensures.spot)) (w.bit_at.ensures ∙ ap (λ o. bit_of_cell (cell_at s o)) w.in-Some.ensures.spot) more (omega (arith, w.done-is, fits, step.auto.out));
+              selecting = selecting_kept f keep c.args.start ring.size count [] gone (count - step.done) (count - c.if-run-gt0.done) (take step.done step.out)
+                  (take c.if-run-gt0.done c.if-run-gt0.out) w.bit_at.result n
+                  walking.selecting here (ap is_some (sym w.in-Some.ensures.spot))
+                  (w.bit_at.ensures ∙ ap (λ o. bit_of_cell (cell_at s o)) w.in-Some.ensures.spot) more (omega (arith, w.done-is, fits, step.auto.out));
             };
           }
       | else-run-gt0+in_default w ↦
@@ -121,7 +125,8 @@ loop-step-preserved c =
               gone = gone + 1;
               far = omega (arith, walking.far);
               at = c.next-cursor.ensures ∙ ap (λ (m : ℕ). cursor_at ring.rows ((m + 1) % ring.size)) there ∙ ap (cursor_at ring.rows) (next_place c.args.start gone ring.size n here);
-              selecting = selecting_left f keep c.args.start ring.size count [] gone (count - step.done) (count - c.if-run-gt0.done) (take step.done step.out) (take c.if-run-gt0.done c.if-run-gt0.out) n
+              selecting = selecting_left f keep c.args.start ring.size count [] gone (count - step.done) (count - c.if-run-gt0.done) (take step.done step.out)
+                  (take c.if-run-gt0.done c.if-run-gt0.out) n
                   walking.selecting here (ap is_some (sym w.in_default.ensures.spot)) same (omega (arith, w.done-is));
             };
           }

@@ -19,7 +19,8 @@ loop-i-preserved c =
     let lt : i < length c.loop-i.out = omega arith in
     below_more _ _
     (λ k h. let ne : k ≢ i = omega arith in rw get_or-set_other (c.loop-i.invariant k h))
-    (rw get_or-set_same (c.bit_at.ensures ∙ ap (λ o. bit_of_cell (cell_at s o)) (ap (λ (t : Spot). Some t) c.spot_down.ensures.value ∙ sym (c.requires.run.bits i (omega (arith, lt, c.loop-i.auto.out))))))
+    (rw get_or-set_same (c.bit_at.ensures ∙ ap (λ o. bit_of_cell (cell_at s o))
+    (ap (λ (t : Spot). Some t) c.spot_down.ensures.value ∙ sym (c.requires.run.bits i (omega (arith, lt, c.loop-i.auto.out))))))
 
 pub returns : goal.returns
 unfolding bit_in

@@ -35,7 +35,8 @@ put-requires g c =
     let inside : c.loop-j.j < length c.loop-j.rows.items = omega (arith, whole, c.loop-j-test.true, c.loop-j.invariant.long) in (
       search rules,
       (
-        passed-within g.row.B c.clamp.result c.requires.bound (let p = c.clamp.ensures.lower_bound in omega (arith, ints, p, c.requires.bound)) (let q = c.clamp.ensures.upper_bound in omega (arith, ints, q, c.requires.bound)),
+        passed-within g.row.B c.clamp.result c.requires.bound (let p = c.clamp.ensures.lower_bound in omega (arith, ints, p, c.requires.bound))
+            (let q = c.clamp.ensures.upper_bound in omega (arith, ints, q, c.requires.bound)),
         λ t lt. subst (λ (xs : List ℤ). IsWithin g.row.B (at xs t))
             (sym (get_or_read c.loop-j.rows.items c.loop-j.j c.index_mut.result.now inside c.index_mut.ensures.value []))
             (c.loop-j.invariant.within c.loop-j.j t inside lt),

@@ -22,8 +22,10 @@ returns c =
     (length-interleaved bits) coders.first_end coders.second_end
     (c.in_ok-ended.ensures ∙ (ap (λ (cells : List Cell). cells ++ cells_of tails.d0) c.in_ok-own.ensures
     ∙ ap (λ (tail : List Bit). null_filled fill bits ++ cells_of tail) c.new-tails.ensures.d0))
-    (c.in_ok-ended-2.ensures ∙ (ap (λ (cells : List Cell). cells ++ cells_of tails.d1) (all_written first.len first.items c.code-ends.new.first first.ok.0 (omega (arith, c.code-ends.auto.first, ap length c.as_mut_slice.ensures.value)) ∙ coders.first)
+    (c.in_ok-ended-2.ensures ∙ (ap (λ (cells : List Cell). cells ++ cells_of tails.d1)
+    (all_written first.len first.items c.code-ends.new.first first.ok.0 (omega (arith, c.code-ends.auto.first, ap length c.as_mut_slice.ensures.value)) ∙ coders.first)
     ∙ ap (λ (tail : List Bit). null_filled fill (parities bits) ++ cells_of tail) c.new-tails.ensures.d1))
-    (c.in_ok-ended-3.ensures ∙ (ap (λ (cells : List Cell). cells ++ cells_of tails.d2) (all_written second.len second.items c.code-ends.new.second second.ok.0 (omega (arith, c.code-ends.auto.second, ap length c.as_mut_slice-2.ensures.value)) ∙ coders.second)
+    (c.in_ok-ended-3.ensures ∙ (ap (λ (cells : List Cell). cells ++ cells_of tails.d2)
+    (all_written second.len second.items c.code-ends.new.second second.ok.0 (omega (arith, c.code-ends.auto.second, ap length c.as_mut_slice-2.ensures.value)) ∙ coders.second)
     ∙ ap (λ (tail : List Bit). cells_of (parities (interleaved bits)) ++ cells_of tail) c.new-tails.ensures.d2))
     ∙ ap (λ (bs : List Bit). coded fill bs (interleaved bs)) c.as_slice-bits.ensures

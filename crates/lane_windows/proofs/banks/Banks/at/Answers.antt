@@ -15,7 +15,8 @@ lane_cell-requires g c =
     let lane : c.args.n / w < g.row.N = subst (λ (w : ℕ). c.args.n / w < g.row.N) (sym e)
     (place-bank g.row.N b.values.items b.sums.items c.args.self.now c.self.invariant c.self.view_is c.args.n c.requires) in
     let within : IsWithin 511 (at c.index-values.result.now (c.args.n / w)) =
-    subst (IsWithin 511) (sym (read-number b.values.items (c.args.n % w) (c.args.n / w) c.index-values.result.now lr c.index-values.ensures)) (c.self.invariant.within (c.args.n % w) (c.args.n / w) lr lane) in
+    subst (IsWithin 511) (sym (read-number b.values.items (c.args.n % w) (c.args.n / w) c.index-values.result.now lr c.index-values.ensures))
+    (c.self.invariant.within (c.args.n % w) (c.args.n / w) lr lane) in
     (fits-twice g.row.N c.self.invariant.lanes, (lane, within))
 
 pub returns : goal.returns

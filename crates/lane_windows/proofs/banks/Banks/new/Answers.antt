@@ -32,7 +32,8 @@ loop-r-preserved g c =
       long = c.set_row.ensures.long ∙ inv.long;
       done = λ s b ls lb. elim (cases_eq s l.r) [
         | inl es ↦ subst (λ (k : ℕ). cell_at c.set_row.new.self (b * w + k) ≡ cell_at c.args.cells (b * w + k)) (sym es)
-            (ap (λ (k : ℕ). cell_at c.set_row.new.self (b * k + l.r)) (sym e) ∙ (row b lb ∙ (c.row_of.ensures b lb ∙ ap (λ (xs : List Extrinsic). cell_at xs (b * w + l.r)) c.as_slice-in-loop-r.ensures)))
+            (ap (λ (k : ℕ). cell_at c.set_row.new.self (b * k + l.r)) (sym e)
+            ∙ (row b lb ∙ (c.row_of.ensures b lb ∙ ap (λ (xs : List Extrinsic). cell_at xs (b * w + l.r)) c.as_slice-in-loop-r.ensures)))
         | inr ne ↦ (
             let far : (b * w + s) % (length l.banks / n) ≢ l.r = λ h. ne (sym (mod-mul-add b w s (omega (arith, ls, c.loop-r-test.true))) ∙ (ap (λ (k : ℕ). (b * w + s) % k) (sym e) ∙ h)) in
             others (b * w + s) far ∙ inv.done s b (omega (arith, ls, ne)) lb)

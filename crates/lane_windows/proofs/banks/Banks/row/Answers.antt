@@ -25,7 +25,8 @@ lane_cell-requires g c =
     let b = c.self.inside in
     let w = width-of_view g.row.N b.values.items b.sums.items c.args.self.now c.self.invariant c.self.view_is in
     let h : IsWithin 511 (at c.index-values.result.now c.loop-b.b) =
-    subst (IsWithin 511) (sym (read-number b.values.items c.args.r c.loop-b.b c.index-values.result.now (omega (arith, w, c.requires)) c.index-values.ensures)) (c.self.invariant.within c.args.r c.loop-b.b (omega (arith, w, c.requires)) (omega (arith, c.loop-b-test.true))) in
+    subst (IsWithin 511) (sym (read-number b.values.items c.args.r c.loop-b.b c.index-values.result.now (omega (arith, w, c.requires)) c.index-values.ensures))
+    (c.self.invariant.within c.args.r c.loop-b.b (omega (arith, w, c.requires)) (omega (arith, c.loop-b-test.true))) in
     (fits-twice g.row.N c.self.invariant.lanes, ((let lane : c.loop-b.b < g.row.N = omega (arith, c.loop-b-test.true) in lane), h))
 
 pub returns : goal.returns

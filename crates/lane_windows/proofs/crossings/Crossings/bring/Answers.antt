@@ -40,12 +40,14 @@ loop-j-preserved g c =
     let brought : (t : ℕ) → t < n → at c.bring_row.new.to t ≡ at source (bank_at s.banks.items l.j t) =
     λ t lt. c.bring_row.ensures t lt ∙ ap (at source) (read-bank s.banks.items l.j t c.index-in-loop-j.result.now lb c.index-in-loop-j.ensures) in
     let from-kept : (m : ℕ) → AreWithin n m c.args.from.now → (b : ℕ) → b < n → IsWithin m (at source b) =
-    λ m all b lm. subst (IsWithin m) (sym (read-number c.args.from.now (slice_index s.rows.items l.j) b source (omega (arith, c.requires.from, c.requires.table.1.row l.j lj)) read)) (all (slice_index s.rows.items l.j) b (omega (arith, c.requires.from, c.requires.table.1.row l.j lj)) lm) in
+    λ m all b lm. subst (IsWithin m) (sym (read-number c.args.from.now (slice_index s.rows.items l.j) b source
+    (omega (arith, c.requires.from, c.requires.table.1.row l.j lj)) read)) (all (slice_index s.rows.items l.j) b (omega (arith, c.requires.from, c.requires.table.1.row l.j lj)) lm) in
     record {
       done = bring-more n w c.requires.table.0 s.rows.items s.banks.items c.requires.table.1 c.args.from.now l.to l.j source c.bring_row.new.to lj l.auto.to c.requires.from read brought inv.done;
       kept = λ m all i t li lt. elim (cases_eq i l.j) [
         | inl e ↦ subst (λ (k : ℕ). IsWithin m (number_in (slice_set l.to l.j c.bring_row.new.to) k t)) (sym e)
-            (subst (IsWithin m) (sym (number-in_same l.to l.j t c.bring_row.new.to (omega (arith, l.auto.to, lj)))) (subst (IsWithin m) (sym (brought t lt)) (from-kept m all (bank_at s.banks.items l.j t) (c.requires.table.1.bank l.j t lj lt))))
+            (subst (IsWithin m) (sym (number-in_same l.to l.j t c.bring_row.new.to (omega (arith, l.auto.to, lj))))
+            (subst (IsWithin m) (sym (brought t lt)) (from-kept m all (bank_at s.banks.items l.j t) (c.requires.table.1.bank l.j t lj lt))))
         | inr ne ↦ subst (IsWithin m) (sym (number-in_other l.to l.j i t c.bring_row.new.to ne)) (inv.kept m all i t (omega (arith, li, ne)) lt)
       ];
     }

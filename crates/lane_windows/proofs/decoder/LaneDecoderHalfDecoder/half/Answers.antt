@@ -23,7 +23,8 @@ invariant_of-result g c =
         back = still n b.back.len half.new.back c.as_mut_slice-4.result.now b.back.items b.back.ok.0 c.as_mut_slice-4.ensures.value half.auto.back d.border_room.back;
       };
       all_places = ap length half.ensures.cells
-          ∙ length-map-range_with_len (λ i. renewed d.views.views.streams.now d.views.views.shape c.args.h (start_of d.banks c.as_mut_slice-5.result.now) (position_of d.views.views.shape.k c.args.h i)) 0 d.views.views.shape.k;
+          ∙ length-map-range_with_len (λ i. renewed d.views.views.streams.now d.views.views.shape c.args.h (start_of d.banks c.as_mut_slice-5.result.now)
+          (position_of d.views.views.shape.k c.args.h i)) 0 d.views.views.shape.k;
       all_windows = still n d.left_before_last.len half.new.left c.as_mut_slice-5.result.now d.left_before_last.items d.left_before_last.ok.0 c.as_mut_slice-5.ensures.value half.auto.left d.all_windows_earlier;
       all_windows_earlier = d.all_windows;
     }

@@ -57,6 +57,7 @@ invariant_of-result g c =
       steps = c.in_ok-crossings.ensures.rows ∙ c.width.ensures.value;
       bank_steps = c.in_ok-crossings.ensures.banks ∙ c.width.ensures.value;
       table = subst (λ (k : ℕ). IsTable n k (place shape.k) x.rows.items x.banks.items) c.width.ensures.value
-          (table-by n w (slice_index places) (place shape.k) x.rows.items x.banks.items (λ i li. place-at shape places whole c.places.ensures i (omega (arith, li, e))) c.in_ok-crossings.ensures.table);
+          (table-by n w (slice_index places) (place shape.k) x.rows.items x.banks.items
+          (λ i li. place-at shape places whole c.places.ensures i (omega (arith, li, e))) c.in_ok-crossings.ensures.table);
       apart = λ i j li lj same. order-apart shape.k 1 i j whole.size (omega (arith, li, e2)) (omega (arith, lj, e2)) same;
     }

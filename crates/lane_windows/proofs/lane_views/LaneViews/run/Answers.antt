@@ -85,7 +85,8 @@ returns-then-h-eq0-clause-ran g c =
     let even = equal (h % 2) 0 c.if-h-eq0.true in
     let rows = rows-read n v.views.streams.now shape 0 _ _ _ _ c.as_slice.ensures.value c.as_slice-then-h-eq0.ensures.value v.natural_rows in
     half-ran n v.views.streams.now shape h (length c.args.banks.now / n) (λ i. i) c.args.from.now c.args.to.now c.as_slice.result.now c.as_slice-then-h-eq0.result.now c.args.banks.now c.run_straight.new.banks c.run_straight.new.ahead c.run_straight.new.back
-    (rows-of_order n v.views.streams.now shape 0 h c.as_slice.result.now c.as_slice-then-h-eq0.result.now even rows) w (λ i. ap (λ (b : Bool). cond b i (place shape.k i)) (sym even)) c.run_straight.ensures.ran
+    (rows-of_order n v.views.streams.now shape 0 h c.as_slice.result.now c.as_slice-then-h-eq0.result.now even rows) w
+    (λ i. ap (λ (b : Bool). cond b i (place shape.k i)) (sym even)) c.run_straight.ensures.ran
 
 pub returns-else-h-eq0-clause-ran : goal.returns-else-h-eq0-clause-ran
 returns-else-h-eq0-clause-ran g c =

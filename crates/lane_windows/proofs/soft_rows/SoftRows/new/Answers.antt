@@ -25,14 +25,20 @@ zero_rows-requires-2 g c = omega (arith, lanes-few g.row.N c.requires.lanes)
 pub lay_out-requires : goal.lay_out-requires
 lay_out-requires g c =
     let n = g.row.N in let v = c.args.views.now in let w : ℕ = c.width-width.result in
-    let rows : length c.as_mut_slice.result.now ≡ w = ap length (c.as_mut_slice.ensures.value ∙ c.in_ok-systematic.ensures) ∙ length-replicate w (replicate n (pos 0)) in
-    (fits-twice n c.requires.lanes, enough n w (length c.as_mut_slice.result.now) v.shape (systematic_at v.streams.now v.shape.k c.args.h) c.systematic.result.now c.width-width.ensures.whole c.requires.windows c.width-width.ensures.value rows c.systematic.ensures)
+    let rows : length c.as_mut_slice.result.now ≡ w = ap length (c.as_mut_slice.ensures.value ∙ c.in_ok-systematic.ensures) ∙ length-replicate w (replicate n (pos 0)) in (
+      fits-twice n c.requires.lanes,
+      enough n w (length c.as_mut_slice.result.now) v.shape
+          (systematic_at v.streams.now v.shape.k c.args.h) c.systematic.result.now c.width-width.ensures.whole c.requires.windows c.width-width.ensures.value rows c.systematic.ensures,
+    )
 
 pub lay_out-requires-2 : goal.lay_out-requires-2
 lay_out-requires-2 g c =
     let n = g.row.N in let v = c.args.views.now in let w : ℕ = c.width-width.result in
-    let rows : length c.as_mut_slice-2.result.now ≡ w = ap length (c.as_mut_slice-2.ensures.value ∙ c.in_ok-parity.ensures) ∙ length-replicate w (replicate n (pos 0)) in
-    (fits-twice n c.requires.lanes, enough n w (length c.as_mut_slice-2.result.now) v.shape (parity_at v.streams.now c.args.h) c.parity.result.now c.width-width.ensures.whole c.requires.windows c.width-width.ensures.value rows c.parity.ensures)
+    let rows : length c.as_mut_slice-2.result.now ≡ w = ap length (c.as_mut_slice-2.ensures.value ∙ c.in_ok-parity.ensures) ∙ length-replicate w (replicate n (pos 0)) in (
+      fits-twice n c.requires.lanes,
+      enough n w (length c.as_mut_slice-2.result.now) v.shape
+          (parity_at v.streams.now c.args.h) c.parity.result.now c.width-width.ensures.whole c.requires.windows c.width-width.ensures.value rows c.parity.ensures,
+    )
 
 -- a column of rows that were laid out
 laid : (shape : Shape) (f : ℕ → ℤ) (values : List ℤ) (all rows : List (List ℤ)) (v t : ℕ) → AreWhole shape → t < shape.windows → values ≡ by_position shape f → all ≡ rows
@@ -52,8 +58,10 @@ returns g c =
     record {
       systematic_long = ap length es ∙ (c.lay_out.auto.rows ∙ (ls ∙ ew));
       parity_long = ap length ep ∙ (c.lay_out-2.auto.rows ∙ (lp ∙ ew));
-      systematic = λ t lt. laid shape (systematic_at v.streams.now shape.k c.args.h) c.systematic.result.now _ c.lay_out.new.rows (length c.as_mut_slice.result.now) t whole (omega (arith, c.requires.windows, lt)) c.systematic.ensures es (ls ∙ ew) (c.lay_out.ensures.columns t lt);
-      parity = λ t lt. laid shape (parity_at v.streams.now c.args.h) c.parity.result.now _ c.lay_out-2.new.rows (length c.as_mut_slice-2.result.now) t whole (omega (arith, c.requires.windows, lt)) c.parity.ensures ep (lp ∙ ew) (c.lay_out-2.ensures.columns t lt);
+      systematic = λ t lt. laid shape (systematic_at v.streams.now shape.k c.args.h) c.systematic.result.now _ c.lay_out.new.rows
+          (length c.as_mut_slice.result.now) t whole (omega (arith, c.requires.windows, lt)) c.systematic.ensures es (ls ∙ ew) (c.lay_out.ensures.columns t lt);
+      parity = λ t lt. laid shape (parity_at v.streams.now c.args.h) c.parity.result.now _ c.lay_out-2.new.rows (length c.as_mut_slice-2.result.now) t whole
+          (omega (arith, c.requires.windows, lt)) c.parity.ensures ep (lp ∙ ew) (c.lay_out-2.ensures.columns t lt);
       systematic_soft = subst (AreWithin n 127) (sym es) c.lay_out.ensures.within;
       parity_soft = subst (AreWithin n 127) (sym ep) c.lay_out-2.ensures.within;
     }

@@ -26,11 +26,14 @@ pub for_size-requires : goal.for_size-requires
 for_size-requires c =
     let p : Plan = c.unwrap-plan.result in
     let bs = c.as_slice-block-items.result.now in
-    let cut = are_cut c.args.payload.now p bs c.in_ok-blocks.blocks c.requires.some c.requires.few (rw c.unwrap-plan.ensures at c.plan.ensures.numbers) c.as_slice-block-items.ensures c.in_ok-blocks.ensures.blocks c.in_ok-blocks.ensures.shape in
-    subst (λ (k : ℕ). Contains sizes k) (sym (ap length c.as_slice.ensures)) (cut_block c.args.payload.now p bs c.loop-block.block-index c.block-item.result cut c.loop-block-test.true c.block-item.is).inside
+    let cut = are_cut c.args.payload.now p bs c.in_ok-blocks.blocks c.requires.some c.requires.few
+    (rw c.unwrap-plan.ensures at c.plan.ensures.numbers) c.as_slice-block-items.ensures c.in_ok-blocks.ensures.blocks c.in_ok-blocks.ensures.shape in
+    subst (λ (k : ℕ). Contains sizes k) (sym (ap length c.as_slice.ensures))
+    (cut_block c.args.payload.now p bs c.loop-block.block-index c.block-item.result cut c.loop-block-test.true c.block-item.is).inside
 
 -- the streams of one block more
-streams_more : (bs : List Block) (i : ℕ) (b : Block) (s : Streams) (old new : List Streams) → i < length bs → b ≡ get_or bs i b → s ≡ streams b → old ≡ map streams (take i bs) → new ≡ old ++ s ∷ [] → new ≡ map streams (take (i + 1) bs)
+streams_more : (bs : List Block) (i : ℕ) (b : Block) (s : Streams) (old new : List Streams) → i < length bs → b ≡ get_or bs i b → s ≡ streams b
+    → old ≡ map streams (take i bs) → new ≡ old ++ s ∷ [] → new ≡ map streams (take (i + 1) bs)
 streams_more bs i b s old new within is made before push =
     push
     ∙ ap (λ (xs : List Streams). xs ++ s ∷ []) before

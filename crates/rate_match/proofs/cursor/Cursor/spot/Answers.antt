@@ -21,7 +21,8 @@ pub overflow_add-self-else-self-places-2 : goal.overflow_add-self-else-self-plac
 overflow_add-self-else-self-places-2 c = let ring = c.args.ring in let h = here ring c.args.self c.requires.within c.requires.lawful in omega (arith, h.place, h.few)
 
 pub padded_spot-requires-else-self-places-2-clause-within : goal.padded_spot-requires-else-self-places-2-clause-within
-padded_spot-requires-else-self-places-2-clause-within c = let ring = c.args.ring in let h = here ring c.args.self c.requires.within c.requires.lawful in omega (arith, h.place, ring.height, c.if-self-places-2.false)
+padded_spot-requires-else-self-places-2-clause-within c = let ring = c.args.ring in let h = here ring c.args.self c.requires.within c.requires.lawful in
+    omega (arith, h.place, ring.height, c.if-self-places-2.false)
 
 pub returns-then-self-places-2-clause-spot : goal.returns-then-self-places-2-clause-spot
 returns-then-self-places-2-clause-spot c =

@@ -40,7 +40,8 @@ sendings_more ys v are room small lawful same =
       few = omega (arith, length-append ys (v ∷ []), room);
       versions = All-append (λ s. s.rv ≤ 3) ys (v ∷ []) are.versions (one (λ s. s.rv ≤ 3) small);
       lawful = All-append (λ s. IsMatch s.m) ys (v ∷ []) are.lawful (one (λ s. IsMatch s.m) lawful);
-      buffer = All-append (λ s. s.m.limit ≡ (common (ys ++ v ∷ [])).limit) ys (v ∷ []) (λ k d inside. are.buffer k d inside ∙ sym kept) (one (λ s. s.m.limit ≡ (common (ys ++ v ∷ [])).limit) (same ∙ sym kept));
+      buffer = All-append (λ s. s.m.limit ≡ (common (ys ++ v ∷ [])).limit) ys (v ∷ []) (λ k d inside. are.buffer k d inside ∙ sym kept)
+          (one (λ s. s.m.limit ≡ (common (ys ++ v ∷ [])).limit) (same ∙ sym kept));
     }
   where
     one : (P : Sending → Type 0) → P v → All P (v ∷ [])
