@@ -1,13 +1,12 @@
 //! The borders of the windows of a half.
-ghost use Rattle.std.specs.Prelude.{◌≡◌, ◌==◌, ℕ, ◌+◌, ◌<◌, [], if◌then◌else◌, IfOk, length, map};
+ghost use Rattle.std.specs.Prelude.{◌≡◌, ℕ, ◌<◌, IfOk, length, map};
 ghost use Rattle.std.specs.List.{range_with_len};
-ghost use Rattle.model_receiver.specs.HalfIteration.{left_by, start_border};
-ghost use Rattle.serial_decode.specs.Runs.{start_of};
+ghost use Rattle.model_receiver.specs.HalfIteration.{start_by, end_by};
 ghost use Rattle.lock_step.specs.Lanes.{border_at};
 ghost use Rattle.lane_windows.specs.Borders.{HaveWindows};
 
 use lte_bits::NoMemory;
-use serial_decode::left::BordersLeft;
+use serial_decode::left::{BordersLeft, end_of};
 use std::alloc::Global;
 use window_decode::Border;
 
@@ -38,21 +37,9 @@ impl Borders {
     }
 }
 
-/// The border with which window `t` ends: that of the tail, or the one that the next window left.
-fn end_of(left: &[BordersLeft], tail: Border, t: usize) -> Border
-    requires { t < length left.now }
-    ensures { result ≡ if t + 1 == length left.now then tail else (left_by left.now (t + 1)).backward }
-{
-    if t + 1 == left.len() {
-        tail
-    } else {
-        let next = left[t + 1];
-        next.backward
-    }
-}
-
 /// Takes the borders that so many windows left: each window starts with the forward one of the window before,
-/// the first with the known border; it ends with the backward one of the next window, the last with the tail's.
+/// the first with the known border; it ends with the backward one of the next window, the last with the
+/// tail's.
 pub fn take_left(
     windows: usize,
     left: &[BordersLeft],
@@ -64,15 +51,14 @@ pub fn take_left(
     requires from { length from.old ≡ length left.now }
     requires to { length to.old ≡ length left.now }
     ensures from { (t : ℕ) → t < length left.now
-        → border_at from.new t ≡ start_border (start_of [] left.now) t }
+        → border_at from.new t ≡ start_by left.now t }
     ensures to { (t : ℕ) → t < length left.now
-        → border_at to.new t
-        ≡ if t + 1 == length left.now then tail else (left_by left.now (t + 1)).backward }
+        → border_at to.new t ≡ end_by (length left.now) left.now tail t }
 {
     let mut start = Border::known();
     for t in 0..windows {
         from[t] = start;
-        to[t] = end_of(left, tail, t);
+        to[t] = end_of(left.len(), left, tail, t);
         let this = left[t];
         start = this.forward;
     }

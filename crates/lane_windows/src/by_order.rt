@@ -57,9 +57,10 @@ fn run_in_order<const N: usize>(
     }
 }
 
-/// Decodes N windows of W positions in lock step between their borders: leaves the new cells in the banks, and
-/// the borders that each window leaves, the forward one in `ahead` and the backward one in `back`. `sys` and
-/// `par` have the N*W values by position. An interleaved order has N*W places, and the work has room for W.
+/// Decodes N windows of W positions in lock step between their borders: leaves the new cells in the banks,
+/// and the borders that each window leaves, the forward one in `ahead` and the backward one in `back`. `sys`
+/// and `par` have the N*W values by position. An interleaved order has N*W places, and the work has room for
+/// W.
 pub fn run_lock_step<const N: usize>(
     work: &mut LaneWork<N>,
     order: &Order,

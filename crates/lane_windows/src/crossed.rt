@@ -47,8 +47,8 @@ pub fn run_straight<const N: usize>(
     );
 }
 
-/// Decodes N windows whose positions are at the places of a table of crossings, with room for their cells in the
-/// order of the windows.
+/// Decodes N windows whose positions are at the places of a table of crossings, with room for their cells in
+/// the order of the windows.
 fn run_in_room<const N: usize>(
     kernel: &mut Kernel<N>,
     values: &mut [[i16; N]],

@@ -14,8 +14,8 @@ use serial_decode::left::BordersLeft;
 use std::alloc::Global;
 use window_decode::Shape;
 
-/// A code block under decoding: the cells of all places in banks, and the borders that each window left in the
-/// half before and in the one before that.
+/// A code block under decoding: the cells of all places in banks, and the borders that each window left in
+/// the half before and in the one before that.
 #[derive(Drop)]
 pub struct LaneDecoder<'a, const N: usize> {
     views: LaneViews<'a, N>,
