@@ -9,9 +9,9 @@ use Rattle.gold_scramble.proofs.PlaceLists.{at-places, length-places, places-app
 use Rattle.gold_scramble.proofs.Sequences.{length-x1_first, length-x2_first}
 use Rattle.gold_scramble.proofs.Stepping.{same_registers}
 
-goes_on_behind : (next : Recurrence) (first : List Bit) (n m : ℕ) → length first ≡ 31
+goes_on_after : (next : Recurrence) (first : List Bit) (n m : ℕ) → length first ≡ 31
     → place next first (n + (m + 31)) ≡ given next (λ k. place next first (n + k)) m
-goes_on_behind next first n m long =
+goes_on_after next first n m long =
     let x = place next first in
     let here : x (n + (m + 31)) ≡ x (n + m + 31) = ap x (omega arith) in
     let b : x (n + m + 1) ≡ x (n + (m + 1)) = ap x (omega arith) in
@@ -25,7 +25,7 @@ pub place-moved : (next : Recurrence) (first : List Bit) (n k : ℕ) → length 
 place-moved next first n k long =
     sym (place_only next (places (place next first) n 31) (λ i. place next first (n + i)) (length-places (place next first) n 31)
     (λ i h. sym (at-places (place next first) n 31 i h))
-    (λ m. goes_on_behind next first n m long) k)
+    (λ m. goes_on_after next first n m long) k)
 
 pub coming-moved : (g : Registers) (n k : ℕ) → AreWhole g → coming (moved g n) k ≡ coming g (n + k)
 coming-moved g n k whole =

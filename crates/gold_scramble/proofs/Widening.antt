@@ -93,20 +93,20 @@ tap : (x count k n j m : ℕ) → count ≤ 28 → k ≤ 3 → n + j + 1 ≡ cou
 tap x count k n j m few taps e f =
     digit_shifted x (31 - k - count) j (30 - m) (omega arith) ∙ sym (at-highest_first 31 x m (30 - m) (omega arith))
 
-abbrev pub x1_behind : (x count : ℕ) → ℕ
-x1_behind x count = bit_xor (x / 2 ^ (28 - count)) (x / 2 ^ (31 - count))
+abbrev pub x1_next : (x count : ℕ) → ℕ
+x1_next x count = bit_xor (x / 2 ^ (28 - count)) (x / 2 ^ (31 - count))
 
-pub x1_fresh : (x count : ℕ) → count ≤ 28 → (n j : ℕ) → n + j + 1 ≡ count → binary_digit (x1_behind x count) j ≡ given x1_recurrence (at (highest_first 31 x)) n
+pub x1_fresh : (x count : ℕ) → count ≤ 28 → (n j : ℕ) → n + j + 1 ≡ count → binary_digit (x1_next x count) j ≡ given x1_recurrence (at (highest_first 31 x)) n
 x1_fresh x count few n j e =
     let d : binary_digit (x / 2 ^ (28 - count)) j ≡ at (highest_first 31 x) (n + 3) = tap x count 3 n j (n + 3) few (omega arith) e refl in
     let a : binary_digit (x / 2 ^ (31 - count)) j ≡ at (highest_first 31 x) n = tap x count 0 n j n few (omega arith) e (omega arith) in
     digit_xor (x / 2 ^ (28 - count)) (x / 2 ^ (31 - count)) j ∙ (let f : plus (binary_digit (x / 2 ^ (28 - count)) j) (binary_digit (x / 2 ^ (31 - count)) j)
     ≡ plus (at (highest_first 31 x) (n + 3)) (at (highest_first 31 x) n) = cc in f)
 
-abbrev pub x2_behind : (x count : ℕ) → ℕ
-x2_behind x count = bit_xor (bit_xor (bit_xor (x / 2 ^ (28 - count)) (x / 2 ^ (29 - count))) (x / 2 ^ (30 - count))) (x / 2 ^ (31 - count))
+abbrev pub x2_next : (x count : ℕ) → ℕ
+x2_next x count = bit_xor (bit_xor (bit_xor (x / 2 ^ (28 - count)) (x / 2 ^ (29 - count))) (x / 2 ^ (30 - count))) (x / 2 ^ (31 - count))
 
-pub x2_fresh : (x count : ℕ) → count ≤ 28 → (n j : ℕ) → n + j + 1 ≡ count → binary_digit (x2_behind x count) j ≡ given x2_recurrence (at (highest_first 31 x)) n
+pub x2_fresh : (x count : ℕ) → count ≤ 28 → (n j : ℕ) → n + j + 1 ≡ count → binary_digit (x2_next x count) j ≡ given x2_recurrence (at (highest_first 31 x)) n
 x2_fresh x count few n j e =
     let first = highest_first 31 x in
     let d' = x / 2 ^ (28 - count) in

@@ -38,8 +38,8 @@ in_part from width xs zs d k within long h =
     ∙ (ap (λ (n : ℕ). get_or (zs ++ post_of from width xs) n d) (let e : from + k - from ≡ k = omega arith in e)
     ∙ get_or_append_left zs (post_of from width xs) d k (omega arith))
 
-behind_part : {X : Type 0} (from width : ℕ) (xs zs : List X) (d : X) (i : ℕ) → from ≤ length xs → length zs ≡ width → from + width ≤ i → get_or (put_mid from width xs zs) i d ≡ get_or xs i d
-behind_part from width xs zs d i within long h =
+after_part : {X : Type 0} (from width : ℕ) (xs zs : List X) (d : X) (i : ℕ) → from ≤ length xs → length zs ≡ width → from + width ≤ i → get_or (put_mid from width xs zs) i d ≡ get_or xs i d
+after_part from width xs zs d i within long h =
     get_or-append_right (take from xs) (zs ++ post_of from width xs) from i d (length-take-le from xs within) (omega arith)
     ∙ (get_or-append_right zs (post_of from width xs) width (i - from) d long (omega arith)
     ∙ (get_or-drop width (drop from xs) (i - from - width) d
@@ -62,5 +62,5 @@ part_written f d ys xs zs from width end within long is part ends reaches = reco
         ∙ (ap (f (from + j)) (is.rest (from + j) (omega arith))
         ∙ ap (λ (n : ℕ). f n (get_or ys n d)) e)))
   ];
-  rest = λ k h. behind_part from width xs zs d k (omega arith) long (omega arith) ∙ is.rest k (omega arith);
+  rest = λ k h. after_part from width xs zs d k (omega arith) long (omega arith) ∙ is.rest k (omega arith);
 }

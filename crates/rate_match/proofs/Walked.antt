@@ -134,8 +134,8 @@ run_kept keep k n s p m is within kept =
     ∙ ap (λ xs. walked keep k n s ++ xs) (run-found keep k n p (0 + s) 0 m at (λ i h. ap keep (let e : p + (0 + i) ≡ p + i = omega arith in e) ∙ kept i h))
 
 -- the place after a run that ends at q
-pub place_behind : (k s n p q m : ℕ) → p ≡ (k + s) % n → 0 < m → q ≡ p + (m - 1) → (q + 1) % n ≡ (k + (s + m)) % n
-place_behind k s n p q m is some end =
+pub place_after : (k s n p q m : ℕ) → p ≡ (k + s) % n → 0 < m → q ≡ p + (m - 1) → (q + 1) % n ≡ (k + (s + m)) % n
+place_after k s n p q m is some end =
     ap (λ (m : ℕ). m % n) (let e : q + 1 ≡ m + p = omega (arith, end, some) in e)
     ∙ ap (λ (q : ℕ). (m + q) % n) is
     ∙ add-mod-mod m (k + s) n

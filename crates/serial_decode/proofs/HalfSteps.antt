@@ -72,7 +72,7 @@ pub one_more_done : (soft : SoftStreams) (shape : Shape) (h : ℕ) (b : Before) 
 one_more_done soft shape h b t cells new left start next w l lt part ew r el en = record {
   long = r.long;
   done = λ i li. by_place i li (cases_lt i (t * window_width shape));
-  to_do = λ i le li. r.behind i le li ∙ part.to_do i (not_before i (window_width shape) le) li;
+  to_do = λ i le li. r.later i le li ∙ part.to_do i (not_before i (window_width shape) le) li;
   left_long = length-set left t l ∙ part.left_long;
   left_done = λ u lu. by_window u lu (cases_eq u t);
   left_to_do = λ u le. get_or-set_other left t u l none_left (λ e. absurd (omega (arith, e, le))) ∙ part.left_to_do u (omega (arith, le));

@@ -44,9 +44,9 @@ replaced shape h t w places more old new whole lt eo long em ec ee =
       before = λ i li. other-stays places more old new (order shape.k h i) em ee (λ j lj.
           let l : j < window_width shape = omega (arith, wide, lj) in
           apart i j l (omega (arith, position-inside shape t j whole lt l, li)) (not_before i j (window_width shape) li));
-      behind = λ i le li. other-stays places more old new (order shape.k h i) em ee (λ j lj.
+      later = λ i le li. other-stays places more old new (order shape.k h i) em ee (λ j lj.
           let l : j < window_width shape = omega (arith, wide, lj) in
-          apart i j l li (not_behind i j (window_width shape) l le));
+          apart i j l li (not_later i j (window_width shape) l le));
     }
   where
     apart : (i j : ℕ) → j < window_width shape → i < shape.k → (i ≡ t * window_width shape + j → ⊥) → order shape.k h i ≢ get_or places j 0
@@ -56,5 +56,5 @@ replaced shape h t w places more old new whole lt eo long em ec ee =
     not_before : (i j w : ℕ) → i < t * w → i ≡ t * w + j → ⊥
     not_before i j w lt e = omega (arith, e)
 
-    not_behind : (i j w : ℕ) → j < w → (t + 1) * w ≤ i → i ≡ t * w + j → ⊥
-    not_behind i j w lt le e = let s : (t + 1) * w ≡ t * w + w = omega arith in omega (arith, e, s)
+    not_later : (i j w : ℕ) → j < w → (t + 1) * w ≤ i → i ≡ t * w + j → ⊥
+    not_later i j w lt le e = let s : (t + 1) * w ≡ t * w + w = omega arith in omega (arith, e, s)

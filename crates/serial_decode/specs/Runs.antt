@@ -24,7 +24,7 @@ pub record IsReplaced (shape : Shape) (h t : ℕ) (w : Window) (old new : List E
       → cell_at new (order shape.k h (t * window_width shape + j)) ≡ cell_at (new_cells w) j
   pub before : (i : ℕ) → i < t * window_width shape
       → cell_at new (order shape.k h i) ≡ cell_at old (order shape.k h i)
-  pub behind : (i : ℕ) → (t + 1) * window_width shape ≤ i → i < shape.k
+  pub later : (i : ℕ) → (t + 1) * window_width shape ≤ i → i < shape.k
       → cell_at new (order shape.k h i) ≡ cell_at old (order shape.k h i)
 
 -- what a half starts from, as far as it matters: the cells, and the borders that each window left two halves

@@ -24,8 +24,8 @@ start-within plan m r below =
 -- what is left of the codeword after one block more
 pub rest-more : (plan : Plan) (m : Match) (r e : ℕ) (all rest back : List ℤ) → rest ≡ drop (piece_start plan m r) all → e ≡ piece_length m plan.c r → back ≡ drop e rest
     → back ≡ drop (piece_start plan m (r + 1)) all
-rest-more plan m r e all rest back is own behind =
-    behind ∙ ap (drop e) is ∙ drop-drop e (piece_start plan m r) all
+rest-more plan m r e all rest back is own drops =
+    drops ∙ ap (drop e) is ∙ drop-drop e (piece_start plan m r) all
     ∙ ap (λ (n : ℕ). drop n all) (let sum : piece_start plan m r + e ≡ piece_start plan m (r + 1) = omega (arith, own, sum_by-range_more (piece_length m plan.c) r) in sum)
 
 -- the blocks below r have, and the others are as they were

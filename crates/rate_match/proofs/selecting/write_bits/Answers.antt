@@ -10,7 +10,7 @@ use Rattle.rate_match.specs.Cursor.{IsRun, cursor_at}
 use Rattle.rate_match.specs.declared.cursor.Cursor.{Cursor}
 use Rattle.rate_match.proofs.Lengths.{repeated-long}
 use Rattle.rate_match.proofs.Parts.{part-long, part_written}
-use Rattle.rate_match.proofs.Walked.{next_place, place_behind}
+use Rattle.rate_match.proofs.Walked.{next_place, place_after}
 use Rattle.rate_match.proofs.Selected.{selected_done, selected_all, selecting_kept, selecting_left, selecting_run, walking_begun}
 use Rattle.rate_match.proofs.selecting.write_bits.Goals as goal
 use Rattle.rate_match.proofs.selecting.write_bits.Goals.{then-run-gt0, else-run-gt0+in-Some, else-run-gt0+in_default}
@@ -93,7 +93,7 @@ loop-step-preserved c =
             walking = record {
               gone = gone + run;
               far = omega (arith, walking.far, some);
-              at = c.next-cursor.ensures ∙ ap (cursor_at ring.rows) (place_behind c.args.start gone ring.size n c.if-run-gt0.cursor.n run here some end);
+              at = c.next-cursor.ensures ∙ ap (cursor_at ring.rows) (place_after c.args.start gone ring.size n c.if-run-gt0.cursor.n run here some end);
               selecting = selecting_run f keep c.args.start ring.size count [] gone (count - step.done) (count - c.if-run-gt0.done) (take step.done step.out)
                   (take c.if-run-gt0.done c.if-run-gt0.out) n run
                   walking.selecting here c.run-run.ensures.within (λ i h. ap is_some (c.run-run.ensures.run.bits i h)) more (omega (arith, w.done-is, fits, step.auto.out));

@@ -5,7 +5,7 @@ use Rattle.rate_match.specs.Cursor.{IsRun, cursor_at, spot_down}
 use Rattle.rate_match.specs.declared.cursor.Cursor.{Cursor}
 use Rattle.rate_match.proofs.Parts.{part-long}
 use Rattle.rate_match.proofs.Runs.{run-inside}
-use Rattle.rate_match.proofs.Walked.{next_place, place_behind}
+use Rattle.rate_match.proofs.Walked.{next_place, place_after}
 use Rattle.soft_buffers.specs.Runs.{with_values}
 use Rattle.soft_buffers.proofs.Adding.{AreFrom, Course, IsAdding, changed, course, adding_done, adding_all, adding_left, adding_kept, adding_run, walking_begun}
 use Rattle.soft_buffers.proofs.values.add_values.Goals as goal
@@ -75,7 +75,7 @@ loop-step-preserved c =
           record {
             gone = gone + run;
             far = omega (arith, step.invariant.far, some);
-            at = c.next-cursor.ensures ∙ ap (cursor_at ring.rows) (place_behind c.args.start gone ring.size n c.if-run-gt0.cursor.n run here some end);
+            at = c.next-cursor.ensures ∙ ap (cursor_at ring.rows) (place_after c.args.start gone ring.size n c.if-run-gt0.cursor.n run here some end);
             adding = adding_as w c.args.cells.now (gone + run) (step.taken + run) c.if-run-gt0.taken (with_values ring.k bits part run step.cells) c.if-run-gt0.cells all v.taken-is is;
           }
       | else-run-gt0+in-Some v ↦
