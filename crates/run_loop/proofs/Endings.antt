@@ -7,7 +7,7 @@ use Rattle.edge_io.specs.Edge.{Adds}
 use Rattle.edge_io.proofs.Known.{takes_then, adds_then}
 use Rattle.run_loop.specs.Answer.{Part, Answer, preceded_by, texts, lines, size_of}
 use Rattle.run_loop.specs.Due.{Stopped}
-use Rattle.run_loop.specs.Edges.{Edges, IsLater}
+use Rattle.run_loop.specs.Edges.{Edges, HasMoved}
 use Rattle.run_loop.specs.Ended.{Ended, IsWhole, Stands}
 use Rattle.run_loop.specs.Puts.{Puts, PutsEach}
 use Rattle.run_loop.specs.Reply.{reading, Ends}
@@ -195,8 +195,8 @@ blocked whole answer after old mid new round shown sink r s is put =
     (subst (λ (ps : List rust.Part). PutsEach {T = Unit {0}} mid.out new.out mid.report new.report (parts_of ps) (Err sink)) is put)
 
 -- the status of a command that was done
-pub ends_done : (answer : List ℕ → Answer) (old new : Edges) (fails : Bool) → IsLater old new →
+pub ends_done : (answer : List ℕ → Answer) (old new : Edges) (fails : Bool) → HasMoved old new →
     ((input : List ℕ) → old.left ≡ Some input → ((answer input).ending ≡ ending_of fails) × IsWhole (answer input) old new) →
     Ends (λ input. reading (answer input)) old new (done fails)
-ends_done answer old new true later is = record { ended = is; causes = tt; later = later }
-ends_done answer old new false later is = record { ended = is; causes = tt; later = later }
+ends_done answer old new true moved is = record { ended = is; causes = tt; moved = moved }
+ends_done answer old new false moved is = record { ended = is; causes = tt; moved = moved }

@@ -1,4 +1,5 @@
 pub mod Rises
+pub mod Moves
 mod LineParts
 mod Parts
 mod Endings

@@ -6,7 +6,7 @@ use Rattle.edge_io.specs.Edge.{Rose}
 use Rattle.run_loop.specs.Answer as answer
 use Rattle.run_loop.specs.Answer.{Answer, Ending, finished, some_failed, preceded_by, size_of}
 use Rattle.run_loop.specs.Due.{Stopped, TakesSome}
-use Rattle.run_loop.specs.Edges.{Edges, Causes, IsLater}
+use Rattle.run_loop.specs.Edges.{Edges, Causes, HasMoved}
 use Rattle.run_loop.specs.Ended.{Ended, Stands}
 use Rattle.run_loop.specs.declared.status.Status.{Status}
 use Rattle.run_loop.specs.declared.status.Status.TheVariants.{Done, SomeFailed, BadStream, ReadFault, NoMemory}
@@ -35,7 +35,7 @@ pub record Opens {W : Type 0} (answer : List ℕ → Answer) (after : W → List
     (result : Result W Status) : Type 0 where
   pub opens : (input : List ℕ) → before.left ≡ Some input → OpensTo (answer input) after before now result
   pub causes : IfErr result (Causes before now)
-  pub later : IsLater before now
+  pub moved : HasMoved before now
 
 -- ---- a round
 
