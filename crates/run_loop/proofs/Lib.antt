@@ -6,4 +6,5 @@ mod Endings
 pub mod Complete
 pub mod Alone
 pub mod Within
+pub mod ReadAhead
 pub mod Opening

@@ -3,7 +3,7 @@ use Rattle.run_loop.specs.Edges.{edges}
 use Rattle.run_loop.specs.Puts.{HasSinkCause}
 use Rattle.run_loop.specs.Reply.{reading, Ends}
 use Rattle.run_loop.specs.Step.{StopsBy, parts_of}
-use Rattle.run_loop.proofs.Endings.{wrote, went_on, failed, failed_alone, blocked, closed_done, ends_done, unclosed}
+use Rattle.run_loop.proofs.Endings.{wrote, went_on, failed, failed_alone, blocked, closed_done, ends_done, read_whole, unclosed}
 use Rattle.run_loop.proofs.Moves.{moved_put, moved_put_each, moved_reading}
 use Rattle.run_loop.proofs.Rises.{causes_failing, causes_writing}
 use Rattle.run_loop.proofs.driver.drive.Goals as goal
@@ -69,7 +69,8 @@ returns-in-Err-put g c =
           let step = c.in-Ok-round.ensures.step r.rest r.left in
           let w = wrote (whole input) answer after old mid between c.in-Ok-round.round c.as_slice.result.now r step c.as_slice.ensures.value c.in_default.ensures.bytes in
           unclosed (whole input) step.0 after _ step.1 old between new c.in-Ok-round.round.stop end.closing end.last end.failed c.as_slice-in-End.result.now c.as_slice-in-End-2.result.now
-          c.in-Err-put.sink w end.is step.4 c.as_slice-in-End.ensures.value c.as_slice-in-End-2.ensures.value c.in-Err-put.ensures.bytes;
+          c.in-Err-put.sink w end.is step.4 c.as_slice-in-End.ensures.value c.as_slice-in-End-2.ensures.value c.in-Err-put.ensures.bytes
+          (read_whole (whole input) answer after old mid new.left c.in-Ok-round.round r step);
       causes = causes_writing old between new c.in-Err-put.sink moved (subst (HasSinkCause between.outs new.outs between.reports new.reports) c.in-Err-put.is c.put.ensures.cause);
       moved = moved_put old between new.out new.report new.outs new.reports c.as_slice-in-End.result.now c.as_slice-in-End-2.result.now c.put.result moved c.put.ensures.bytes c.put.ensures.cause;
     }
@@ -88,7 +89,8 @@ returns-in-End g c =
     (moved_reading old mid between.left between.reads was.moved c.round.ensures.moved c.round.ensures.later) c.put_all.ensures.bytes c.put_all.ensures.cause in
     let end = c.in-End in
     subst (Ends (λ input. reading (whole input)) old new) (sym c.done.ensures)
-    (ends_done whole old new end.failed (moved_put old between new.out new.report new.outs new.reports c.as_slice-in-End.result.now c.as_slice-in-End-2.result.now c.put.result moved c.put.ensures.bytes c.put.ensures.cause)
+    (ends_done whole old new end.failed
+    (moved_put old between new.out new.report new.outs new.reports c.as_slice-in-End.result.now c.as_slice-in-End-2.result.now c.put.result moved c.put.ensures.bytes c.put.ensures.cause)
     (λ input is.
     let r = was.reached input is in
     let step = c.in-Ok-round.ensures.step r.rest r.left in
