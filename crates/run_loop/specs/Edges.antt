@@ -34,8 +34,8 @@ Causes before now (WriteFault Report) = Rose before.reports now.reports
 Causes before now (BadWords number place) = ⊥
 Causes before now _ = Unit {0}
 
--- Where they are told, bytes were taken from the front of what was left, and bytes were added to what the sinks
--- held; and no count fell.
+-- Where they are told, bytes were taken from the front of what was left, and bytes were added to what the
+-- sinks held; and no count fell.
 pub record HasMoved (before now : Edges) : Type 0 where
   pub left : TakesBytes before.left now.left
   pub out : AddsBytes before.out now.out

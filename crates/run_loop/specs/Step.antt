@@ -64,8 +64,8 @@ Stops b after mid new (End closing last failed) = (new ≡ Some []) × (b.parts 
     × (b.closing ≡ closing.items) × (b.last ≡ last.items) × (b.ending ≡ ending_of failed)
 Stops b after mid new (Fails status) = Stopped b mid new status
 
--- A round that began with the answer `a` still to come took the input of its parts, and then stopped. In all it
--- read no more than may be read before the first of them is written.
+-- A round that began with the answer `a` still to come took the input of its parts, and then stopped. In all
+-- it read no more than may be read before the first of them is written.
 abbrev pub Gives : (a : Answer) → (after : List ℕ → Answer) → (old new : Option (List ℕ)) → Round → Type 0
 Gives a after old new round = (b : Answer) × (mid : Option (List ℕ))
     × (a ≡ preceded_by (parts_of round.parts.items) b)
