@@ -146,7 +146,12 @@ struct Asked {
 }
 
 /// A transmission of a payload of `bytes` bytes that has a block `r`; or what is refused.
-fn accepted(bytes: usize, r: usize, transmission: &Transmission, n_ir: u32) -> Result<Asked, Refusal>
+fn accepted(
+    bytes: usize,
+    r: usize,
+    transmission: &Transmission,
+    n_ir: u32,
+) -> Result<Asked, Refusal>
     ensures refused { result_err result ≡ first_failed (piece_tests bytes r transmission.now n_ir) }
     ensures plan { IfOk result (λ asked. asked.plan ≡ plan_of bytes) }
     ensures sending { IfOk result (λ asked. asked.sending ≡ transmission_of (limit_in n_ir) transmission.now) }

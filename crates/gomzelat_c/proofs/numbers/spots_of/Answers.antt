@@ -1,5 +1,4 @@
-use Rattle.std.proofs.Common.{◌≡◌, List, [], ◌∷◌, ◌++◌, ℕ, sym, ap, ◌∙◌, arith}
-use Rattle.model_sender.specs.CircularBuffer.{spot}
+use Rattle.std.proofs.Common.{List, [], ◌∷◌, ◌++◌, ℕ, sym, ap, ◌∙◌, arith}
 use Rattle.rate_match.proofs.SizeSteps.{size-step}
 use Rattle.gomzelat_c.specs.Stages.{spot_number, spots_to}
 use Rattle.gomzelat_c.proofs.OneBlock.{spot_small, spots_more}

@@ -1,4 +1,4 @@
-use Rattle.std.proofs.Common.{◌≡◌, ◌<◌, ℕ, Contains, length, subst, sym, ap, ◌∙◌, arith}
+use Rattle.std.proofs.Common.{ℕ, Contains, length, subst, sym, ap, ◌∙◌, arith}
 use Rattle.model_sender.specs.CircularBuffer.{buffer_size}
 use Rattle.model_sender.specs.Interleaver.{sizes}
 use Rattle.rate_match.proofs.BlockNumbers.{block-numbers}

@@ -1,4 +1,4 @@
-use Rattle.std.proofs.Common.{◌≡◌, ◌<◌, ◌++◌, length, map, subst, sym, ap, ◌∙◌, arith}
+use Rattle.std.proofs.Common.{◌≡◌, ◌++◌, length, map, ap, ◌∙◌, arith}
 use Rattle.lte_bits.specs.declared.block.Streams.{Streams}
 use Rattle.model_sender.specs.CodedStreams.{streams}
 use Rattle.model_sender.specs.Segmentation.{fill, size}
