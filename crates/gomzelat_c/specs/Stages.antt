@@ -13,7 +13,7 @@ use Rattle.model_sender.specs.declared.spot.Spot.{Spot}
 use Rattle.rate_match.specs.declared.sends.Sending.{Sending}
 use Rattle.gomzelat_c.specs.Tests.{Test, buffer_test, length_test, test, transmission_tests}
 use Rattle.gomzelat_c.specs.declared.refusal.Refusal.TheVariants.{BadNumber, ShortOutput}
-use Rattle.gomzelat_c.specs.declared.stages.Piece.{Piece}
+use Rattle.gomzelat_c.specs.declared.pieces.Piece.{Piece}
 use Rattle.gomzelat_c.specs.declared.transmission.Transmission.{Transmission}
 
 -- ---- What is tested.

@@ -7,6 +7,7 @@ mod buffers;
 pub mod channel;
 pub mod codewords;
 mod numbers;
+pub mod pieces;
 pub mod plans;
 pub mod receiver;
 pub mod receptions;

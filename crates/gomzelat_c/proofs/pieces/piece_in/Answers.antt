@@ -1,7 +1,7 @@
 use Rattle.std.proofs.Common.{ℕ, Contains, sym, subst}
 use Rattle.model_sender.specs.Interleaver.{sizes}
 use Rattle.rate_match.proofs.BlockNumbers.{block-numbers}
-use Rattle.gomzelat_c.proofs.stages.piece_in.Goals as goal
+use Rattle.gomzelat_c.proofs.pieces.piece_in.Goals as goal
 
 pub start-requires-clause-size : goal.start-requires-clause-size
 start-requires-clause-size c =
