@@ -38,7 +38,7 @@ enum gomzelat_answer {
     GOMZELAT_BAD_BITS = 11,    /* there are fewer bytes than the bits need */
     GOMZELAT_BAD_AMP = 12,     /* the amplitude is 0, or above 127 */
     GOMZELAT_BAD_NOISE = 13,   /* the noise is above 127 */
-    GOMZELAT_BAD_NUMBER = 14,  /* a transmission's number is above 7 */
+    GOMZELAT_BAD_NUMBER = 14,  /* a transmission's number is above 7, or there is no code block of that number */
     GOMZELAT_SHORT_OUTPUT = 15, /* the buffer for what is written is too short */
     GOMZELAT_NO_MEMORY = 16    /* memory ran out */
 };
@@ -83,6 +83,33 @@ struct gomzelat_plan {
 
 /* Leaves in `plan` how a payload of `length` bytes is cut. Refused: BAD_LENGTH. */
 uint32_t gomzelat_plan(size_t length, struct gomzelat_plan *plan);
+
+/* Writes the K bits of code block `r`, counted from 0, to `out`: each 0 or 1 in a byte, fillers 0, with all check bits.
+ * Refused: BAD_LENGTH, BAD_NUMBER, SHORT_OUTPUT. */
+uint32_t gomzelat_block(const uint8_t *payload, size_t length, size_t r, uint8_t *out, size_t room);
+
+/* Writes the coded streams d0, d1 and d2 of code block `r` (5.1.3.2) to `out`, one after the other, each of K + 4 cells:
+ * 0, 1, or 2 at a NULL. Refused: BAD_LENGTH, BAD_NUMBER, SHORT_OUTPUT. */
+uint32_t gomzelat_streams(const uint8_t *payload, size_t length, size_t r, uint8_t *out, size_t room);
+
+/* Writes to `out`, for each of the K_w places of the circular buffer of code block `r` (5.1.4.1), which bit stands there:
+ * 65,536 times its stream, and its index; or 2^32 - 1 at a NULL. K_w is 96 times (K + 4) / 32, rounded up.
+ * Refused: BAD_LENGTH, BAD_NUMBER, SHORT_OUTPUT. */
+uint32_t gomzelat_spots(size_t length, size_t r, uint32_t *out, size_t room);
+
+/* What a code block sends of its circular buffer (5.1.4.1.2). */
+struct gomzelat_piece {
+    size_t k;      /* its bits */
+    size_t fill;   /* those that are fillers */
+    size_t places; /* N_cb */
+    size_t start;  /* k0, which is below N_cb or is taken modulo N_cb */
+    size_t bits;   /* E, the bits that are sent */
+};
+
+/* Leaves in `piece` what code block `r` of a payload of `length` bytes sends in a transmission.
+ * Refused: BAD_LENGTH, BAD_QM, BAD_NL, BAD_G, BAD_VERSION, BAD_BUFFER, BAD_NUMBER. */
+uint32_t gomzelat_piece(size_t length, size_t r, struct gomzelat_transmission transmission, uint32_t n_ir,
+                        struct gomzelat_piece *piece);
 
 /* How a receiver decodes. */
 struct gomzelat_receiver {

@@ -5,3 +5,4 @@ pub mod Receiving
 pub mod Noise
 pub mod Buffers
 pub mod Plans
+pub mod Stages

@@ -6,8 +6,11 @@
 mod buffers;
 pub mod channel;
 pub mod codewords;
+mod numbers;
+pub mod pieces;
 pub mod plans;
 pub mod receiver;
 pub mod receptions;
 pub mod refusal;
+pub mod stages;
 pub mod transmission;

@@ -37,7 +37,7 @@ pub enum Refusal {
     BadAmp,
     /// The noise is above 127.
     BadNoise,
-    /// A transmission's number is above 7.
+    /// A transmission's number is above 7, or there is no code block of that number.
     BadNumber,
     /// The buffer for what is written is too short.
     ShortOutput,
