@@ -5,3 +5,4 @@ mod Matched
 mod PackedLength
 mod Rooms
 mod Transmissions
+mod KeptBlocks

@@ -5,3 +5,5 @@ pub mod Receiving
 pub mod Noise
 pub mod Buffers
 pub mod Plans
+pub mod State
+pub mod Steps

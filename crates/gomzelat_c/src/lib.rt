@@ -6,8 +6,11 @@
 mod buffers;
 pub mod channel;
 pub mod codewords;
+pub mod combining;
+pub mod decoding;
 pub mod plans;
 pub mod receiver;
 pub mod receptions;
 pub mod refusal;
+pub mod state;
 pub mod transmission;

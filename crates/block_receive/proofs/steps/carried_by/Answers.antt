@@ -21,5 +21,5 @@ returns-clause-delivered c =
     let is : delivers p results ≡ (passed && holds) = delivers-is p results passed holds all whole in
     elim c.if-passed.branch [
       | then-passed w ↦ w.result-is ∙ ap (λ (b : Bool). b && holds) (sym w.if-passed.true) ∙ sym is
-      | else-passed w ↦ w.result-is ∙ ap (λ (b : Bool). b && holds) (sym w.if-passed.false) ∙ sym is
+      | else-passed w ↦ w.result-is ∙ w.if-passed.false ∙ ap (λ (b : Bool). b && holds) (sym w.if-passed.false) ∙ sym is
     ]

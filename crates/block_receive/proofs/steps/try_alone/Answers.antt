@@ -19,5 +19,5 @@ returns-clause-blocks c =
     (λ results. AreBlocksOf task.plan (map (λ x. x.block) results.items))
     (λ results is. subst (λ (xs : List CodeResult). AreBlocksOf task.plan (map (λ x. x.block) xs))
     (sym (is ∙ ap (tried_from task.plan (effort_in task) cells) c.in_ok-held.ensures))
-    (from-shaped task.plan (effort_in task) cells last (lawful-in task c.try_blocks.ensures.lawful) c.requires))
+    (from-shaped task.plan (effort_in task) cells last (lawful-in task c.try_blocks.ensures.lawful) c.requires.blocks))
     c.try_blocks.ensures.from
