@@ -1,11 +1,12 @@
 -- What entries and bits tell, and what is written of results.
-use Rattle.std.proofs.Common.{◌≡◌, ℕ, refl, subst, ◌*◌, ◌<◌, ◌≤◌, List, [], ◌∷◌, length, map, flat_map, take, drop, sym, ap, ◌∙◌, arith}
+use Rattle.std.proofs.Common.{◌≡◌, ℕ, Bool, refl, subst, ◌*◌, ◌<◌, ◌≤◌, List, [], ◌∷◌, length, map, flat_map, take, drop, sym, ap, ◌∙◌, arith}
 use Rattle.std.specs.List.{range_with_len, sum}
 use Rattle.std.proofs.lemmas.List.{length-drop, length-map, length-take}
 use Rattle.std.proofs.lemmas.List.Concat.{length-flat_map}
 use Rattle.std.proofs.lemmas.List.FromFn.{get_or-map-range_with_len, length-map-range_with_len}
 use Rattle.std.proofs.lemmas.List.Sums.{sum-map}
 use Rattle.lte_bits.specs.Bits.{bit_of, digit}
+use Rattle.lte_bits.specs.declared.bit.Bit.{Bit}
 use Rattle.model_sender.specs.Segmentation.{Plan, fill, size}
 use Rattle.model_receiver.specs.declared.result.CodeResult.{CodeResult}
 use Rattle.segmentation.specs.Shape.{AreBlocksOf}
@@ -15,6 +16,12 @@ use Rattle.block_receive.proofs.BlockResults.{unpassed}
 use Rattle.block_receive.proofs.ShapedBlocks.{IsShaped, blocks-count, shaped-blocks}
 use Rattle.gomzelat_c.specs.State.{bit_count, digits_of, kept, kept_result}
 use Rattle.gomzelat_c.specs.declared.state.CodeBlock.{CodeBlock}
+
+abbrev result : ℕ → List Bit → ℕ → Bool → CodeResult
+result fill bits iterations passed = record { block = record { fill = fill; bits = bits }; iterations = iterations; passed = passed }
+
+pub result-is : {f g i j : ℕ} {a b : List Bit} {p q : Bool} → f ≡ g → a ≡ b → i ≡ j → p ≡ q → result f a i p ≡ result g b j q
+result-is e h k l i = result (e i) (h i) (k i) (l i)
 
 pub kept-long : (plan : Plan) (blocks : List CodeBlock) (bits : List ℕ) → length (kept plan blocks bits) ≡ plan.c
 unfolding kept

@@ -6,3 +6,4 @@ mod PackedLength
 mod Rooms
 mod Transmissions
 mod KeptBlocks
+mod CallByCall

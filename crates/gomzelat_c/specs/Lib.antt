@@ -7,3 +7,4 @@ pub mod Buffers
 pub mod Plans
 pub mod State
 pub mod Steps
+pub mod Rounds

@@ -8,6 +8,7 @@ pub mod channel;
 pub mod codewords;
 pub mod combining;
 pub mod decoding;
+pub mod laws;
 pub mod plans;
 pub mod receiver;
 pub mod receptions;
