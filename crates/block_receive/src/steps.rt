@@ -26,10 +26,7 @@ pub struct Carried {
 
 /// What is held after a try: the results that passed; but none where all did, since the check of the
 /// transport block failed then.
-fn held_of(
-    alloc: Global,
-    last: Vec<CodeResult>,
-) -> Result<Vec<Option<CodeResult>>, NoMemory>
+fn held_of(alloc: Global, last: Vec<CodeResult>) -> Result<Vec<Option<CodeResult>>, NoMemory>
     ensures { IfOk result (λ held. held.items ≡ held_after last.items) }
 {
     if all_passed(last.as_slice()) {
@@ -63,11 +60,7 @@ pub fn try_alone(
 }
 
 /// What the results of a try carry.
-pub fn carried_by(
-    alloc: Global,
-    results: Vec<CodeResult>,
-    plan: &Plan,
-) -> Result<Carried, NoMemory>
+pub fn carried_by(alloc: Global, results: Vec<CodeResult>, plan: &Plan) -> Result<Carried, NoMemory>
     requires { AreBlocksOf plan.now (map (λ x. x.block) results.items) }
     ensures payload { IfOk result (λ c. c.payload ≡ payload_of plan.now results.items) }
     ensures delivered { IfOk result (λ c. c.delivered ≡ delivers plan.now results.items) }

@@ -136,13 +136,13 @@ unfolding kept
 kept-again plan results blocks bits are =
     sym (fill_by_all (kept_result plan (map entry_of results ++ blocks) (digits_of results ++ bits)) results plan.c unpassed (blocks-count plan results are)
     (λ r below.
-        let x : CodeResult = get_or results r unpassed in
-        let entry = entry-at results blocks r (omega (arith, below, blocks-count plan results are)) in
-        let shaped : IsShaped plan r x = blocks-shaped plan results are r below in
-        sym (result-is (sym shaped.fill)
-        (ap (map bit_of) (digits-part plan results bits r are below) ∙ bits-again x.block.bits)
-        (ap (λ (e : CodeBlock). e.iterations) entry)
-        (ap (λ (e : CodeBlock). not (e.passed == 0)) entry ∙ passed-again x.passed))))
+    let x : CodeResult = get_or results r unpassed in
+    let entry = entry-at results blocks r (omega (arith, below, blocks-count plan results are)) in
+    let shaped : IsShaped plan r x = blocks-shaped plan results are r below in
+    sym (result-is (sym shaped.fill)
+    (ap (map bit_of) (digits-part plan results bits r are below) ∙ bits-again x.block.bits)
+    (ap (λ (e : CodeBlock). e.iterations) entry)
+    (ap (λ (e : CodeBlock). not (e.passed == 0)) entry ∙ passed-again x.passed))))
 
 iterations-again : (xs : List CodeResult) → map (λ b. b.iterations) (map entry_of xs) ≡ map (λ x. x.iterations) xs
 iterations-again [] = refl

@@ -59,12 +59,7 @@ fn accepted(
 }
 
 /// The soft cells with a transmission more.
-fn cells_with(
-    alloc: Global,
-    job: &Job,
-    values: &[i8],
-    cells: &[i8],
-) -> Result<List<Soft>, NoMemory>
+fn cells_with(alloc: Global, job: &Job, values: &[i8], cells: &[i8]) -> Result<List<Soft>, NoMemory>
     requires fits { FitsIn job.now.sending.m.limit job.now.plan.c job.now.plan.k_plus }
     requires version { job.now.sending.rv ≤ 3 }
     requires values { length values.now ≡ job.now.sending.m.g }

@@ -130,8 +130,11 @@ fn decode(
     delivered: &mut u32,
 ) -> Result<(), Refusal>
     ensures answer { IsDone result (first_failed (decode_tests bytes receiver.now (record {
-        cells = length cells.now; blocks = length blocks.old; bits = length bits.old;
-        payload = length payload.old }))) }
+      cells = length cells.now;
+      blocks = length blocks.old;
+      bits = length bits.old;
+      payload = length payload.old;
+    }))) }
     ensures blocks { OnOk result (blocks.new ≡ with_front (map entry_of
         (results_after bytes receiver.now cells.now blocks.old bits.old)) blocks.old) }
     ensures bits { OnOk result (bits.new ≡ with_front (digits_of
@@ -180,8 +183,11 @@ pub extern "C" fn gomzelat_decode(
     delivered: &mut u32,
 ) -> u32
     ensures answer { IsTold result (first_failed (decode_tests bytes receiver (record {
-        cells = length cells.now; blocks = length blocks.old; bits = length bits.old;
-        payload = length payload.old }))) }
+      cells = length cells.now;
+      blocks = length blocks.old;
+      bits = length bits.old;
+      payload = length payload.old;
+    }))) }
     ensures blocks { result ≡ 0 → blocks.new ≡ with_front (map entry_of
         (results_after bytes receiver cells.now blocks.old bits.old)) blocks.old }
     ensures bits { result ≡ 0 → bits.new ≡ with_front (digits_of

@@ -8,6 +8,7 @@ ghost use Rattle.gomzelat_c.specs.declared.transmission.Transmission.{Transmissi
 /// Where each transmission is combined by a call and decoded by another, until all checks hold, the outcome is
 /// that of one call of `gomzelat_receive` with all of them.
 pub fn calls_come_to_the_reception()
-    ensures { (bytes : ℕ) (r : Receiver) (ts : List Transmission) (values : List ℤ) → 1 ≤ bytes → bytes ≤ 18722 →
-        1 ≤ r.limit → r.limit ≤ 16 → by_calls bytes r (fresh bytes) 0 ts values ≡ received bytes ts r values }
+    ensures { (bytes : ℕ) (r : Receiver) (ts : List Transmission) (values : List ℤ) →
+        1 ≤ bytes → bytes ≤ 18722 → 1 ≤ r.limit → r.limit ≤ 16 →
+        by_calls bytes r (fresh bytes) 0 ts values ≡ received bytes ts r values }
 {}
