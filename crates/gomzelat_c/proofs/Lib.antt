@@ -6,3 +6,5 @@ mod OneBlock
 mod PackedLength
 mod Rooms
 mod Transmissions
+mod KeptBlocks
+mod CallByCall

@@ -6,3 +6,6 @@ pub mod Noise
 pub mod Buffers
 pub mod Plans
 pub mod Stages
+pub mod State
+pub mod Steps
+pub mod Rounds
