@@ -6,11 +6,11 @@
 mod buffers;
 pub mod channel;
 pub mod codewords;
-mod numbers;
-pub mod pieces;
 pub mod combining;
 pub mod decoding;
 pub mod laws;
+mod numbers;
+pub mod pieces;
 pub mod plans;
 pub mod receiver;
 pub mod receptions;
