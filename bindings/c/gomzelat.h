@@ -38,14 +38,49 @@ enum gomzelat_answer {
     GOMZELAT_BAD_BITS = 11,    /* there are fewer bytes than the bits need */
     GOMZELAT_BAD_AMP = 12,     /* the amplitude is 0, or above 127 */
     GOMZELAT_BAD_NOISE = 13,   /* the noise is above 127 */
-    GOMZELAT_BAD_NUMBER = 14,  /* a transmission's number is above 7 */
+    GOMZELAT_BAD_NUMBER = 14,  /* a transmission's number is above 7, or there is no code block of that number */
     GOMZELAT_SHORT_OUTPUT = 15, /* the buffer for what is written is too short */
-    GOMZELAT_NO_MEMORY = 16    /* memory ran out */
+    GOMZELAT_NO_MEMORY = 16,   /* memory ran out; this one comes last of all */
+    GOMZELAT_SHORT_CELLS = 17, /* there are fewer soft cells than gomzelat_sizes says */
+    GOMZELAT_SHORT_BLOCKS = 18, /* there are fewer entries than code blocks */
+    GOMZELAT_SHORT_BITS = 19   /* there are fewer bytes than the code blocks have bits */
 };
+
+/* What an answer says, in a few words. */
+static inline const char *gomzelat_text(uint32_t answer) {
+    switch (answer) {
+    case GOMZELAT_DONE: return "done";
+    case GOMZELAT_BAD_LENGTH: return "a payload has 1 to 18722 bytes";
+    case GOMZELAT_BAD_COUNT: return "there are 1 to 8 transmissions";
+    case GOMZELAT_BAD_QM: return "Q_m is 2, 4 or 6";
+    case GOMZELAT_BAD_NL: return "N_L is 1 or 2";
+    case GOMZELAT_BAD_G: return "G is 1 to 1000000 and a multiple of N_L * Q_m";
+    case GOMZELAT_BAD_VERSION: return "a redundancy version is 0 to 3";
+    case GOMZELAT_BAD_BUFFER: return "N_IR is too small for the payload";
+    case GOMZELAT_BAD_WINDOWS: return "the greatest number of windows is 1 to 64";
+    case GOMZELAT_BAD_LIMIT: return "the greatest number of iterations is 1 to 16";
+    case GOMZELAT_BAD_VALUES: return "there are as many soft values as transmitted bits";
+    case GOMZELAT_BAD_BITS: return "there are fewer bytes than the bits need";
+    case GOMZELAT_BAD_AMP: return "an amplitude is 1 to 127";
+    case GOMZELAT_BAD_NOISE: return "noise is 0 to 127";
+    case GOMZELAT_BAD_NUMBER: return "the number of a transmission is 0 to 7";
+    case GOMZELAT_SHORT_OUTPUT: return "a buffer is too short for what is written";
+    case GOMZELAT_NO_MEMORY: return "memory ran out";
+    case GOMZELAT_SHORT_CELLS: return "there are fewer soft cells than the code blocks have";
+    case GOMZELAT_SHORT_BLOCKS: return "there are fewer entries than code blocks";
+    case GOMZELAT_SHORT_BITS: return "there are fewer bytes than the code blocks have bits";
+    default: return "no answer of this version";
+    }
+}
 
 #define GOMZELAT_MOST_BYTES 18722
 #define GOMZELAT_MOST_BITS 1000000
 #define GOMZELAT_MOST_TRANSMISSIONS 8
+
+/* What gomzelat_sizes says at most, for buffers of one size. */
+#define GOMZELAT_MOST_CELLS 451500
+#define GOMZELAT_MOST_BLOCKS 25
+#define GOMZELAT_MOST_BLOCK_BITS 150400
 
 /* The bytes that so many bits take. */
 #define GOMZELAT_BYTES(bits) (((size_t)(bits) + 7) / 8)
@@ -84,6 +119,33 @@ struct gomzelat_plan {
 /* Leaves in `plan` how a payload of `length` bytes is cut. Refused: BAD_LENGTH. */
 uint32_t gomzelat_plan(size_t length, struct gomzelat_plan *plan);
 
+/* Writes the K bits of code block `r`, counted from 0, to `out`: each 0 or 1 in a byte, fillers 0, with all check bits.
+ * Refused: BAD_LENGTH, BAD_NUMBER, SHORT_OUTPUT. */
+uint32_t gomzelat_block(const uint8_t *payload, size_t length, size_t r, uint8_t *out, size_t room);
+
+/* Writes the coded streams d0, d1 and d2 of code block `r` (5.1.3.2) to `out`, one after the other, each of K + 4 cells:
+ * 0, 1, or 2 at a NULL. Refused: BAD_LENGTH, BAD_NUMBER, SHORT_OUTPUT. */
+uint32_t gomzelat_streams(const uint8_t *payload, size_t length, size_t r, uint8_t *out, size_t room);
+
+/* Writes to `out`, for each of the K_w places of the circular buffer of code block `r` (5.1.4.1), which bit stands there:
+ * 65,536 times its stream, and its index; or 2^32 - 1 at a NULL. K_w is 96 times (K + 4) / 32, rounded up.
+ * Refused: BAD_LENGTH, BAD_NUMBER, SHORT_OUTPUT. */
+uint32_t gomzelat_spots(size_t length, size_t r, uint32_t *out, size_t room);
+
+/* What a code block sends of its circular buffer (5.1.4.1.2). */
+struct gomzelat_piece {
+    size_t k;      /* its bits */
+    size_t fill;   /* those that are fillers */
+    size_t places; /* N_cb */
+    size_t start;  /* k0, which is below N_cb or is taken modulo N_cb */
+    size_t bits;   /* E, the bits that are sent */
+};
+
+/* Leaves in `piece` what code block `r` of a payload of `length` bytes sends in a transmission.
+ * Refused: BAD_LENGTH, BAD_QM, BAD_NL, BAD_G, BAD_VERSION, BAD_BUFFER, BAD_NUMBER. */
+uint32_t gomzelat_piece(size_t length, size_t r, struct gomzelat_transmission transmission, uint32_t n_ir,
+                        struct gomzelat_piece *piece);
+
 /* How a receiver decodes. */
 struct gomzelat_receiver {
     uint32_t n_ir;    /* N_IR, as for gomzelat_codeword; 0 is a full buffer */
@@ -111,6 +173,57 @@ struct gomzelat_outcome {
 uint32_t gomzelat_receive(size_t length, const struct gomzelat_transmission *transmissions, size_t count,
                           struct gomzelat_receiver receiver, const int8_t *values, size_t amount,
                           uint8_t *payload, size_t room, struct gomzelat_outcome *outcome);
+
+/* ---- A reception call by call, where one transmission comes after the other: the caller keeps what is known between
+ * calls, in three arrays of its own. All are 0 before the first transmission, and there is nothing to be freed. After
+ * each transmission gomzelat_combine adds its soft values to the cells, and gomzelat_decode decodes the code blocks
+ * that haven't passed. A caller that goes on until a transport block is delivered comes to just what gomzelat_receive
+ * tells of the same transmissions. No content of the arrays is bad: they may be saved, copied and made by hand. */
+
+/* How many soft cells, entries of code blocks and bits are kept of a transport block. */
+struct gomzelat_sizes {
+    size_t cells;  /* for each bit of the three coded streams of each code block: 3 * (K + 4) of each */
+    size_t blocks; /* C */
+    size_t bits;   /* K of each code block */
+};
+
+/* Leaves in `sizes` how much is kept of a transport block of `length` bytes. Refused: BAD_LENGTH. */
+uint32_t gomzelat_sizes(size_t length, struct gomzelat_sizes *sizes);
+
+/* Adds the soft values of one transmission to the soft cells of a transport block of `length` bytes: each to the cell of
+ * the bit that was sent at its place. A sum is from -127 to 127 after each addition.
+ *
+ * `n_ir`: as for gomzelat_codeword.
+ * `values`, `amount`: a soft value for each of the transmission's bits.
+ * `cells`, `room`: the cells, as many as gomzelat_sizes says or more, of which the others are left. Block after block
+ * they are those of d0, of d1 and of d2. -128 is taken as -127.
+ *
+ * Refused: BAD_LENGTH, BAD_QM, BAD_NL, BAD_G, BAD_VERSION, BAD_BUFFER, BAD_VALUES, SHORT_CELLS. */
+uint32_t gomzelat_combine(size_t length, struct gomzelat_transmission transmission, uint32_t n_ir,
+                          const int8_t *values, size_t amount, int8_t *cells, size_t room);
+
+/* What a code block came to. */
+struct gomzelat_block {
+    uint32_t passed;   /* 1 where its check holds, else 0; whatever isn't 0 is taken as 1 */
+    size_t iterations; /* that its last decoding took */
+};
+
+/* Decodes the code blocks of a transport block of `length` bytes from its soft cells, but for those whose entry says
+ * that they passed; where all entries do, the check of the transport block failed after all, so that all are decoded.
+ *
+ * `cells`, `amount`: as gomzelat_combine leaves them.
+ * `blocks`, `count`: an entry for each code block, which says before the call what is held of the call before, and
+ * after it what each block came to.
+ * `bits`, `extent`: a byte 0 or 1 for each bit of the code blocks, one block after the other, fillers and check bits
+ * included: before the call those of the call before, and after it those that are decided, also of blocks that failed.
+ * Of what is held any byte but 0 is taken as 1.
+ * `payload`, `room`: the bytes that these bits carry are written here, whether or not the checks hold.
+ * `delivered`: 1 where the checks of all code blocks and of the transport block hold, else 0.
+ *
+ * Refused: BAD_LENGTH, BAD_BUFFER, BAD_WINDOWS, BAD_LIMIT, SHORT_OUTPUT, SHORT_CELLS, SHORT_BLOCKS, SHORT_BITS. */
+uint32_t gomzelat_decode(size_t length, struct gomzelat_receiver receiver, const int8_t *cells, size_t amount,
+                         struct gomzelat_block *blocks, size_t count, uint8_t *bits, size_t extent,
+                         uint8_t *payload, size_t room, uint32_t *delivered);
 
 /* A channel. */
 struct gomzelat_channel {

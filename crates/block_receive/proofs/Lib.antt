@@ -5,3 +5,4 @@ pub mod TriedBlocks
 pub mod Taken
 pub mod Outcomes
 pub mod TriedResults
+pub mod ShapedBlocks

@@ -1,3 +1,4 @@
 pub mod Receptions
 pub mod Effort
 pub mod Decoders
+pub mod Tries

@@ -3,14 +3,17 @@
 
 mod alone;
 mod joining;
+pub mod laws;
 mod receiving;
 mod shapes;
 mod shared;
+mod steps;
 mod task;
 mod tries;
 
 pub use model_receiver::TbOutcome;
 pub use receiving::{receive, receive_alone};
 pub use shared::receive_shared;
+pub use steps::{Carried, carried_by, try_alone};
 pub use task::{Effort, Task};
 pub use tries::Decoded;

@@ -6,6 +6,7 @@ ghost use Rattle.segmentation.specs.Plans.{IsPlan};
 ghost use Rattle.soft_buffers.specs.Buffers.{Hold};
 ghost use Rattle.block_receive.specs.Decoders.{GivesResults, TakesBlocks};
 ghost use Rattle.block_receive.specs.Effort.{effort_in};
+ghost use Rattle.block_receive.specs.Tries.{result_from, tried_from};
 
 use crate::shapes::block_shape;
 use crate::task::Task;
@@ -29,7 +30,9 @@ fn decode_at<F: Fn(Global, &SoftStreams, &Shape) -> Decoded>(
     requires plan { buffers.now.plan ≡ task.now.plan }
     requires takes { TakesBlocks (F.pre decode.now) }
     requires gives { GivesResults (F.post decode.now) }
-    ensures { (xs : List Reception) → Hold buffers.now xs →
+    ensures from { IfOk result (λ x. x
+        ≡ result_from task.now.plan (effort_in task.now) buffers.now.cells r) }
+    ensures received { (xs : List Reception) → Hold buffers.now xs →
         IfOk result (λ x. x ≡ block_result task.now.plan (effort_in task.now) xs r) }
 {
     let streams = buffers.streams(alloc, r)?;
@@ -48,6 +51,8 @@ pub fn try_blocks<F: Fn(Global, &SoftStreams, &Shape) -> Decoded>(
     requires plan { buffers.now.plan ≡ task.now.plan }
     requires takes { TakesBlocks (F.pre decode.now) }
     requires gives { GivesResults (F.post decode.now) }
+    ensures from { IfOk result (λ results. results.items
+        ≡ tried_from task.now.plan (effort_in task.now) buffers.now.cells held.items) }
     ensures results { (xs : List Reception) → Hold buffers.now xs → IfOk result (λ results. results.items
         ≡ tried task.now.plan (effort_in task.now) xs held.items) }
     ensures lawful { IsPlan task.now.plan }

@@ -1,6 +1,6 @@
 //! Reading a block, or the end of a stream.
 ghost use Rattle.std.specs.Prelude.{◌≡◌, ◌≤◌, ◌<◌, ◌*◌, ◌^◌, ℕ, List, Some, length};
-ghost use Rattle.edge_io.specs.Edge.{Rose};
+ghost use Rattle.edge_io.specs.Edge.{Rose, TakesBytes};
 ghost use Rattle.coded_stream.specs.Blocks.{block_size, lengths};
 ghost use Rattle.coded_stream.specs.Body.{step};
 ghost use Rattle.coded_stream.specs.Shown.{header_of};
@@ -38,6 +38,7 @@ pub fn read_block<S: Source>(
         TakesStep (step (header_of header.now) more start input) 0 into.new
         (S.left source.old) (S.left source.new) result }
     ensures accepted { IsAccepted (header_of header.now) more into.new result }
+    ensures moved { TakesBytes (S.left source.old) (S.left source.new) }
     ensures later { S.faults source.old ≤ S.faults source.new }
     ensures fault { result ≡ Next.Fault → Rose (S.faults source.old) (S.faults source.new) }
 {

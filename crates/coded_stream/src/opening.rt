@@ -1,6 +1,6 @@
 //! Reading the two units of a header.
 ghost use Rattle.std.specs.Prelude.{◌≡◌, ◌≤◌, ℕ, List, Some, length};
-ghost use Rattle.edge_io.specs.Edge.{Rose};
+ghost use Rattle.edge_io.specs.Edge.{Rose, TakesBytes};
 ghost use Rattle.rate_match.specs.Matching.{limit_of};
 ghost use Rattle.coded_stream.specs.Opening.{version_of, first_size, limit_in, count_in};
 ghost use Rattle.coded_stream.specs.Fields.{IsFirst};
@@ -51,6 +51,7 @@ fn version_of(unit: &[u8]) -> Version
 pub fn read_first<S: Source>(source: &mut S, unit: &mut [u8]) -> First
     requires { length unit.old ≡ 18 }
     ensures bytes { TakesFirst (S.left source.old) (S.left source.new) unit.new result }
+    ensures moved { TakesBytes (S.left source.old) (S.left source.new) }
     ensures later { S.faults source.old ≤ S.faults source.new }
     ensures fault { result ≡ First.Fault → Rose (S.faults source.old) (S.faults source.new) }
 {
@@ -85,6 +86,7 @@ pub fn read_second<S: Source>(
     ensures told { (input : List ℕ) → S.left source.old ≡ Some input →
         TakesSecond version unit.now input (S.left source.old) (S.left source.new) result }
     ensures sent { AreSent version unit.now result }
+    ensures moved { TakesBytes (S.left source.old) (S.left source.new) }
     ensures later { S.faults source.old ≤ S.faults source.new }
     ensures fault { result ≡ Second.Fault → Rose (S.faults source.old) (S.faults source.new) }
 {

@@ -1,6 +1,6 @@
 //! Reading a stream block by block.
 ghost use Rattle.std.specs.Prelude.{◌≡◌, ◌≤◌, ℕ, List, Some, IfOk, true};
-ghost use Rattle.edge_io.specs.Edge.{Rose};
+ghost use Rattle.edge_io.specs.Edge.{Rose, TakesBytes};
 ghost use Rattle.coded_stream.specs.Opening.{opening};
 ghost use Rattle.coded_stream.specs.Shown.{header_of};
 ghost use Rattle.coded_stream.specs.Steps.{Begins, IsBegun, GoesOn, Advances, remaining};
@@ -54,6 +54,7 @@ impl StreamReader {
         // Whether it tells them or not.
         ensures accepted { IfOk result (IsBegun want) }
         ensures memory { result ≡ Err StreamStop.NoMemory → ⊥ }
+        ensures moved { TakesBytes (S.left source.old) (S.left source.new) }
         ensures later { S.faults source.old ≤ S.faults source.new }
         ensures fault { result ≡ Err StreamStop.Fault → Rose (S.faults source.old) (S.faults source.new) }
     {
@@ -141,6 +142,7 @@ impl StreamReader {
         ensures advances { Advances self.old self.new into.new result }
         ensures memory { result ≡ Err StreamStop.NoMemory →
             (source.new ≡ source.old) × (into.new ≡ into.old) }
+        ensures moved { TakesBytes (S.left source.old) (S.left source.new) }
         ensures later { S.faults source.old ≤ S.faults source.new }
         ensures fault { result ≡ Err StreamStop.Fault → Rose (S.faults source.old) (S.faults source.new) }
     {

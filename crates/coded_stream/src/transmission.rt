@@ -1,6 +1,6 @@
 //! Reading one transmission of a block.
 ghost use Rattle.std.specs.Prelude.{◌≡◌, ◌≤◌, length};
-ghost use Rattle.edge_io.specs.Edge.{Rose};
+ghost use Rattle.edge_io.specs.Edge.{Rose, TakesBytes};
 ghost use Rattle.coded_stream.specs.Blocks.{transmission_size, has_bad_bit, spare_bits};
 ghost use Rattle.coded_stream.specs.Takes.{TakesTransmission};
 
@@ -62,6 +62,7 @@ pub fn read_transmission<S: Source>(
     requires few { g ≤ 1000000 }
     requires size { length bytes.old ≡ transmission_size kind g }
     ensures bytes { TakesTransmission kind g (S.left source.old) (S.left source.new) bytes.new result }
+    ensures moved { TakesBytes (S.left source.old) (S.left source.new) }
     ensures later { S.faults source.old ≤ S.faults source.new }
     ensures fault { result ≡ Transmission.Fault → Rose (S.faults source.old) (S.faults source.new) }
 {

@@ -1,6 +1,6 @@
 //! Reading the transmissions of a block.
 ghost use Rattle.std.specs.Prelude.{◌≡◌, ◌≤◌, ◌<◌, ◌*◌, ◌^◌, ℕ, List, Some, length, slice_get};
-ghost use Rattle.edge_io.specs.Edge.{Rose};
+ghost use Rattle.edge_io.specs.Edge.{Rose, TakesBytes};
 ghost use Rattle.coded_stream.specs.Blocks.{lengths, block_size, AreTransmissions};
 ghost use Rattle.coded_stream.specs.Body.{block_step};
 ghost use Rattle.coded_stream.specs.Shown.{header_of};
@@ -50,6 +50,7 @@ pub fn read_transmissions<S: Source>(
         TakesStep (block_step (header_of header.now) start payload input) 4 into.new
         (S.left source.old) (S.left source.new) result }
     ensures taken { AreTaken header.now.kind (lengths (header_of header.now)) payload into.new result }
+    ensures moved { TakesBytes (S.left source.old) (S.left source.new) }
     ensures later { S.faults source.old ≤ S.faults source.new }
     ensures fault { result ≡ Next.Fault → Rose (S.faults source.old) (S.faults source.new) }
 {

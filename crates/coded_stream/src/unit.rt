@@ -1,6 +1,6 @@
 //! Reading a unit of a stream: the bytes that are read whole before any of them is looked at.
 ghost use Rattle.std.specs.Prelude.{◌≡◌, ◌≤◌, ◌+◌, length, slice_index};
-ghost use Rattle.edge_io.specs.Edge.{Rose};
+ghost use Rattle.edge_io.specs.Edge.{Rose, TakesBytes};
 ghost use Rattle.coded_stream.specs.Units.{TakesUnit};
 ghost use Rattle.coded_stream.specs.Header.{word, half_word};
 
@@ -20,6 +20,7 @@ pub enum Unit {
 /// Reads a unit.
 pub fn read_unit<S: Source>(source: &mut S, unit: &mut [u8]) -> Unit
     ensures bytes { TakesUnit (S.left source.old) (S.left source.new) unit.new result }
+    ensures moved { TakesBytes (S.left source.old) (S.left source.new) }
     ensures later { S.faults source.old ≤ S.faults source.new }
     ensures fault { result ≡ Unit.Fault → Rose (S.faults source.old) (S.faults source.new) }
 {

@@ -1,6 +1,6 @@
 //! Reading a length word, and what comes after the end word.
 ghost use Rattle.std.specs.Prelude.{◌≡◌, ◌≤◌, ◌<◌, ◌^◌, ℕ, List, Some};
-ghost use Rattle.edge_io.specs.Edge.{Rose};
+ghost use Rattle.edge_io.specs.Edge.{Rose, TakesBytes};
 ghost use Rattle.coded_stream.specs.Body.{step, block_step, end_step};
 ghost use Rattle.coded_stream.specs.Shown.{header_of};
 ghost use Rattle.coded_stream.specs.Takes.{TakesWord, TakesStep, IsNoBlock};
@@ -32,6 +32,7 @@ pub fn read_word<S: Source>(source: &mut S, header: &Header, more: usize, start:
         TakesWord (step (header_of header.now) more start input) (block_step (header_of header.now) start)
         start (S.left source.old) (S.left source.new) result }
     ensures payload { IsPayload header.now.tb more result }
+    ensures moved { TakesBytes (S.left source.old) (S.left source.new) }
     ensures later { S.faults source.old ≤ S.faults source.new }
     ensures fault { result ≡ Word.Fault → Rose (S.faults source.old) (S.faults source.new) }
 {
@@ -70,6 +71,7 @@ pub fn read_end<S: Source>(source: &mut S, start: u64) -> Next
     ensures told { (input into : List ℕ) → S.left source.old ≡ Some input →
         TakesStep (end_step start input) 4 into (S.left source.old) (S.left source.new) result }
     ensures none { IsNoBlock result }
+    ensures moved { TakesBytes (S.left source.old) (S.left source.new) }
     ensures later { S.faults source.old ≤ S.faults source.new }
     ensures fault { result ≡ Next.Fault → Rose (S.faults source.old) (S.faults source.new) }
 {

@@ -19,6 +19,7 @@ use Rattle.run_loop.specs.declared.work.Round.{Round}
 use Rattle.run_loop.specs.declared.work.Stop.{Stop}
 use Rattle.run_loop.specs.declared.work.Stop.TheVariants.{Go, End, Fails}
 use Rattle.run_loop.specs.declared.status.Status.TheVariants.{NoMemory, BadStream}
+use Rattle.run_loop.proofs.ReadAhead.{starved_read}
 use Rattle.stream_loop.specs.Handling.{Handling, blocks_answer, body_answer}
 use Rattle.stream_loop.specs.Rounds.{status_of, IsEnding}
 use Rattle.stream_loop.proofs.Answered.{due_of_blocks, some_due_without_parts, some_due, within_ahead}
@@ -166,23 +167,24 @@ stopped_ahead w k h number failed before s left mid new reader.NoMemory same = (
 
 gives_after : (e : Effort) (pipes failed : ℕ) (r before : Reading) (input left : List ℕ) (jobs : List BlockJob) (after : List ℕ → Answer) (old mid new : Option (List ℕ)) (round : Round) →
     All (IsJobOf e r.header) jobs → Came r before input left (blocks_in jobs) old mid → parts_of round.parts.items ≡ job_parts r.blocks jobs →
-    Stops (left_answer e pipes r failed jobs (remaining before left)) after mid new round.stop →
+    Stops (left_answer e pipes r failed jobs (remaining before left)) after mid new round.stop → Stopped (batch_ahead e pipes r failed input) old new NoMemory →
     Gives (batch_ahead e pipes r failed input) after old new round
-gives_after e pipes failed r before input left jobs after old mid new round are came made stops =
+gives_after e pipes failed r before input left jobs after old mid new round are came made stops starved =
     let b = left_answer e pipes r failed jobs (remaining before left) in (
       b,
       mid,
       split e pipes failed r before input left jobs old mid are came ∙ ap (λ (ps : List Part). preceded_by ps b) (sym made),
       (came.bytes, came.took, came.size ∙ sym (size-parts r.blocks jobs) ∙ sym (ap size_of made)),
       stops,
+      starved_read (batch_ahead e pipes r failed input) old new starved,
     )
 
--- the blocks of the round were made, and the round stops as its reading did
+-- the blocks of the round were made, and the round stops as its reading did: it read no more than where memory ran out then
 pub gives_round : (e : Effort) (pipes failed failed' : ℕ) (r s : Reading) (input : List ℕ) (jobs : List BlockJob) (old new : Option (List ℕ)) (stopped : Reached) (round : Round) →
     All (IsJobOf e r.header) jobs → Comes r s input (blocks_in jobs) old new stopped → Passes r s (length jobs) → failed' ≡ failed + failures r.blocks jobs →
-    parts_of round.parts.items ≡ job_parts r.blocks jobs → StopsAs e r.header s.blocks failed' stopped round.stop →
+    parts_of round.parts.items ≡ job_parts r.blocks jobs → StopsAs e r.header s.blocks failed' stopped round.stop → Stopped (batch_ahead e pipes r failed input) old new NoMemory →
     Gives (batch_ahead e pipes r failed input) (batch_ahead e pipes s failed') old new round
-gives_round e pipes failed failed' r s input jobs old new reached.Full round are (left, came) passes counted made stops =
+gives_round e pipes failed failed' r s input jobs old new reached.Full round are (left, came) passes counted made stops starved =
     let after = batch_ahead e pipes s failed' in
     let b = left_answer e pipes r failed jobs (remaining s left) in
     let w = decoding e in
@@ -192,8 +194,8 @@ gives_round e pipes failed failed' r s input jobs old new reached.Full round are
     ap (λ (h : Header). reading_ahead k (body_answer w h (r.blocks + length jobs) (failed + failures r.blocks jobs) (remaining s left))) (sym passes.header)
     ∙ ap (λ (n : ℕ). reading_ahead k (body_answer w s.header n (failed + failures r.blocks jobs) (remaining s left))) (sym passes.blocks)
     ∙ ap (λ (n : ℕ). reading_ahead k (body_answer w s.header s.blocks n (remaining s left))) (sym counted) in
-    gives_after e pipes failed r s input left jobs after old new new round are came made (subst P (sym stops) (left, came.mid_is, came.mid_is, same))
-gives_round e pipes failed failed' r s input jobs old new reached.End round are (left, mid, before, came, on) passes counted made stops =
+    gives_after e pipes failed r s input left jobs after old new new round are came made (subst P (sym stops) (left, came.mid_is, came.mid_is, same)) starved
+gives_round e pipes failed failed' r s input jobs old new reached.End round are (left, mid, before, came, on) passes counted made stops starved =
     let after = batch_ahead e pipes s failed' in
     let w = decoding e in
     let k = 2 * pipes in
@@ -202,12 +204,12 @@ gives_round e pipes failed failed' r s input jobs old new reached.End round are 
     subst (λ (n : ℕ). E n (failed + failures r.blocks jobs)) passes.blocks (subst (λ (f : ℕ). E s.blocks f) counted stops) in
     let P : Body → Type 0 = λ rest. Stops (left_answer e pipes r failed jobs rest) after mid new round.stop in
     gives_after e pipes failed r before input left jobs after old mid new round are came made
-    (subst P (sym on.4) (ends_ahead w k r.header (r.blocks + length jobs) (failed + failures r.blocks jobs) after mid new round.stop is on.2))
-gives_round e pipes failed failed' r s input jobs old new (reached.Stopped why) round are (left, mid, before, came, on) passes counted made stops =
+    (subst P (sym on.4) (ends_ahead w k r.header (r.blocks + length jobs) (failed + failures r.blocks jobs) after mid new round.stop is on.2)) starved
+gives_round e pipes failed failed' r s input jobs old new (reached.Stopped why) round are (left, mid, before, came, on) passes counted made stops starved =
     let after = batch_ahead e pipes s failed' in
     let P : Stop → Type 0 = λ stop. Stops (left_answer e pipes r failed jobs (remaining before left)) after mid new stop in
     gives_after e pipes failed r before input left jobs after old mid new round are came made
-    (subst P (sym stops) (stopped_ahead (decoding e) (2 * pipes) r.header (r.blocks + length jobs) (failed + failures r.blocks jobs) before s left mid new why on))
+    (subst P (sym stops) (stopped_ahead (decoding e) (2 * pipes) r.header (r.blocks + length jobs) (failed + failures r.blocks jobs) before s left mid new why on)) starved
 
 -- ---- whether more is to come
 

@@ -1,6 +1,6 @@
 //! Reading the blocks of a round.
 ghost use Rattle.std.specs.Prelude.{◌≡◌, ◌≤◌, ℕ, List, [], Some, All, length, true, vec_capacity};
-ghost use Rattle.edge_io.specs.Edge.{Rose};
+ghost use Rattle.edge_io.specs.Edge.{Rose, TakesBytes};
 ghost use Rattle.block_receive.specs.Effort.{effort_of};
 ghost use Rattle.coded_stream.specs.Header.{kind_code};
 ghost use Rattle.coded_stream.specs.Opening.{is_wanted};
@@ -52,6 +52,7 @@ impl JobReader {
             (S.left source.old) (S.left source.new) (size_got result) }
         ensures advances { Advances self.old.reader self.new.reader (bytes_got result) (size_got result) }
         ensures job { OnJob result (IsJobOf (effort_of self.old.effort) self.old.reader.header) }
+        ensures moved { TakesBytes (S.left source.old) (S.left source.new) }
         ensures later { S.faults source.old ≤ S.faults source.new }
         ensures fault { result ≡ Err StreamStop.Fault → Rose (S.faults source.old) (S.faults source.new) }
     {
@@ -93,6 +94,7 @@ impl JobReader {
         ensures counts { Counts (length jobs.new.items) most self.new.reader result }
         ensures within { self.new.reader.blocks ≤ most_blocks }
         ensures jobs { All (IsJobOf (effort_of self.old.effort) self.old.reader.header) jobs.new.items }
+        ensures moved { TakesBytes (S.left source.old) (S.left source.new) }
         ensures later { S.faults source.old ≤ S.faults source.new }
         ensures fault { result ≡ Reached.Stopped StreamStop.Fault →
             Rose (S.faults source.old) (S.faults source.new) }

@@ -33,3 +33,12 @@ after_two false b r s ts h k = cc
 
 pub is_from_true : (low high n : ℕ) → low ≤ n → n ≤ high → is_from low high n ≡ true
 is_from_true low high n h k = ap (λ (b : Bool). b && nat_le n high) (le-leb low n h) ∙ le-leb n high k
+
+-- three tests hold, and the fourth doesn't
+pub fourth : (a b c d : Bool) (p q r s u : Refusal) (ts : List Test) → a ≡ true → b ≡ true → c ≡ true → first_failed (test d s ∷ []) ≡ Some u
+    → first_failed (test a p ∷ test b q ∷ test c r ∷ test d s ∷ ts) ≡ Some u
+fourth true true true true p q r s u ts h k l is = cc
+fourth true true true false p q r s u ts h k l is = is
+fourth true true false d p q r s u ts h k l is = cc
+fourth true false c d p q r s u ts h k l is = cc
+fourth false b c d p q r s u ts h k l is = cc

@@ -2,6 +2,9 @@ mod Errors
 mod FirstBits
 mod FirstFailed
 mod Matched
+mod OneBlock
 mod PackedLength
 mod Rooms
 mod Transmissions
+mod KeptBlocks
+mod CallByCall

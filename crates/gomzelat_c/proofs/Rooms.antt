@@ -10,7 +10,7 @@ use Rattle.model_receiver.specs.declared.result.TbOutcome.TheVariants.{Delivered
 use Rattle.gomzelat_c.specs.Receiving.{HasRoom}
 use Rattle.gomzelat_c.proofs.PackedLength.{length_packed}
 
-payload_few : (plan : Plan) (results : List CodeResult) → length (payload_of plan results) ≤ plan.bytes
+pub payload_few : (plan : Plan) (results : List CodeResult) → length (payload_of plan results) ≤ plan.bytes
 payload_few plan results =
     let bits = take (8 * plan.bytes) (whole_of plan results) in
     omega (arith, length_packed bits, length-take (8 * plan.bytes) (whole_of plan results))

@@ -5,3 +5,7 @@ pub mod Receiving
 pub mod Noise
 pub mod Buffers
 pub mod Plans
+pub mod Stages
+pub mod State
+pub mod Steps
+pub mod Rounds

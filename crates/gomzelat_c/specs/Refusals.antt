@@ -5,7 +5,7 @@ use Rattle.std.specs.declared.result.Result.{Result}
 use Rattle.rate_match.specs.declared.matching.BadMatch.{BadMatch}
 use Rattle.rate_match.specs.declared.matching.BadMatch.TheVariants as bad
 use Rattle.gomzelat_c.specs.declared.refusal.Refusal.{Refusal}
-use Rattle.gomzelat_c.specs.declared.refusal.Refusal.TheVariants.{BadLength, BadCount, BadQm, BadNl, BadG, BadVersion, BadBuffer, BadWindows, BadLimit, BadValues, BadBits, BadAmp, BadNoise, BadNumber, ShortOutput, NoMemory}
+use Rattle.gomzelat_c.specs.declared.refusal.Refusal.TheVariants.{BadLength, BadCount, BadQm, BadNl, BadG, BadVersion, BadBuffer, BadWindows, BadLimit, BadValues, BadBits, BadAmp, BadNoise, BadNumber, ShortOutput, NoMemory, ShortCells, ShortBlocks, ShortBits}
 
 -- from 1 on, as the header lists them
 abbrev pub number_of : Refusal → ℕ
@@ -25,6 +25,9 @@ number_of BadNoise = 13
 number_of BadNumber = 14
 number_of ShortOutput = 15
 number_of NoMemory = 16
+number_of ShortCells = 17
+number_of ShortBlocks = 18
+number_of ShortBits = 19
 
 -- the number of what is refused, or 0 where nothing is
 abbrev pub told : Option Refusal → ℕ

@@ -5,11 +5,14 @@ use Rattle.std.specs.List.{sum_by}
 use Rattle.model_sender.specs.Segmentation.{plan_of}
 use Rattle.rate_match.specs.Matching.{is_g, is_nl, is_qm}
 use Rattle.rate_match.specs.Fitting.{fits_in}
+use Rattle.soft_buffers.specs.Flat.{cell_count}
+use Rattle.gomzelat_c.specs.State.{bit_count}
 use Rattle.gomzelat_c.specs.Transmissions.{limit_in}
 use Rattle.gomzelat_c.specs.declared.channel.Channel.{Channel}
+use Rattle.gomzelat_c.specs.declared.decoding.Rooms.{Rooms}
 use Rattle.gomzelat_c.specs.declared.receiver.Receiver.{Receiver}
 use Rattle.gomzelat_c.specs.declared.refusal.Refusal.{Refusal}
-use Rattle.gomzelat_c.specs.declared.refusal.Refusal.TheVariants.{BadLength, BadCount, BadQm, BadNl, BadG, BadVersion, BadBuffer, BadWindows, BadLimit, BadValues, BadBits, BadAmp, BadNoise, BadNumber, ShortOutput}
+use Rattle.gomzelat_c.specs.declared.refusal.Refusal.TheVariants.{BadLength, BadCount, BadQm, BadNl, BadG, BadVersion, BadBuffer, BadWindows, BadLimit, BadValues, BadBits, BadAmp, BadNoise, BadNumber, ShortOutput, ShortCells, ShortBlocks, ShortBits}
 use Rattle.gomzelat_c.specs.declared.transmission.Transmission.{Transmission}
 
 -- what has to hold, and what is refused where it doesn't
@@ -76,6 +79,30 @@ reception_tests bytes ts r values room =
     ∷ test (is_from 1 8 (length ts)) BadCount
     ∷ flat_map transmission_tests ts
     ++ test_receiver bytes ts r values room
+
+-- there are soft cells for a payload of so many bytes
+abbrev pub cells_test : (bytes cells : ℕ) → Test
+cells_test bytes cells = test (nat_le (cell_count (plan_of bytes)) cells) ShortCells
+
+-- how so many soft values of a transmission are combined with so many soft cells
+abbrev pub combine_tests : (bytes : ℕ) → Transmission → (n_ir values cells : ℕ) → List Test
+combine_tests bytes t n_ir values cells =
+    length_test bytes
+    ∷ transmission_tests t
+    ++ (buffer_test bytes n_ir ∷ test (values == t.g) BadValues ∷ cells_test bytes cells ∷ [])
+
+-- how code blocks are decoded
+abbrev pub decode_tests : (bytes : ℕ) → Receiver → Rooms → List Test
+decode_tests bytes r rooms =
+    length_test bytes
+    ∷ buffer_test bytes r.n_ir
+    ∷ test (is_from 1 64 r.windows) BadWindows
+    ∷ test (is_from 1 16 r.limit) BadLimit
+    ∷ test (nat_le bytes rooms.payload) ShortOutput
+    ∷ cells_test bytes rooms.cells
+    ∷ test (nat_le (plan_of bytes).c rooms.blocks) ShortBlocks
+    ∷ test (nat_le (bit_count (plan_of bytes)) rooms.bits) ShortBits
+    ∷ []
 
 -- soft values of so many bits, which are in so many bytes, with room for so many values
 abbrev pub noise_tests : (bits bytes : ℕ) → Channel → (number room : ℕ) → List Test

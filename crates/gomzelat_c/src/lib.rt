@@ -6,8 +6,15 @@
 mod buffers;
 pub mod channel;
 pub mod codewords;
+pub mod combining;
+pub mod decoding;
+pub mod laws;
+mod numbers;
+pub mod pieces;
 pub mod plans;
 pub mod receiver;
 pub mod receptions;
 pub mod refusal;
+pub mod stages;
+pub mod state;
 pub mod transmission;

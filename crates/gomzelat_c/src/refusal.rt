@@ -8,7 +8,7 @@ use lte_bits::NoMemory;
 use rate_match::BadMatch;
 use segmentation::BadLength;
 
-/// What is refused, in the order in which it is tested, and running out of memory.
+/// What is refused, in the order in which it is tested, but for running out of memory, which comes last.
 #[derive(Clone, Copy, Debug, PartialEq, Eq, Hash)]
 pub enum Refusal {
     /// A payload has no bytes, or more than 18,722.
@@ -37,12 +37,18 @@ pub enum Refusal {
     BadAmp,
     /// The noise is above 127.
     BadNoise,
-    /// A transmission's number is above 7.
+    /// A transmission's number is above 7, or there is no code block of that number.
     BadNumber,
     /// The buffer for what is written is too short.
     ShortOutput,
     /// Memory ran out.
     NoMemory,
+    /// There are fewer soft cells than the code blocks have.
+    ShortCells,
+    /// There are fewer entries than code blocks.
+    ShortBlocks,
+    /// There are fewer bytes than the code blocks have bits.
+    ShortBits,
 }
 
 impl Refusal {
@@ -67,6 +73,9 @@ impl Refusal {
             Refusal::BadNumber => 14,
             Refusal::ShortOutput => 15,
             Refusal::NoMemory => 16,
+            Refusal::ShortCells => 17,
+            Refusal::ShortBlocks => 18,
+            Refusal::ShortBits => 19,
         }
     }
 }

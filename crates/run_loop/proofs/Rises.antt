@@ -3,7 +3,7 @@ use Rattle.std.proofs.Common.{ℕ, ◌≤◌, List, Err, inl, inr, refl, arith}
 use Rattle.std.proofs.lemmas.Bool.{cases_lt}
 use Rattle.std.specs.declared.option.Option.{Option}
 use Rattle.edge_io.specs.Edge.{Rose}
-use Rattle.run_loop.specs.Edges.{Edges, Causes, IsLater}
+use Rattle.run_loop.specs.Edges.{Edges, Causes, HasMoved}
 use Rattle.run_loop.specs.Puts.{HasSinkCause}
 use Rattle.run_loop.specs.Step.{FailsBy}
 use Rattle.run_loop.specs.declared.status.SinkName.TheVariants.{Out, Report}
@@ -46,14 +46,7 @@ causes_failing before now mid (status.BadWords number place) later by = absurd b
 causes_failing before now mid (status.WriteFault sink) later by = absurd by
 
 -- a failed write is a cause
-pub causes_writing : (before mid now : Edges) (sink : SinkName) → IsLater before mid → HasSinkCause {T = Unit {0}} mid.outs now.outs mid.reports now.reports (Err sink) →
+pub causes_writing : (before mid now : Edges) (sink : SinkName) → HasMoved before mid → HasSinkCause {T = Unit {0}} mid.outs now.outs mid.reports now.reports (Err sink) →
     Causes before now (status.WriteFault sink)
-causes_writing before mid now Out later cause = rose_since before.outs mid.outs now.outs later.outs (cause.out refl)
-causes_writing before mid now Report later cause = rose_since before.reports mid.reports now.reports later.reports (cause.report refl)
-
-pub later_then : (before mid now : Edges) → IsLater before mid → mid.reads ≤ now.reads → mid.outs ≤ now.outs → mid.reports ≤ now.reports → IsLater before now
-later_then before mid now later reads outs reports = record {
-  reads = omega (arith, later.reads, reads);
-  outs = omega (arith, later.outs, outs);
-  reports = omega (arith, later.reports, reports);
-}
+causes_writing before mid now Out moved cause = rose_since before.outs mid.outs now.outs moved.outs (cause.out refl)
+causes_writing before mid now Report moved cause = rose_since before.reports mid.reports now.reports moved.reports (cause.report refl)

@@ -17,6 +17,11 @@ abbrev pub most_ahead : Answer → ℕ
 most_ahead a = size_of (take a.ahead a.parts)
     + (if nat_lt 1 a.ahead && nat_lt (length a.parts) a.ahead then a.tail else 0)
 
+-- How many bytes may be read before the first of these parts is written, or the closing where there is none:
+-- those of the parts that are read ahead. Where fewer are left, those of the ending too.
+abbrev pub most_read : Answer → (after : List Part) → ℕ
+most_read a after = size_of (take a.ahead after) + (if nat_lt (length after) a.ahead then a.tail else 0)
+
 -- n bytes may have been read when memory runs out: never once the ending is known
 abbrev pub IsWithin : Answer → ℕ → Type 0
 IsWithin a n = (n ≤ most_ahead a) × (a.parts ≡ [] → 0 < a.due)

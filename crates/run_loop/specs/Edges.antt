@@ -1,7 +1,7 @@
 -- The edges of a run before and after it: what they tell, and their counts of faults.
 use Rattle.std.specs.Prelude.{ℕ, ◌≤◌, List}
 use Rattle.std.specs.declared.option.Option.{Option}
-use Rattle.edge_io.specs.Edge.{Rose}
+use Rattle.edge_io.specs.Edge.{AddsBytes, Rose, TakesBytes}
 use Rattle.edge_io.specs.declared.edge.Source as source
 use Rattle.edge_io.specs.declared.edge.Sink as sink
 use Rattle.run_loop.specs.declared.status.SinkName.TheVariants.{Out, Report}
@@ -34,8 +34,12 @@ Causes before now (WriteFault Report) = Rose before.reports now.reports
 Causes before now (BadWords number place) = ⊥
 Causes before now _ = Unit {0}
 
--- no count fell
-pub record IsLater (before now : Edges) : Type 0 where
+-- Where they are told, bytes were taken from the front of what was left, and bytes were added to what the
+-- sinks held; and no count fell.
+pub record HasMoved (before now : Edges) : Type 0 where
+  pub left : TakesBytes before.left now.left
+  pub out : AddsBytes before.out now.out
+  pub report : AddsBytes before.report now.report
   pub reads : before.reads ≤ now.reads
   pub outs : before.outs ≤ now.outs
   pub reports : before.reports ≤ now.reports

@@ -1,9 +1,9 @@
 -- How a command ends whose answer is known, and what is written then.
-use Rattle.std.specs.Prelude.{◌≡◌, ℕ, ◌<◌, List, [], ◌∷◌, ◌++◌, length, take, Some}
+use Rattle.std.specs.Prelude.{◌≡◌, ℕ, ◌+◌, ◌<◌, ◌≤◌, List, [], ◌∷◌, ◌++◌, length, take, Some}
 use Rattle.std.specs.declared.option.Option.{Option}
 use Rattle.edge_io.specs.Edge.{Adds}
 use Rattle.run_loop.specs.Answer.{Part, Answer, finished, some_failed, preceded_by, texts, lines, size_of}
-use Rattle.run_loop.specs.Due.{Stopped, TakesSome}
+use Rattle.run_loop.specs.Due.{Stopped, TakesSome, most_read}
 use Rattle.run_loop.specs.Edges.{Edges}
 use Rattle.run_loop.specs.declared.status.SinkName.TheVariants.{Out, Report}
 use Rattle.run_loop.specs.declared.status.Status.{Status}
@@ -37,6 +37,10 @@ abbrev pub next_line : (last : List ℕ) → List Part → List ℕ
 next_line last [] = last
 next_line last (p ∷ parts) = p.line
 
+-- no more was read than the input of the parts in front and what is read ahead of the rest
+abbrev pub ReadsAhead : Answer → (front after : List Part) → Edges → Edges → Type 0
+ReadsAhead a front after old new = TakesSome old.left new.left (λ n. n ≤ size_of front + most_read a after)
+
 -- What is written at each ending. A write fails only where something is to be written, and leaves a prefix of it.
 abbrev pub Ended : Answer → Edges → Edges → Status → Type 0
 Ended a old new Done = (a.ending ≡ finished) × IsWhole a old new
@@ -44,9 +48,10 @@ Ended a old new SomeFailed = (a.ending ≡ some_failed) × IsWhole a old new
 Ended a old new (WriteFault Out) = (front after : List Part) × (n : ℕ) × (a.parts ≡ front ++ after)
     × (0 < length (next_text a.closing after))
     × Adds old.out new.out (texts front ++ take n (next_text a.closing after))
-    × Adds old.report new.report (lines front)
+    × Adds old.report new.report (lines front) × ReadsAhead a front after old new
 Ended a old new (WriteFault Report) = (front after : List Part) × (n : ℕ) × (a.parts ≡ front ++ after)
     × (0 < length (next_line a.last after))
     × Adds old.out new.out (texts front ++ next_text a.closing after)
     × Adds old.report new.report (lines front ++ take n (next_line a.last after))
+    × ReadsAhead a front after old new
 Ended a old new stopped = StoppedAfter a old new stopped

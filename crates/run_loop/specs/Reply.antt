@@ -2,7 +2,7 @@
 use Rattle.std.specs.Prelude.{◌≡◌, ℕ, List, take, Some}
 use Rattle.edge_io.specs.Edge.{Adds}
 use Rattle.run_loop.specs.Answer.{Answer, Ending, finished, some_failed, bad}
-use Rattle.run_loop.specs.Edges.{Edges, Causes, IsLater}
+use Rattle.run_loop.specs.Edges.{Edges, Causes, HasMoved}
 use Rattle.run_loop.specs.Ended.{Ended}
 use Rattle.run_loop.specs.declared.status.SinkName.TheVariants.{Report}
 use Rattle.run_loop.specs.declared.status.Status.{Status}
@@ -41,8 +41,8 @@ IsEndingOf ending status.NoMemory = Unit {0}
 IsEndingOf ending _ = ⊥
 
 -- A run of a command that has these replies: how it ends where the source tells what it gives, and, whether it
--- tells that or not, that each fault was counted and no count fell.
+-- tells that or not, that each fault was counted, what was moved, and that no count fell.
 pub record Ends (reply : List ℕ → Reply) (before now : Edges) (status : Status) : Type 0 where
   pub ended : (input : List ℕ) → before.left ≡ Some input → EndsReply (reply input) before now status
   pub causes : Causes before now status
-  pub later : IsLater before now
+  pub moved : HasMoved before now

@@ -1,12 +1,12 @@
 -- How a command opens, and what a round of its work reads and gives.
-use Rattle.std.specs.Prelude.{◌≡◌, ℕ, ◌<◌, List, [], length, Some, map, Bool, true, false, Ok, Err, IfErr}
+use Rattle.std.specs.Prelude.{◌≡◌, ℕ, ◌<◌, ◌≤◌, List, [], length, Some, map, Bool, true, false, Ok, Err, IfErr}
 use Rattle.std.specs.declared.option.Option.{Option}
 use Rattle.std.specs.declared.result.Result.{Result}
 use Rattle.edge_io.specs.Edge.{Rose}
 use Rattle.run_loop.specs.Answer as answer
 use Rattle.run_loop.specs.Answer.{Answer, Ending, finished, some_failed, preceded_by, size_of}
-use Rattle.run_loop.specs.Due.{Stopped, TakesSome}
-use Rattle.run_loop.specs.Edges.{Edges, Causes, IsLater}
+use Rattle.run_loop.specs.Due.{Stopped, TakesSome, most_read}
+use Rattle.run_loop.specs.Edges.{Edges, Causes, HasMoved}
 use Rattle.run_loop.specs.Ended.{Ended, Stands}
 use Rattle.run_loop.specs.declared.status.Status.{Status}
 use Rattle.run_loop.specs.declared.status.Status.TheVariants.{Done, SomeFailed, BadStream, ReadFault, NoMemory}
@@ -35,7 +35,7 @@ pub record Opens {W : Type 0} (answer : List ℕ → Answer) (after : W → List
     (result : Result W Status) : Type 0 where
   pub opens : (input : List ℕ) → before.left ≡ Some input → OpensTo (answer input) after before now result
   pub causes : IfErr result (Causes before now)
-  pub later : IsLater before now
+  pub moved : HasMoved before now
 
 -- ---- a round
 
@@ -64,12 +64,14 @@ Stops b after mid new (End closing last failed) = (new ≡ Some []) × (b.parts 
     × (b.closing ≡ closing.items) × (b.last ≡ last.items) × (b.ending ≡ ending_of failed)
 Stops b after mid new (Fails status) = Stopped b mid new status
 
--- A round that began with the answer `a` still to come took the input of its parts, and then stopped.
+-- A round that began with the answer `a` still to come took the input of its parts, and then stopped. In all
+-- it read no more than may be read before the first of them is written.
 abbrev pub Gives : (a : Answer) → (after : List ℕ → Answer) → (old new : Option (List ℕ)) → Round → Type 0
 Gives a after old new round = (b : Answer) × (mid : Option (List ℕ))
     × (a ≡ preceded_by (parts_of round.parts.items) b)
     × TakesSome old mid (λ n. n ≡ size_of (parts_of round.parts.items))
     × Stops b after mid new round.stop
+    × TakesSome old new (λ n. n ≤ most_read a a.parts)
 
 -- it gave that, or the run stopped before it had a part
 abbrev pub Steps : (a : Answer) → (after : List ℕ → Answer) → (old new : Option (List ℕ)) → Result Round Status → Type 0

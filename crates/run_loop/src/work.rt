@@ -62,6 +62,7 @@ impl Round {
 /// The work of a command once it was opened, a round at a time. A round reads one block or several,
 /// and they are written before the next round begins.
 pub trait Work: Drop {
+    ghost use Rattle.edge_io.specs.Edge.{TakesBytes};
     ghost use Rattle.run_loop.specs.Step.{FailsBy, Fewer, Steps, StopsBy};
 
     // The answer that is still to come, for the input that is left.
@@ -82,6 +83,7 @@ pub trait Work: Drop {
             Steps (answer self.old input) (answer self.new) (S.left source.old) (S.left source.new) result }
         ensures ready { IfOk result (λ round. round.stop ≡ Stop.Go → ready self.new) }
         ensures fewer { IfOk result (λ round. Fewer (budget self.old) (budget self.new) round.stop) }
+        ensures moved { TakesBytes (S.left source.old) (S.left source.new) }
         ensures later { S.faults source.old ≤ S.faults source.new }
         ensures stops { IfOk result
             (λ round. StopsBy (S.faults source.old) (S.faults source.new) round.stop) }

@@ -1,3 +1,5 @@
 pub mod Buffers
 pub mod Shown
 pub mod Runs
+pub mod Parts
+pub mod Flat

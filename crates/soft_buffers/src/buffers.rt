@@ -1,11 +1,13 @@
 //! The soft buffers of a transport block.
-ghost use Rattle.std.specs.Prelude.{◌≡◌, ◌≤◌, ◌<◌, ◌+◌, ◌*◌, ◌++◌, [], ◌∷◌, List, IfOk, length, pos, replicate};
+ghost use Rattle.std.specs.Prelude.{◌≡◌, ◌≤◌, ◌<◌, ◌+◌, ◌*◌, ◌++◌, [], ◌∷◌, List, IfOk, flat_map, length, pos, replicate};
 ghost use Rattle.model_sender.specs.Segmentation.{fill, size};
 ghost use Rattle.model_sender.specs.CircularBuffer.{FitsIn};
 ghost use Rattle.rate_match.specs.Matching.{limit_of};
 ghost use Rattle.model_receiver.specs.SoftCells.{Reception, reception, soft_streams};
 ghost use Rattle.soft_buffers.specs.Buffers.{HaveTaken, Hold, cells_of_block, streams_of_cells};
+ghost use Rattle.soft_buffers.specs.Flat.{by_block, cell_count};
 
+use crate::flat::{divided, joined};
 use crate::pieces::add_codeword;
 use crate::streams::streams_of;
 use lte_bits::{List, NoMemory, Soft, SoftStreams};
@@ -62,6 +64,34 @@ impl HarqBuffers {
             buffer,
             blocks,
         })
+    }
+
+    /// The buffers of a transport block of this plan, which the soft buffer fits, with the cells that stand
+    /// first in `cells`, block after block.
+    pub fn from_cells(
+        alloc: Global,
+        plan: &Plan,
+        buffer: Buffer,
+        cells: &[Soft],
+    ) -> Result<HarqBuffers, NoMemory>
+        requires fits { FitsIn (limit_of buffer) plan.now.c plan.now.k_plus }
+        requires cells { cell_count plan.now ≤ length cells.now }
+        ensures plan { IfOk result (λ b. b.plan ≡ plan.now) }
+        ensures limit { IfOk result (λ b. b.limit ≡ limit_of buffer) }
+        ensures cells { IfOk result (λ b. b.cells ≡ by_block plan.now cells.now) }
+    {
+        Ok(HarqBuffers {
+            plan: *plan,
+            buffer,
+            blocks: divided(alloc, plan, cells)?,
+        })
+    }
+
+    /// All cells, block after block.
+    pub fn cells(&self, alloc: Global) -> Result<List<Soft>, NoMemory>
+        ensures { IfOk result (λ cells. cells ≡ flat_map (λ block. block) self.now.cells) }
+    {
+        joined(alloc, self.blocks.as_slice())
     }
 
     /// Takes the G soft values of one transmission more, sent with redundancy version `rv`, 0 to 3, by a

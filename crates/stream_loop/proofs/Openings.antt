@@ -1,5 +1,5 @@
 -- How a stream begins.
-use Rattle.std.proofs.Common.{◌≡◌, ℕ, ◌-◌, ◌<◌, List, [], ◌∷◌, length, take, Ok, Err, refl, ap, sym, subst, ◌∙◌}
+use Rattle.std.proofs.Common.{◌≡◌, ℕ, ◌-◌, ◌<◌, List, [], ◌∷◌, length, take, Ok, Err, refl, ap, sym, subst, ◌∙◌, arith}
 use Rattle.std.specs.declared.option.Option.{Option}
 use Rattle.edge_io.specs.Edge.{Adds, Rose, Takes}
 use Rattle.edge_io.proofs.Known.{takes_none}
@@ -21,6 +21,8 @@ use Rattle.run_loop.specs.declared.status.SinkName.TheVariants.{Out}
 use Rattle.run_loop.specs.declared.status.Status.TheVariants as status
 use Rattle.stream_loop.specs.Handling.{Handling, body_answer, opening_answer, opening_text, stream_answer}
 use Rattle.stream_loop.specs.Rounds.{answer_ahead, status_of}
+use Rattle.stream_loop.proofs.Answered.{one_ahead}
+use Rattle.stream_loop.proofs.StreamSteps.{taken}
 
 abbrev pub head_of : Handling → Header → Part
 head_of w h = heading (opening_text (w.header h)) (length (header_text h))
@@ -57,6 +59,8 @@ pub unwritten_stream : (w : Handling) (want : Want) (r : Reading) (input : List 
 unwritten_stream w want r input old new n wanted (bytes, rest, old_is, new_is, size, says) begun some wrote none =
     unwritten (stream_answer w input) (answer_ahead w r 0 rest) (opening_text (w.header r.header)) (length (header_text r.header)) n old new
     (says_of w want r input rest wanted says begun) some wrote none
+    (let ahead = one_ahead w r 0 rest in omega (arith, ahead))
+    (bytes, taken old.left new.left bytes rest old_is new_is, (let place = begun.place in omega (arith, size, place)))
 
 -- the header was refused, or the source failed before it was known
 pub unopened : (w : Handling) (want : Want) (input : List ℕ) (old new : Edges) (stop : StreamStop) → want ≡ w.want → Begins (opening want input) old.left new.left (Err stop) →

@@ -1,5 +1,6 @@
 -- The rounds of a command over a stream.
-use Rattle.std.proofs.Common.{◌≡◌, ℕ, ◌+◌, Bool, List, [], ◌∷◌, ◌++◌, length, Some, None, Ok, Err, refl, ap, sym, subst, ◌∙◌, arith}
+use Rattle.std.proofs.Common.{◌≡◌, ℕ, ◌+◌, ◌≤◌, Bool, List, [], ◌∷◌, ◌++◌, length, Some, None, Ok, Err, refl, ap, sym, subst, ◌∙◌, arith}
+use Rattle.std.proofs.lemmas.List.{append-nil}
 use Rattle.std.specs.declared.option.Option.{Option}
 use Rattle.edge_io.specs.Edge.{Takes}
 use Rattle.edge_io.proofs.Known.{takes_none}
@@ -10,13 +11,14 @@ use Rattle.coded_stream.specs.Steps.{Reading, remaining, GoesOn, Advances}
 use Rattle.coded_stream.specs.declared.stop.StreamStop.{StreamStop}
 use Rattle.coded_stream.specs.declared.stop.StreamStop.TheVariants as reader
 use Rattle.run_loop.specs.Answer.{Part, Answer, preceded_by, size_of}
-use Rattle.run_loop.specs.Due.{IsWithin, Stopped}
+use Rattle.run_loop.specs.Due.{IsWithin, Stopped, TakesSome, most_read}
 use Rattle.run_loop.specs.Step.{Gives, Stops, ending_of}
 use Rattle.run_loop.specs.declared.work.Round.{Round}
 use Rattle.run_loop.specs.declared.work.Stop.{Stop}
 use Rattle.run_loop.specs.declared.work.Stop.TheVariants.{Go, End, Fails}
 use Rattle.run_loop.specs.declared.status.Status.TheVariants.{BadStream, NoMemory}
 use Rattle.run_loop.proofs.Alone.{gives_alone}
+use Rattle.run_loop.proofs.ReadAhead.{one_read}
 use Rattle.run_loop.proofs.Within.{within_next}
 use Rattle.stream_loop.specs.Handling.{Handling, part, one_if, body_answer}
 use Rattle.stream_loop.specs.Rounds.{answer_ahead, block_of, status_of, IsEnding, IsGoing}
@@ -69,12 +71,19 @@ gives_block w r r' failed failed' input into n old new round fails on moved made
     ∙ ap (λ (k : ℕ). answer_ahead w (past r b) k read.left) (sym counted)
     ∙ ap (λ (s : Reading). answer_ahead w s failed' read.left) (sym moved.2) in
     let one : length read.bytes ≡ size_of (p ∷ []) = omega (arith, read.size) in
+    let ahead = one_ahead w (past r b) (failed + one_if (w.block r.header r.blocks b).failed) read.left in
+    let R : Answer → Type 0 = λ a. length read.bytes ≤ most_read a a.parts in
     let P : Stop → Type 0 = λ stop. Stops more (answer_ahead w r' failed') new new stop in (
       more,
       new,
       answered w r failed input b old new read ∙ ap (λ (ps : List Part). preceded_by ps more) (sym made.0.0),
       (read.bytes, taken old new read.bytes read.left read.old_is read.new_is, one ∙ sym (ap size_of made.0.0)),
       subst P (sym made.0.1) (read.left, read.new_is, read.new_is, same),
+      (
+        read.bytes,
+        taken old new read.bytes read.left read.old_is read.new_is,
+        subst R (sym (answered w r failed input b old new read)) (one_read more p (length read.bytes) (omega (arith, ahead)) (omega (arith, read.size))),
+      ),
     )
 
 -- memory ran out once it was read
@@ -122,6 +131,8 @@ pub gives_end : (w : Handling) (r r' : Reading) (failed : ℕ) (input into : Lis
     IsEnding w r.header r.blocks failed stop → round.parts.items ≡ [] → round.stop ≡ stop → Gives (answer_ahead w r failed input) after old new round
 gives_end w r r' failed input into after old new round stop (bytes, old_is, new_is, size, says) end none is =
     let P : Body → Type 0 = λ rest. Gives (body_answer w r.header r.blocks failed rest) after old new round in
+    let T : Option (List ℕ) → Type 0 = λ o. Takes old o bytes in
     subst P (sym says)
     (gives_alone (body_answer w r.header r.blocks failed (no_more whole)) after old new round stop none is
-    (ends w r.header r.blocks failed after old new stop end new_is))
+    (ends w r.header r.blocks failed after old new stop end new_is)
+    (bytes, subst T (sym new_is) (old_is ∙ ap Some (sym (append-nil bytes))), omega (arith, size)))

@@ -1,9 +1,10 @@
 //! Each read and each write of a run failing in turn: what is written then is a part of what the run
 //! without a fault wrote.
+use edge_io::MemSource;
 use std::process::Abort;
 use std::test::Fail;
-use test_runs::{Edges, Ran, run_of, sound};
-use turbo_run::{SinkName, Status};
+use test_runs::{Edges, Ran, list_of, run_of, sink_of, small_blocks, sound, words_of};
+use turbo_run::{SinkName, Status, run};
 
 /// A run, and of its text the bytes of the opening, of a block's input, and of a whole block.
 #[derive(Clone, Copy)]
@@ -127,5 +128,23 @@ fn the_line_of_a_fault_may_fail_itself(rt: HostRuntime) -> Result<(), Fail> {
             assert_eq!(rt; ran.report.bytes(), &line[..n], "of {command}");
         }
     }
+    Ok(())
+}
+
+#[test]
+fn a_fault_ends_a_run_over_threads(rt: HostRuntime) -> Result<(), Fail> {
+    let words = words_of(rt.alloc(), "batch pipes=8")?;
+    let blocks = small_blocks(rt.alloc(), 17)?;
+    let none = list_of(rt.alloc(), &[])?;
+    let mut source = MemSource::new(list_of(rt.alloc(), &blocks)?, 7, none);
+    let mut out = sink_of(rt.alloc(), 100, 7, &[0])?;
+    let mut report = sink_of(rt.alloc(), 100, 7, &[])?;
+    let status = run(&rt, rt.alloc(), &words, &mut source, &mut out, &mut report);
+    let sink = SinkName::Out;
+    assert_eq!(rt; status, Status::WriteFault { sink });
+    assert_eq!(rt; out.bytes().len(), 0);
+    assert_eq!(rt; report.bytes(), b"write fault out\n".as_slice());
+    // One block of 6 bytes, and the end word.
+    assert_eq!(rt; source.left().len(), 10);
     Ok(())
 }

@@ -16,6 +16,8 @@ mod kept_blocks;
 #[cfg(test)]
 mod left;
 #[cfg(test)]
+mod relay_faults;
+#[cfg(test)]
 mod relay_runs;
 #[cfg(test)]
 mod trial_runs;

@@ -1,7 +1,7 @@
 //! Runs of `trial` over memory.
 use std::test::Fail;
-use test_runs::expect_run;
-use turbo_run::Status;
+use test_runs::{Edges, expect_run, run_of, sound};
+use turbo_run::{SinkName, Status};
 
 #[test]
 fn trials_count_what_was_delivered(rt: HostRuntime) -> Result<(), Fail> {
@@ -19,6 +19,27 @@ fn trials_count_what_was_delivered(rt: HostRuntime) -> Result<(), Fail> {
     for (line, report) in rows {
         // Each run twice, on an input that isn't read.
         expect_run(rt.alloc(), line, b"left", (Status::Done, nothing, report))?;
+    }
+    Ok(())
+}
+
+#[test]
+fn each_write_of_the_line_fails_in_turn(rt: HostRuntime) -> Result<(), Fail> {
+    let line = "trial seed=1 blocks=1 tb=2 g=132 qm=2 rv=0 amp=40 noise=0";
+    let whole = run_of(rt.alloc(), line, b"left", sound(1))?;
+    let told = whole.report.bytes();
+    for n in 0..told.len() {
+        let calls = [n as u64];
+        let edges = Edges {
+            piece: 1,
+            reads: &[],
+            outs: &[],
+            reports: &calls,
+        };
+        let ran = run_of(rt.alloc(), line, b"left", edges)?;
+        let sink = SinkName::Report;
+        assert_eq!(rt; ran.status, Status::WriteFault { sink });
+        assert_eq!(rt; ran.report.bytes(), &told[..n.min(told.len())]);
     }
     Ok(())
 }

@@ -9,7 +9,7 @@ use Rattle.edge_io.proofs.Known.{takes_none}
 use Rattle.model_sender.specs.CircularBuffer.{Match}
 use Rattle.std.proofs.lemmas.Bool.{cases_lt}
 use Rattle.run_loop.specs.Answer.{Part, Answer, finished, preceded_by, refusal, closed, size_of}
-use Rattle.run_loop.specs.Due.{IsDue, IsWithin, Stopped}
+use Rattle.run_loop.specs.Due.{IsDue, IsWithin, Stopped, most_read}
 use Rattle.run_loop.specs.Step.{Gives, Stops, parts_of, ending_of}
 use Rattle.run_loop.specs.declared.work.Part as rust
 use Rattle.run_loop.specs.declared.work.Round.{Round}
@@ -121,10 +121,12 @@ gives_coded m rv input payload after old new round is some few took ended told =
     let end = told_all old new payload input took ended told in
     let coded = coded_stop m rv payload after new round.parts.items round.stop is end.new_is in
     let one : length payload ≡ size_of (codeword_part m rv payload ∷ []) = omega arith in
-    let b = closed [] (bits_line m) finished 0 0 in (
+    let b = closed [] (bits_line m) finished 0 0 in
+    let R : Answer → Type 0 = λ a. length payload ≤ most_read a a.parts in (
       b,
       new,
       ap (block_answer m rv) end.input_is ∙ accepted m rv payload some few ∙ ap (λ (ps : List Part). preceded_by ps b) (sym coded.0),
       (payload, took, one ∙ sym (ap size_of coded.0)),
       coded.1,
+      (payload, took, subst R (sym (ap (block_answer m rv) end.input_is ∙ accepted m rv payload some few)) (omega arith)),
     )

@@ -1,5 +1,5 @@
 -- The rounds of `encode`'s work.
-use Rattle.std.proofs.Common.{◌≡◌, ◌≢◌, ℕ, suc, inl, inr, ◌+◌, ◌*◌, ◌<◌, List, [], ◌∷◌, length, Some, Ok, Err, refl, ap, sym, subst, ◌∙◌, arith}
+use Rattle.std.proofs.Common.{◌≡◌, ◌≢◌, ℕ, suc, inl, inr, ◌+◌, ◌*◌, ◌<◌, ◌≤◌, List, [], ◌∷◌, length, Some, Ok, Err, refl, ap, sym, subst, ◌∙◌, arith}
 use Rattle.std.proofs.lemmas.List.{length-append}
 use Rattle.std.specs.declared.option.Option.{Option}
 use Rattle.std.specs.declared.result.Result.{Result}
@@ -13,7 +13,7 @@ use Rattle.coded_stream.specs.declared.version.Version.{Version}
 use Rattle.coded_stream.specs.declared.version.Version.TheVariants.{One, Two}
 use Rattle.coded_stream.proofs.OpeningSteps.{text-long}
 use Rattle.run_loop.specs.Answer.{Part, Answer, preceded_by, size_of}
-use Rattle.run_loop.specs.Due.{IsWithin, Stopped}
+use Rattle.run_loop.specs.Due.{IsWithin, Stopped, most_read}
 use Rattle.run_loop.specs.Step.{Gives, Steps, Stops, parts_of, ending_of}
 use Rattle.run_loop.specs.declared.work.Part as rust
 use Rattle.run_loop.specs.declared.work.Round.{Round}
@@ -21,6 +21,7 @@ use Rattle.run_loop.specs.declared.work.Stop.{Stop}
 use Rattle.run_loop.specs.declared.work.Stop.TheVariants.{Go, End, Fails}
 use Rattle.run_loop.specs.declared.status.Status.{Status}
 use Rattle.run_loop.specs.declared.status.Status.TheVariants.{Done, SomeFailed, BadWords, BadStream, ReadFault, WriteFault, NoMemory}
+use Rattle.run_loop.proofs.ReadAhead.{one_read}
 use Rattle.run_loop.proofs.Within.{within_next}
 use Rattle.turbo_run.specs.Encode.{block_part, blocks_answer, end_answer}
 use Rattle.turbo_run.specs.EncodeRounds.{IsEnd, IsOfBlock, IsLast, IsAfterAllBlocks}
@@ -89,12 +90,16 @@ gives_whole h k count input payload old new round made some all took told =
     let read = read_whole h k count input payload old new some all took told in
     let b = blocks_answer h k (count + 1) read.left in
     let P : Stop → Type 0 = λ stop. Stops b (blocks_answer h k (count + 1)) new new stop in
-    let one : length payload ≡ size_of (block_part h payload (length payload) ∷ []) = omega arith in (
+    let p = block_part h payload (length payload) in
+    let ahead = one_ahead h k (count + 1) read.left in
+    let R : Answer → Type 0 = λ a. length payload ≤ most_read a a.parts in
+    let one : length payload ≡ size_of (p ∷ []) = omega arith in (
       b,
       new,
       read.answer ∙ ap (λ (ps : List Part). preceded_by ps b) (sym made.0),
       (payload, took, one ∙ sym (ap size_of made.0)),
       subst P (sym made.1) (read.left, read.new_is, read.new_is, refl),
+      (payload, took, subst R (sym read.answer) (one_read b p (length payload) (omega (arith, ahead)) (omega arith))),
     )
 
 stops_end : (count due : ℕ) (after : List ℕ → Answer) (new : Option (List ℕ)) (stop : Stop) →
@@ -129,6 +134,7 @@ gives_last h more count input payload after old new round is few no_more took en
               sym (ap (λ (blocks : List rust.Part). preceded_by (parts_of blocks) (end_answer count 1)) empty.1),
               ([], subst R (none_of payload zero_long) took, sym (ap (λ (blocks : List rust.Part). size_of (parts_of blocks)) empty.1)),
               stops_end count 1 after new round.stop empty.2 end.new_is,
+              (payload, took, omega (arith, zero_long)),
             )
             )
         | inr some ↦ absurd (omega (arith, zero_long, some.0))
@@ -138,12 +144,14 @@ gives_last h more count input payload after old new round is few no_more took en
         | inl empty ↦ absurd (omega (arith, some, empty.0))
         | inr made ↦ (
             let b = end_answer (count + 1) 0 in
+            let S : Answer → Type 0 = λ a. length payload ≤ most_read a a.parts in
             let one : length payload ≡ size_of (block_part h payload (length payload + 1) ∷ []) = omega arith in (
               b,
               new,
               answer ∙ ap (λ (ps : List Part). preceded_by ps b) (sym made.1),
               (payload, took, one ∙ sym (ap size_of made.1)),
               stops_end (count + 1) 0 after new round.stop made.2 end.new_is,
+              (payload, took, subst S (sym answer) (omega arith)),
             )
             )
       ]

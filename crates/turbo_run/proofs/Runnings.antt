@@ -6,6 +6,7 @@ use Rattle.run_loop.specs.FaultLine.{AddsLine, Finished, fault_line}
 use Rattle.run_loop.specs.Reply.{Ends, EndsReply, IsEndingOf, Reply, ending_of_reply}
 use Rattle.run_loop.specs.declared.status.Status.{Status}
 use Rattle.run_loop.proofs.Complete.{complete}
+use Rattle.run_loop.proofs.Moves.{moved_line}
 use Rattle.run_loop.proofs.Rises.{causes_until, rose_since}
 use Rattle.command_words.specs.Words.{command_of}
 use Rattle.command_words.specs.declared.words.Command.{Command}
@@ -27,7 +28,7 @@ pub runs_as : {S D : Type 0} (words : List (List ℕ)) (command : Command) (sour
     mid.reports ≤ reports → AddsLine mid.report report (fault_line status) mid.reports reports →
     Runs words source source' out out' old (record mid { report = report; reports = reports }) status
 runs_as words command source source' out out' old mid report reports status is ends alone unread then line =
-    let first = ends.later.reports in
+    let first = ends.moved.reports in
     let told : AddsLine mid.report report (fault_line status) old.reports reports = record { front = line.front; whole = λ quiet. line.whole (λ rose. quiet (rose_since _ _ _ first rose)) } in
     let new = record mid { report = report; reports = reports } in
     let causes = causes_until old mid report reports status first then ends.causes in
@@ -36,6 +37,7 @@ runs_as words command source source' out out' old mid report reports status is e
       ends = rw is (λ input left. record { mid = mid; ended = ends.ended input left; left = refl; out = refl; line = told });
       complete = rw is (λ input left quiet. complete (answer_of command input) old mid old new status (ends.ended input left) causes quiet);
       causes = rw is causes;
+      moved = moved_line old mid report reports (fault_line status) mid.reports ends.moved line then;
       alone = rw is alone;
       unread = rw is (unread_as (unread_of command) old mid new status refl refl told causes unread);
     }

@@ -2,7 +2,7 @@
 use Rattle.std.specs.Prelude.{◌≡◌, ℕ, List, Some, None, IfOk, IfErr, IfSome}
 use Rattle.std.specs.declared.option.Option.{Option}
 use Rattle.rate_match.specs.declared.sends.Sending.{Sending}
-use Rattle.run_loop.specs.Edges.{Edges, Causes, IsQuiet}
+use Rattle.run_loop.specs.Edges.{Edges, Causes, HasMoved, IsQuiet}
 use Rattle.run_loop.specs.FaultLine.{AddsLine, Finished, fault_line}
 use Rattle.run_loop.specs.Reply.{Reply, reading, IsEndingOf, ending_of_reply}
 use Rattle.run_loop.specs.declared.status.Status.{Status}
@@ -80,6 +80,9 @@ pub record Runs {S D : Type 0} (words : List (List ℕ)) (source source' : S) (o
       IsQuiet old new → IsEndingOf (ending_of_reply (answer_of command input)) status)
   -- each fault was counted, and accepted words are never refused, whether the source tells or not
   pub causes : IfOk (command_of words) (λ _. Causes old new status)
+  -- whatever the words, and whether the source tells or not: bytes were taken from the front of what it had
+  -- left, bytes were added to what the sinks held, and no count fell
+  pub moved : HasMoved old new
   -- a command that reads nothing leaves the source and `out` as they are
   pub alone : IfOk (command_of words) (λ command. LeavesAlone command source source' out out')
   -- and ends as its answer says, even where the source doesn't tell what it gives

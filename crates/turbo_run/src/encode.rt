@@ -1,5 +1,6 @@
 //! The command `encode`.
 ghost use Rattle.std.specs.Prelude.{◌≡◌, ◌≤◌, ◌<◌, ◌+◌, IfOk, IfErr, length};
+ghost use Rattle.edge_io.specs.Edge.{TakesBytes};
 ghost use Rattle.coded_stream.specs.Shown.{header_of};
 ghost use Rattle.run_loop.specs.Step.{FailsBy};
 ghost use Rattle.turbo_run.specs.EncodeRounds.{IsAfterAllBlocks, IsEnd, IsLast, IsOfBlock};
@@ -80,6 +81,7 @@ fn after_all_blocks<S: Source>(
     source: &mut S,
 ) -> Result<Round, Status>
     ensures bytes { IsAfterAllBlocks (header_of header.now) (S.left source.old) (S.left source.new) result }
+    ensures moved { TakesBytes (S.left source.old) (S.left source.new) }
     ensures later { S.faults source.old ≤ S.faults source.new }
     ensures fails { IfErr result (FailsBy (S.faults source.old) (S.faults source.new)) }
 {

@@ -1,5 +1,6 @@
 //! The next bytes of the input.
 ghost use Rattle.std.specs.Prelude.{◌≤◌, IfErr};
+ghost use Rattle.edge_io.specs.Edge.{TakesBytes};
 ghost use Rattle.run_loop.specs.Step.{FailsBy};
 ghost use Rattle.turbo_run.specs.Input.{IsInput};
 
@@ -20,6 +21,7 @@ pub enum Input {
 /// anything is read.
 pub fn read_up_to<S: Source>(alloc: Global, source: &mut S, size: usize) -> Result<Input, Status>
     ensures bytes { IsInput size (S.left source.old) (S.left source.new) result }
+    ensures moved { TakesBytes (S.left source.old) (S.left source.new) }
     ensures later { S.faults source.old ≤ S.faults source.new }
     ensures fails { IfErr result (FailsBy (S.faults source.old) (S.faults source.new)) }
 {

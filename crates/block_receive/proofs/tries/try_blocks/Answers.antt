@@ -1,4 +1,4 @@
-use Rattle.std.proofs.Common.{◌≡◌, ℕ, List, get_or, map, sym, ap, ◌∙◌, subst, arith}
+use Rattle.std.proofs.Common.{◌≡◌, ℕ, ℤ, List, get_or, map, sym, ap, ◌∙◌, subst, arith}
 use Rattle.std.specs.List.{range_with_len}
 use Rattle.std.specs.Prelude.{Option, None, unwrap_or}
 use Rattle.std.specs.Vec.Iter.{into_iter_items, into_iter_len}
@@ -10,6 +10,7 @@ use Rattle.model_receiver.specs.SoftCells.{Reception}
 use Rattle.model_receiver.specs.TransportBlocks.{Effort, Held, block_result, tried_block}
 use Rattle.soft_buffers.specs.Buffers.{Hold}
 use Rattle.block_receive.specs.Effort.{effort_in}
+use Rattle.block_receive.specs.Tries.{result_from, tried_block_from, tried_from}
 use Rattle.block_receive.proofs.TriedBlocks.{drawn, drawn-next}
 use Rattle.block_receive.proofs.tries.try_blocks.Goals as goal
 use Rattle.block_receive.proofs.tries.try_blocks.Goals.{in-Some, in-None+in_ok-result-in-None}
@@ -29,11 +30,21 @@ loop-r-preserved g c =
     λ xs hold. elim c.match-flatten.branch [
       | in-Some w ↦ w.result-is ∙ ap (λ (o : Option CodeResult). unwrap_or o (block_result p e xs r)) (sym w.in-Some.is ∙ at)
       | in-None+in_ok-result-in-None w ↦
-          w.result-is ∙ w.in_ok-result-in-None.ensures xs hold
+          w.result-is ∙ w.in_ok-result-in-None.ensures.received xs hold
           ∙ ap (λ (o : Option CodeResult). unwrap_or o (block_result p e xs r)) (sym w.in-None.is ∙ at)
+    ] in
+    let cells : List (List ℤ) = c.args.buffers.now.cells in
+    let from : c.match-flatten.result ≡ tried_block_from p e cells held r =
+    elim c.match-flatten.branch [
+      | in-Some w ↦ w.result-is ∙ ap (λ (o : Option CodeResult). unwrap_or o (result_from p e cells r)) (sym w.in-Some.is ∙ at)
+      | in-None+in_ok-result-in-None w ↦
+          w.result-is ∙ w.in_ok-result-in-None.ensures.from
+          ∙ ap (λ (o : Option CodeResult). unwrap_or o (result_from p e cells r)) (sym w.in-None.is ∙ at)
     ] in
     record {
       left = step.1;
+      from = pushed_next (tried_block_from p e cells held) c.loop-r.results.items c.push.new.self.items r c.match-flatten.result
+          c.loop-r.invariant.from c.in_ok-push.ensures.items from;
       tried = λ xs hold. pushed_next (tried_block p e xs held) c.loop-r.results.items c.push.new.self.items r c.match-flatten.result
           (c.loop-r.invariant.tried xs hold) c.in_ok-push.ensures.items (is xs hold);
     }
@@ -43,6 +54,13 @@ returns-clause-results g c xs hold =
     let p : Plan = c.args.task.now.plan in
     let all : c.loop-r.r ≡ p.c = omega (arith, c.loop-r-test.false, c.loop-r.auto.r-end, ap (λ (q : Plan). q.c) c.plan.view_is) in
     c.loop-r.invariant.tried xs hold ∙ ap (λ (n : ℕ). map (tried_block p (effort_in c.args.task.now) xs c.args.held.items) (range_with_len 0 n)) all
+
+pub returns-clause-from : goal.returns-clause-from
+unfolding tried_from
+returns-clause-from g c =
+    let p : Plan = c.args.task.now.plan in
+    let all : c.loop-r.r ≡ p.c = omega (arith, c.loop-r-test.false, c.loop-r.auto.r-end, ap (λ (q : Plan). q.c) c.plan.view_is) in
+    c.loop-r.invariant.from ∙ ap (λ (n : ℕ). map (tried_block_from p (effort_in c.args.task.now) c.args.buffers.now.cells c.args.held.items) (range_with_len 0 n)) all
 
 pub returns-clause-lawful : goal.returns-clause-lawful
 returns-clause-lawful g c = subst IsPlan c.plan.view_is c.plan.invariant

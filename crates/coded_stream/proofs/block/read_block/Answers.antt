@@ -1,5 +1,6 @@
 use Rattle.std.proofs.Common.{◌≤◌, length, ap, arith}
 use Rattle.std.proofs.lemmas.List.{length-append}
+use Rattle.edge_io.proofs.Known.{takes_bytes_then}
 use Rattle.edge_io.proofs.Told.{told_rest}
 use Rattle.coded_stream.specs.Shown.{header_of}
 use Rattle.coded_stream.proofs.BlockSteps.{word-then, payload-accepted, none-accepted, step-due}
@@ -28,3 +29,9 @@ returns-in-Fault-clause-told g c input is =
     let t = told_rest _ _ w.0 input w.1 is in
     let came : length w.0 ≤ length input = omega (arith, ap length t.input_is, length-append w.0 t.left) in
     (w.0, w.1, omega (arith, step-due (header_of c.args.header.now) c.args.more c.args.start input (length w.0) w.2 came))
+
+pub returns-in-Payload-clause-moved : goal.returns-in-Payload-clause-moved
+returns-in-Payload-clause-moved g c = takes_bytes_then _ _ _ c.read_word.ensures.moved c.read_transmissions.ensures.moved
+
+pub returns-in-End-clause-moved : goal.returns-in-End-clause-moved
+returns-in-End-clause-moved g c = takes_bytes_then _ _ _ c.read_word.ensures.moved c.read_end.ensures.moved

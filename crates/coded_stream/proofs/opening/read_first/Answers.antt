@@ -3,7 +3,7 @@ use Rattle.std.proofs.lemmas.List.{length-append, length-take-le, length-drop}
 use Rattle.std.proofs.lemmas.Slice.{take-put_mid}
 use borrow.Rule.Slice.PartMut.{put_mid}
 use Rattle.edge_io.specs.Edge.{Takes}
-use Rattle.edge_io.proofs.Known.{takes_then}
+use Rattle.edge_io.proofs.Known.{takes_bytes_then, takes_then}
 use Rattle.coded_stream.specs.Opening.{version_of, first_size}
 use Rattle.coded_stream.specs.declared.version.Version.{Version}
 use Rattle.coded_stream.proofs.Fronts.{take_front}
@@ -90,3 +90,12 @@ returns-in-Fault-read_unit-clause-bytes g c =
           omega (arith, length-append unit w.0, f.long, is, less, rest_long, c.first_size.ensures.some)
           ),
     )
+
+pub returns-in-Whole-read_unit-clause-moved : goal.returns-in-Whole-read_unit-clause-moved
+returns-in-Whole-read_unit-clause-moved g c = takes_bytes_then _ _ _ c.read_unit.ensures.moved c.read_unit-2.ensures.moved
+
+pub returns-in-Short-read_unit-clause-moved : goal.returns-in-Short-read_unit-clause-moved
+returns-in-Short-read_unit-clause-moved g c = takes_bytes_then _ _ _ c.read_unit.ensures.moved c.read_unit-2.ensures.moved
+
+pub returns-in-Fault-read_unit-clause-moved : goal.returns-in-Fault-read_unit-clause-moved
+returns-in-Fault-read_unit-clause-moved g c = takes_bytes_then _ _ _ c.read_unit.ensures.moved c.read_unit-2.ensures.moved

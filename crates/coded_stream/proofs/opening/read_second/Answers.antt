@@ -20,6 +20,28 @@ returns-in-Good-clause-sent g c =
     let P : List Sending → Type 0 = λ ss. AreSentBy v unit ss in
     subst P (sym read.0) (record { sent = a.sent; held = a.held; limit = a.limit; count = transmissions-long v unit count bytes ∙ c.requires.count })
 
+pub returns-in-Good-clause-told : goal.returns-in-Good-clause-told
+returns-in-Good-clause-told g c input is =
+    let v = c.args.version in
+    let unit = c.args.unit.now in
+    let bytes = c.read_unit.new.unit in
+    let count : ℕ = c.args.count in
+    let size : ℕ = c.second_size.result in
+    let n : ℕ = count_in v unit * described_size v in
+    let t = told_rest _ _ bytes input c.in-Whole.ensures.bytes is in
+    let long : length bytes ≡ n = c.read_unit.auto.unit ∙ length-take-le size _ c.second_size.ensures.few ∙ c.second_size.ensures.value ∙ ap (λ (k : ℕ). k * described_size v) c.requires.count in
+    let read = c.in-Good.ensures in (
+      bytes,
+      t.left,
+      t.input_is,
+      t.new_is,
+      long,
+      ap (second_opening v unit) t.input_is ∙ second-whole v unit bytes t.left long
+          ∙ ap (λ r. unless r (opens (header_in v unit (transmissions_in v unit (count_in v unit) bytes)) t.left))
+          (ap (λ (k : ℕ). first_refusal (first_size v + n) (transmissions_fields v k (first_size v) bytes)) (sym c.requires.count) ∙ read.1 (first_size v + n) (first_size v))
+          ∙ ap (λ (ss : List Sending). opens (header_in v unit ss) t.left) (sym (read.0 ∙ ap (λ (k : ℕ). transmissions_in v unit k bytes) c.requires.count)),
+    )
+
 pub returns-in-Bad-clause-told : goal.returns-in-Bad-clause-told
 returns-in-Bad-clause-told g c input is =
     let v = c.args.version in

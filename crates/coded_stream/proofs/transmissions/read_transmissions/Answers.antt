@@ -2,6 +2,7 @@ use Rattle.std.proofs.Common.{◌≡◌, ℕ, ◌+◌, ◌-◌, ◌<◌, ◌≤�
 use Rattle.std.proofs.lemmas.List.{take_all, length-take-le}
 use Rattle.std.proofs.lemmas.Slice.{take-put_mid}
 use borrow.Rule.Slice.PartMut.{put_mid}
+use Rattle.edge_io.proofs.Known.{takes_bytes_then}
 use Rattle.coded_stream.specs.Blocks.{lengths, block_size, transmission_size, AreTransmissions}
 use Rattle.coded_stream.specs.Shown.{header_of}
 use Rattle.coded_stream.specs.declared.kind.Kind.{Kind}
@@ -88,6 +89,7 @@ loop-turn-preserved g c =
       read = ap (λ (n : ℕ). n + size) before.read ∙ ap (λ (n : ℕ). block_size h.kind (take turn gs) + n) c.transmission_size-size.ensures ∙ sym t.size;
       told = λ input is. rw front (midway-more h.kind c.args.start c.args.payload c.length_at-g.result turn gs (take read into) unit input _ _ (before.told input is) t took.0 unit_long took.1);
       taken = rw front (subst P (sym t.front) (AreTransmissions-more h.kind (take turn gs) c.length_at-g.result (take read into) unit before.taken (record { size = unit_long; good = took.1 })));
+      moved = takes_bytes_then _ _ _ before.moved c.read_transmission.ensures.moved;
       later = omega (arith, before.later, c.read_transmission.ensures.later);
     }
 
@@ -127,3 +129,12 @@ returns-clause-taken g c =
     let P : List ℕ → Type 0 = λ hs. AreTransmissions h.kind hs into in
     let Q : List ℕ → Type 0 = λ xs. AreTransmissions h.kind (take turn gs) xs in
     (refl, subst P end.all (subst Q end.whole c.loop-turn.invariant.taken))
+
+pub returns-in-BadBit-clause-moved : goal.returns-in-BadBit-clause-moved
+returns-in-BadBit-clause-moved g c = takes_bytes_then _ _ _ c.loop-turn.invariant.moved c.read_transmission.ensures.moved
+
+pub returns-in-Short-clause-moved : goal.returns-in-Short-clause-moved
+returns-in-Short-clause-moved g c = takes_bytes_then _ _ _ c.loop-turn.invariant.moved c.read_transmission.ensures.moved
+
+pub returns-in-Fault-clause-moved : goal.returns-in-Fault-clause-moved
+returns-in-Fault-clause-moved g c = takes_bytes_then _ _ _ c.loop-turn.invariant.moved c.read_transmission.ensures.moved

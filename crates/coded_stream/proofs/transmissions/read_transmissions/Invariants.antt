@@ -1,4 +1,5 @@
 use Rattle.std.proofs.Common.{◌≡◌, ◌≤◌, ℕ, List, take, Some}
+use Rattle.edge_io.specs.Edge.{TakesBytes}
 use Rattle.coded_stream.specs.Blocks.{lengths, block_size, AreTransmissions}
 use Rattle.coded_stream.specs.Shown.{header_of}
 use Rattle.coded_stream.proofs.Sent.{IsMidway}
@@ -10,5 +11,6 @@ invariant-loop-turn g l = record {
   told : (input : List ℕ) → g.S.Source.left l.initial.source ≡ Some input →
       IsMidway l.header.kind l.start l.payload (lengths (header_of l.header)) l.turn (take l.read l.into) input (g.S.Source.left l.source);
   taken : AreTransmissions l.header.kind (take l.turn (lengths (header_of l.header))) (take l.read l.into);
+  moved : TakesBytes (g.S.Source.left l.initial.source) (g.S.Source.left l.source);
   later : g.S.Source.faults l.initial.source ≤ g.S.Source.faults l.source;
 }

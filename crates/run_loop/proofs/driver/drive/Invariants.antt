@@ -1,5 +1,5 @@
 use Rattle.std.proofs.Common.{◌≡◌, ℕ, List, Some}
-use Rattle.run_loop.specs.Edges.{edges, IsLater}
+use Rattle.run_loop.specs.Edges.{edges, HasMoved}
 use Rattle.run_loop.specs.Step.{Reached}
 use Rattle.run_loop.proofs.driver.drive.Given as goal
 
@@ -10,7 +10,7 @@ invariant-loop-round g l = record {
       (edges g.S.Source g.D.Sink g.R.Sink l.fn.source l.fn.out l.fn.report)
       (edges g.S.Source g.D.Sink g.R.Sink l.source l.out l.report);
   ready : g.O.Rounds.Work.ready l.work;
-  later : IsLater (edges g.S.Source g.D.Sink g.R.Sink l.fn.source l.fn.out l.fn.report)
+  moved : HasMoved (edges g.S.Source g.D.Sink g.R.Sink l.fn.source l.fn.out l.fn.report)
       (edges g.S.Source g.D.Sink g.R.Sink l.source l.out l.report);
 }
 

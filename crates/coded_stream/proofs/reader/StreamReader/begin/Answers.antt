@@ -1,6 +1,6 @@
 use Rattle.std.proofs.Common.{◌≡◌, ℕ, ◌+◌, ◌*◌, ◌<◌, ◌≤◌, List, [], ◌++◌, length, take, slice_index, Some, refl, ap, sym, ◌∙◌, append_assoc, arith}
 use Rattle.std.proofs.lemmas.List.{append-nil, length-append}
-use Rattle.edge_io.proofs.Known.{takes_then}
+use Rattle.edge_io.proofs.Known.{takes_bytes_then, takes_then}
 use Rattle.edge_io.proofs.Told.{told_rest, told_all}
 use Rattle.coded_stream.specs.Header.{Header, kind_code}
 use Rattle.coded_stream.specs.Opening.{is_wanted, version_of, first_size, count_in, described_size, second_opening, opening, unless, opens}
@@ -148,3 +148,12 @@ returns-in-Good-read_second-clause-accepted g c =
       blocks = refl;
       live = refl;
     }
+
+pub returns-in-Bad-read_second-clause-moved : goal.returns-in-Bad-read_second-clause-moved
+returns-in-Bad-read_second-clause-moved g c = takes_bytes_then _ _ _ c.read_first.ensures.moved c.read_second.ensures.moved
+
+pub returns-in-Fault-read_second-clause-moved : goal.returns-in-Fault-read_second-clause-moved
+returns-in-Fault-read_second-clause-moved g c = takes_bytes_then _ _ _ c.read_first.ensures.moved c.read_second.ensures.moved
+
+pub returns-in-Good-read_second-clause-moved : goal.returns-in-Good-read_second-clause-moved
+returns-in-Good-read_second-clause-moved g c = takes_bytes_then _ _ _ c.read_first.ensures.moved c.read_second.ensures.moved

@@ -1,5 +1,5 @@
 use Rattle.std.proofs.Common.{ℕ, List, Err, ap, sym, subst, arith}
-use Rattle.edge_io.proofs.Known.{adds_none}
+use Rattle.edge_io.proofs.Known.{adds_no_bytes, adds_none}
 use Rattle.block_receive.specs.Effort.{effort_of}
 use Rattle.run_loop.specs.Edges.{told, Causes}
 use Rattle.run_loop.specs.Ended.{Ended}
@@ -18,7 +18,14 @@ returns-in-Ok-clause-opens g c report reports =
       opens = λ input is. opened_batch (effort_of c.args.self.effort) (g.R.Runner.pipes c.args.self.runner) c.in-Ok.reader input old new (c.in-Ok.ensures.begins input is) c.in-Ok.ensures.accepted
           (adds_none out) (adds_none report);
       causes = tt;
-      later = record { reads = c.begin.ensures.later; outs = omega arith; reports = omega arith };
+      moved = record {
+        left = c.begin.ensures.moved;
+        out = adds_no_bytes out;
+        report = adds_no_bytes report;
+        reads = c.begin.ensures.later;
+        outs = omega arith;
+        reports = omega arith;
+      };
     }
 
 pub returns-in-Err-clause-opens : goal.returns-in-Err-clause-opens
@@ -32,5 +39,12 @@ returns-in-Err-clause-opens g c report reports =
       opens = λ input is. subst (E input) (sym c.status_of.ensures)
           (unopened_batch e (g.R.Runner.pipes c.args.self.runner) input old new c.in-Err.stop (c.in-Err.ensures.begins input is) (adds_none out) (adds_none report));
       causes = subst (Causes old new) (sym c.status_of.ensures) (causes_of old new c.in-Err.stop (λ e. c.in-Err.ensures.fault (ap Err e)));
-      later = record { reads = c.begin.ensures.later; outs = omega arith; reports = omega arith };
+      moved = record {
+        left = c.begin.ensures.moved;
+        out = adds_no_bytes out;
+        report = adds_no_bytes report;
+        reads = c.begin.ensures.later;
+        outs = omega arith;
+        reports = omega arith;
+      };
     }

@@ -3,6 +3,7 @@ use Rattle.std.proofs.lemmas.List.{length-append, map-append}
 use Rattle.std.proofs.lemmas.List.Elements.{All-append, All-cons, All-nil}
 use Rattle.std.specs.declared.option.Option.{Option}
 use Rattle.std.specs.declared.result.Result.{Result}
+use Rattle.edge_io.proofs.Known.{takes_bytes_then}
 use Rattle.block_receive.specs.Effort.{effort_of}
 use Rattle.coded_stream.specs.Blocks.{Block}
 use Rattle.coded_stream.specs.Steps.{Advances, GoesOn, Reading, remaining}
@@ -52,5 +53,12 @@ loop-preserved g c =
           subst P (sym pushed) (All-append (IsJobOf (effort_of c.args.self.now.effort) r.header) l.jobs.items (job ∷ []) l.invariant.jobs
           (All-cons (IsJobOf (effort_of c.args.self.now.effort) r.header) job [] same (All-nil (IsJobOf (effort_of c.args.self.now.effort) r.header))));
       room = omega (arith, c.push_reserved.ensures.capacity, l.invariant.room);
+      moved = takes_bytes_then _ _ _ l.invariant.moved c.read_job.ensures.moved;
       later = omega (arith, c.read_job.ensures.later, l.invariant.later);
     }
+
+pub returns-in-Ok-None-clause-moved : goal.returns-in-Ok-None-clause-moved
+returns-in-Ok-None-clause-moved g c = takes_bytes_then _ _ _ c.loop.invariant.moved c.read_job.ensures.moved
+
+pub returns-in-Err-clause-moved : goal.returns-in-Err-clause-moved
+returns-in-Err-clause-moved g c = takes_bytes_then _ _ _ c.loop.invariant.moved c.read_job.ensures.moved

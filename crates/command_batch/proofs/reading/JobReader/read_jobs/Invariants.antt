@@ -1,4 +1,5 @@
 use Rattle.std.proofs.Common.{◌≡◌, ◌≤◌, ℕ, List, Some, All, length, true, vec_capacity}
+use Rattle.edge_io.specs.Edge.{TakesBytes}
 use Rattle.block_receive.specs.Effort.{effort_of}
 use Rattle.coded_stream.specs.Stream.{most_blocks}
 use Rattle.command_batch.specs.Jobs.{blocks_in, IsJobOf}
@@ -17,5 +18,6 @@ invariant-loop g l = record {
   within : l.self.reader.blocks ≤ most_blocks;
   jobs : All (IsJobOf (effort_of l.initial.self.effort) l.initial.self.reader.header) l.jobs.items;
   room : l.most ≤ vec_capacity l.jobs;
+  moved : TakesBytes (g.S.Source.left l.initial.source) (g.S.Source.left l.source);
   later : g.S.Source.faults l.initial.source ≤ g.S.Source.faults l.source;
 }

@@ -75,13 +75,17 @@ returns-clause-step g c input told =
     let round : Round = record { parts = c.in_ok-parts.parts; stop = c.in_ok-stop.stop } in
     let counted = c.in_ok-parts.ensures.failed ∙ ap (failures c.blocks-first.result) c.as_slice.ensures.value ∙ ap (λ (n : ℕ). failures n jobs) c.blocks-first.ensures in
     let made = c.in_ok-parts.ensures.parts ∙ ap (job_parts c.blocks-first.result) c.as_slice.ensures.value ∙ ap (λ (n : ℕ). job_parts n jobs) c.blocks-first.ensures in
+    let M : ℕ → Type 0 = λ n. Counts (length jobs) (2 * n) read.new.self.reader read.result in
+    let counts = subst M c.pipes-most.ensures.value read.ensures.counts in
+    let some : 1 ≤ g.R.Runner.pipes s.runner = omega (arith, c.pipes-most.ensures.some, c.pipes-most.ensures.value) in
     let N : ℕ → Type 0 = λ n. StopsAs e r.header n failed read.result c.in_ok-stop.stop in
     let stops = subst N c.blocks-2.ensures (c.in_ok-stop.ensures e r.header) in
     let G : rust.Effort → Reading → Type 0 =
     λ x t. Gives (batch_ahead e (g.R.Runner.pipes s.runner) r s.failed input) (batch_ahead (effort_of x) (g.R.Runner.pipes s.runner) t failed) source left round in
     let gives : G s.jobs.effort read.new.self.reader =
     gives_round e (g.R.Runner.pipes s.runner) s.failed failed r read.new.self.reader input jobs source left read.result round read.ensures.jobs (read.ensures.comes input told) read.ensures.passes
-    (ap (λ (n : ℕ). s.failed + n) counted) made stops in
+    (ap (λ (n : ℕ). s.failed + n) counted) made stops
+    (starved_round e (g.R.Runner.pipes s.runner) s.failed r read.new.self.reader input jobs source left read.result some read.ensures.jobs (read.ensures.comes input told) counts) in
     subst (λ (x : rust.Effort). G x c.keep_rooms.new.self.reader) (sym (c.keep_rooms.ensures.effort ∙ read.ensures.effort))
     (subst (λ (t : Reading). G s.jobs.effort t) (sym c.keep_rooms.ensures.reader) gives)
 

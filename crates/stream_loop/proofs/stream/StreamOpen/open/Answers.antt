@@ -1,7 +1,7 @@
 use Rattle.std.proofs.Common.{◌≡◌, ℕ, ◌<◌, List, length, take, Err, ap, sym, subst, arith}
 use Rattle.std.specs.Option.{option_map}
 use Rattle.edge_io.specs.Edge.{Adds}
-use Rattle.edge_io.proofs.Known.{adds_none}
+use Rattle.edge_io.proofs.Known.{adds_no_bytes, adds_none}
 use Rattle.coded_stream.specs.Header.{Header}
 use Rattle.coded_stream.specs.Shown.{header_of}
 use Rattle.run_loop.specs.Edges.{told, Causes}
@@ -21,7 +21,14 @@ returns-in-Err-clause-opens g c report reports =
       opens = λ input is. subst (E input) (sym c.status_of.ensures)
           (unopened w c.want.result input old new c.in-Err.stop c.want.ensures (c.in-Err.ensures.begins input is) (adds_none old.out) (adds_none report));
       causes = subst (Causes old new) (sym c.status_of.ensures) (causes_of old new c.in-Err.stop (λ e. c.in-Err.ensures.fault (ap Err e)));
-      later = record { reads = c.begin.ensures.later; outs = omega arith; reports = omega arith };
+      moved = record {
+        left = c.begin.ensures.moved;
+        out = adds_no_bytes old.out;
+        report = adds_no_bytes report;
+        reads = c.begin.ensures.later;
+        outs = omega arith;
+        reports = omega arith;
+      };
     }
 
 pub returns-in-Err-write_opening-clause-opens : goal.returns-in-Err-write_opening-clause-opens
@@ -36,7 +43,14 @@ returns-in-Err-write_opening-clause-opens g c report reports =
       opens = λ input is. unwritten_stream w c.want.result c.in-Ok.reader input old new err.0 c.want.ensures (c.in-Ok.ensures.begins input is) c.in-Ok.ensures.accepted
           (subst (λ (t : List ℕ). 0 < length t) same c.in-Err-write_opening.ensures.some) (subst (λ (t : List ℕ). Adds old.out new.out (take err.0 t)) same err.1) (adds_none report);
       causes = c.in-Err-write_opening.ensures.cause.failed;
-      later = record { reads = c.begin.ensures.later; outs = c.write_opening.ensures.cause.later; reports = omega arith };
+      moved = record {
+        left = c.begin.ensures.moved;
+        out = (_, err.1);
+        report = adds_no_bytes report;
+        reads = c.begin.ensures.later;
+        outs = c.write_opening.ensures.cause.later;
+        reports = omega arith;
+      };
     }
 
 pub returns-clause-opens : goal.returns-clause-opens
@@ -50,5 +64,12 @@ returns-clause-opens g c report reports =
       opens = λ input is. opened_stream w c.want.result c.in-Ok.reader input old new c.want.ensures (c.in-Ok.ensures.begins input is) c.in-Ok.ensures.accepted
           (subst (λ (t : List ℕ). Adds old.out new.out t) same c.in_default.ensures.ok) (adds_none report);
       causes = tt;
-      later = record { reads = c.begin.ensures.later; outs = c.write_opening.ensures.cause.later; reports = omega arith };
+      moved = record {
+        left = c.begin.ensures.moved;
+        out = (_, c.in_default.ensures.ok);
+        report = adds_no_bytes report;
+        reads = c.begin.ensures.later;
+        outs = c.write_opening.ensures.cause.later;
+        reports = omega arith;
+      };
     }

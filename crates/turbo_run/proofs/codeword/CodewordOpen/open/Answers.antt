@@ -1,5 +1,5 @@
 use Rattle.std.proofs.Common.{[], refl, arith}
-use Rattle.edge_io.proofs.Known.{adds_none}
+use Rattle.edge_io.proofs.Known.{adds_no_bytes, adds_none, takes_no_bytes}
 use Rattle.run_loop.specs.Edges.{told}
 use Rattle.run_loop.proofs.Opening.{opened}
 use Rattle.turbo_run.specs.Codeword.{block_answer, codeword_answer}
@@ -12,5 +12,12 @@ returns-clause-opens g c report reports =
     record {
       opens = λ input is. opened (codeword_answer s.m s.rv input) (block_answer s.m s.rv) [] [] input old old is is refl (adds_none old.out) (adds_none report);
       causes = tt;
-      later = record { reads = omega arith; outs = omega arith; reports = omega arith };
+      moved = record {
+        left = takes_no_bytes old.left;
+        out = adds_no_bytes old.out;
+        report = adds_no_bytes report;
+        reads = omega arith;
+        outs = omega arith;
+        reports = omega arith;
+      };
     }
