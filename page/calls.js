@@ -36,7 +36,7 @@ function callsOf(x) {
       const told = x.gomzelat_codeword(p, BigInt(payload.length), ...sent(t), n_ir, out, BigInt(n));
       return { told, bytes: view(out, n).slice() };
     }),
-    block: by_block("gomzelat_block"),
+    block: by_block("gomzelat_code_block"),
     streams: by_block("gomzelat_streams"),
     spots: (bytes, r, n) => lent([4 * n], (out) => {
       const told = x.gomzelat_spots(BigInt(bytes), BigInt(r), out, BigInt(n));

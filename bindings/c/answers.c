@@ -191,14 +191,14 @@ static void payloads(void) {
     static const uint8_t first[8] = {0xA5, 0x55, 0x5A, 0x93, 0x41, 0x03, 0x79, 0x52};
     static const uint8_t late[8] = {0x58, 0x1C, 0x0A, 0xC0, 0x6F, 0xC5, 0x28, 0x67};
     static uint8_t out[GOMZELAT_MOST_BYTES + 1];
-    expect("payload of nothing", gomzelat_payload(1, 0, NULL, 0), GOMZELAT_BAD_LENGTH);
-    expect("payload of too much", gomzelat_payload(1, 0, out, sizeof out), GOMZELAT_BAD_LENGTH);
+    expect("payload of nothing", gomzelat_trial_payload(1, 0, NULL, 0), GOMZELAT_BAD_LENGTH);
+    expect("payload of too much", gomzelat_trial_payload(1, 0, out, sizeof out), GOMZELAT_BAD_LENGTH);
     expect_bytes("a payload that is left", out, many, sizeof out);
-    expect("payload", gomzelat_payload(1, 0, out, 8), GOMZELAT_DONE);
+    expect("payload", gomzelat_trial_payload(1, 0, out, 8), GOMZELAT_DONE);
     expect_bytes("the first payload of seed 1", out, first, 8);
-    expect("late payload", gomzelat_payload(0x0102030405060708, 258, out, 8), GOMZELAT_DONE);
+    expect("late payload", gomzelat_trial_payload(0x0102030405060708, 258, out, 8), GOMZELAT_DONE);
     expect_bytes("a late payload", out, late, 8);
-    expect("longest payload", gomzelat_payload(1, 0, out, GOMZELAT_MOST_BYTES), GOMZELAT_DONE);
+    expect("longest payload", gomzelat_trial_payload(1, 0, out, GOMZELAT_MOST_BYTES), GOMZELAT_DONE);
     expect_bytes("its beginning", out, first, 8);
 }
 
@@ -253,7 +253,7 @@ static void decodings(void) {
     const struct gomzelat_receiver r = {.n_ir = 0, .windows = 8, .limit = 4};
     struct gomzelat_receiver bad = r;
     int8_t cells[132] = {0};
-    struct gomzelat_block blocks[2] = {{0, 0}, {MARK, MARK}};
+    struct gomzelat_result blocks[2] = {{0, 0}, {MARK, MARK}};
     uint8_t bits[41] = {0}, payload[3] = {MARK, MARK, MARK};
     uint32_t delivered = MARK;
     bits[40] = MARK;

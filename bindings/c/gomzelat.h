@@ -22,34 +22,42 @@
 extern "C" {
 #endif
 
-/* What a call answers. */
+/* What a call answers. What is refused is numbered in the order in which it is tested; a later version's numbers come
+ * after these. */
 enum gomzelat_answer {
     GOMZELAT_DONE = 0,
-    GOMZELAT_BAD_LENGTH = 1,   /* a payload has no bytes, or more than GOMZELAT_MOST_BYTES */
-    GOMZELAT_BAD_COUNT = 2,    /* there are no transmissions, or more than GOMZELAT_MOST_TRANSMISSIONS */
-    GOMZELAT_BAD_QM = 3,       /* Q_m isn't 2, 4 or 6 */
-    GOMZELAT_BAD_NL = 4,       /* N_L isn't 1 or 2 */
-    GOMZELAT_BAD_G = 5,        /* G is 0, above GOMZELAT_MOST_BITS, or no multiple of N_L * Q_m */
-    GOMZELAT_BAD_VERSION = 6,  /* a redundancy version is above 3 */
-    GOMZELAT_BAD_BUFFER = 7,   /* N_IR is too small for the payload */
-    GOMZELAT_BAD_WINDOWS = 8,  /* the greatest number of windows is 0, or above 64 */
-    GOMZELAT_BAD_LIMIT = 9,    /* the greatest number of iterations is 0, or above 16 */
-    GOMZELAT_BAD_VALUES = 10,  /* there aren't as many soft values as the transmissions have bits */
-    GOMZELAT_BAD_BITS = 11,    /* there are fewer bytes than the bits need */
-    GOMZELAT_BAD_AMP = 12,     /* the amplitude is 0, or above 127 */
-    GOMZELAT_BAD_NOISE = 13,   /* the noise is above 127 */
-    GOMZELAT_BAD_NUMBER = 14,  /* a transmission's number is above 7, or there is no code block of that number */
-    GOMZELAT_SHORT_OUTPUT = 15, /* the buffer for what is written is too short */
-    GOMZELAT_NO_MEMORY = 16,   /* memory ran out; this one comes last of all */
-    GOMZELAT_SHORT_CELLS = 17, /* there are fewer soft cells than gomzelat_sizes says */
-    GOMZELAT_SHORT_BLOCKS = 18, /* there are fewer entries than code blocks */
-    GOMZELAT_SHORT_BITS = 19   /* there are fewer bytes than the code blocks have bits */
+    GOMZELAT_NO_MEMORY = 1, /* memory ran out: told only where nothing is refused */
+    GOMZELAT_BAD_LENGTH = 2, /* a payload has no bytes, or more than GOMZELAT_MOST_BYTES */
+    GOMZELAT_BAD_COUNT = 3, /* there are no transmissions, or more than GOMZELAT_MOST_TRANSMISSIONS */
+    GOMZELAT_BAD_QM = 4, /* Q_m isn't 2, 4 or 6 */
+    GOMZELAT_BAD_NL = 5, /* N_L isn't 1 or 2 */
+    GOMZELAT_BAD_G = 6, /* G is 0, above GOMZELAT_MOST_BITS, or no multiple of N_L * Q_m */
+    GOMZELAT_BAD_VERSION = 7, /* a redundancy version is above 3 */
+    GOMZELAT_BAD_BUFFER = 8, /* N_IR is too small for the payload */
+    GOMZELAT_BAD_BLOCK = 9, /* there is no code block of that number */
+    GOMZELAT_BAD_WINDOWS = 10, /* the greatest number of windows is 0, or above 64 */
+    GOMZELAT_BAD_LIMIT = 11, /* the greatest number of iterations is 0, or above 16 */
+    GOMZELAT_BAD_SIZE = 12, /* K isn't one of the 188 sizes of a code block */
+    GOMZELAT_BAD_FILLERS = 13, /* there are as many fillers as bits, or more */
+    GOMZELAT_BAD_CHECK = 14, /* a check is neither GOMZELAT_CRC24A nor GOMZELAT_CRC24B */
+    GOMZELAT_BAD_VALUES = 15, /* there aren't as many soft values as there have to be */
+    GOMZELAT_BAD_BITS = 16, /* there are fewer bytes than the bits need */
+    GOMZELAT_BAD_AMP = 17, /* the amplitude is 0, or above 127 */
+    GOMZELAT_BAD_NOISE = 18, /* the noise is above 127 */
+    GOMZELAT_BAD_NUMBER = 19, /* a transmission's number is above 7 */
+    GOMZELAT_BAD_SCRAMBLING = 20, /* n_RNTI is above 65,535, q above 1, n_s above 19, or the cell above 503 */
+    GOMZELAT_BAD_POINTS = 21, /* the bits are no multiple of Q_m, or a coordinate isn't from -4000 to 4000 */
+    GOMZELAT_SHORT_OUTPUT = 22, /* the buffer for what is written is too short */
+    GOMZELAT_SHORT_CELLS = 23, /* there are fewer soft cells than gomzelat_sizes says */
+    GOMZELAT_SHORT_BLOCKS = 24, /* there are fewer entries than code blocks */
+    GOMZELAT_SHORT_BITS = 25 /* there are fewer bytes than the code blocks have bits */
 };
 
-/* What an answer says, in a few words. */
+/* Returns what an answer says, in a few words. */
 static inline const char *gomzelat_text(uint32_t answer) {
     switch (answer) {
     case GOMZELAT_DONE: return "done";
+    case GOMZELAT_NO_MEMORY: return "memory ran out";
     case GOMZELAT_BAD_LENGTH: return "a payload has 1 to 18722 bytes";
     case GOMZELAT_BAD_COUNT: return "there are 1 to 8 transmissions";
     case GOMZELAT_BAD_QM: return "Q_m is 2, 4 or 6";
@@ -57,15 +65,20 @@ static inline const char *gomzelat_text(uint32_t answer) {
     case GOMZELAT_BAD_G: return "G is 1 to 1000000 and a multiple of N_L * Q_m";
     case GOMZELAT_BAD_VERSION: return "a redundancy version is 0 to 3";
     case GOMZELAT_BAD_BUFFER: return "N_IR is too small for the payload";
+    case GOMZELAT_BAD_BLOCK: return "there is no code block of that number";
     case GOMZELAT_BAD_WINDOWS: return "the greatest number of windows is 1 to 64";
     case GOMZELAT_BAD_LIMIT: return "the greatest number of iterations is 1 to 16";
-    case GOMZELAT_BAD_VALUES: return "there are as many soft values as transmitted bits";
+    case GOMZELAT_BAD_SIZE: return "K is one of the 188 sizes of a code block";
+    case GOMZELAT_BAD_FILLERS: return "there are fewer fillers than bits";
+    case GOMZELAT_BAD_CHECK: return "a check is CRC24A or CRC24B";
+    case GOMZELAT_BAD_VALUES: return "there are as many soft values as bits";
     case GOMZELAT_BAD_BITS: return "there are fewer bytes than the bits need";
     case GOMZELAT_BAD_AMP: return "an amplitude is 1 to 127";
     case GOMZELAT_BAD_NOISE: return "noise is 0 to 127";
     case GOMZELAT_BAD_NUMBER: return "the number of a transmission is 0 to 7";
+    case GOMZELAT_BAD_SCRAMBLING: return "a number of the scrambling is out of range";
+    case GOMZELAT_BAD_POINTS: return "bits are a multiple of Q_m, coordinates from -4000 to 4000";
     case GOMZELAT_SHORT_OUTPUT: return "a buffer is too short for what is written";
-    case GOMZELAT_NO_MEMORY: return "memory ran out";
     case GOMZELAT_SHORT_CELLS: return "there are fewer soft cells than the code blocks have";
     case GOMZELAT_SHORT_BLOCKS: return "there are fewer entries than code blocks";
     case GOMZELAT_SHORT_BITS: return "there are fewer bytes than the code blocks have bits";
@@ -121,7 +134,7 @@ uint32_t gomzelat_plan(size_t length, struct gomzelat_plan *plan);
 
 /* Writes the K bits of code block `r`, counted from 0, to `out`: each 0 or 1 in a byte, fillers 0, with all check bits.
  * Refused: BAD_LENGTH, BAD_NUMBER, SHORT_OUTPUT. */
-uint32_t gomzelat_block(const uint8_t *payload, size_t length, size_t r, uint8_t *out, size_t room);
+uint32_t gomzelat_code_block(const uint8_t *payload, size_t length, size_t r, uint8_t *out, size_t room);
 
 /* Writes the coded streams d0, d1 and d2 of code block `r` (5.1.3.2) to `out`, one after the other, each of K + 4 cells:
  * 0, 1, or 2 at a NULL. Refused: BAD_LENGTH, BAD_NUMBER, SHORT_OUTPUT. */
@@ -203,7 +216,7 @@ uint32_t gomzelat_combine(size_t length, struct gomzelat_transmission transmissi
                           const int8_t *values, size_t amount, int8_t *cells, size_t room);
 
 /* What a code block came to. */
-struct gomzelat_block {
+struct gomzelat_result {
     uint32_t passed;   /* 1 where its check holds, else 0; whatever isn't 0 is taken as 1 */
     size_t iterations; /* that its last decoding took */
 };
@@ -222,7 +235,7 @@ struct gomzelat_block {
  *
  * Refused: BAD_LENGTH, BAD_BUFFER, BAD_WINDOWS, BAD_LIMIT, SHORT_OUTPUT, SHORT_CELLS, SHORT_BLOCKS, SHORT_BITS. */
 uint32_t gomzelat_decode(size_t length, struct gomzelat_receiver receiver, const int8_t *cells, size_t amount,
-                         struct gomzelat_block *blocks, size_t count, uint8_t *bits, size_t extent,
+                         struct gomzelat_result *blocks, size_t count, uint8_t *bits, size_t extent,
                          uint8_t *payload, size_t room, uint32_t *delivered);
 
 /* A channel. */
@@ -243,7 +256,7 @@ uint32_t gomzelat_noisy(const uint8_t *bits, size_t length, size_t count, struct
 
 /* Fills `out`, of `length` bytes, with the payload of a block, counted from 0, from a seed, as the program's `trial`
  * does. Refused: BAD_LENGTH. */
-uint32_t gomzelat_payload(uint64_t seed, uint32_t block, uint8_t *out, size_t length);
+uint32_t gomzelat_trial_payload(uint64_t seed, uint32_t block, uint8_t *out, size_t length);
 
 #ifdef __cplusplus
 }

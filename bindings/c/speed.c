@@ -31,7 +31,7 @@ static uint32_t receive(uint32_t windows) {
 }
 
 int main(void) {
-    if (gomzelat_payload(1, 0, payload, LENGTH) != GOMZELAT_DONE)
+    if (gomzelat_trial_payload(1, 0, payload, LENGTH) != GOMZELAT_DONE)
         return 1;
 
     size_t codewords = 0;

@@ -8,7 +8,7 @@
 
 #define MOST 4
 static int8_t cells[GOMZELAT_MOST_CELLS + 3];
-static struct gomzelat_block blocks[GOMZELAT_MOST_BLOCKS + 1];
+static struct gomzelat_result blocks[GOMZELAT_MOST_BLOCKS + 1];
 static uint8_t bits[GOMZELAT_MOST_BLOCK_BITS + 3];
 static uint8_t payload[GOMZELAT_MOST_BYTES + 3], got[GOMZELAT_MOST_BYTES + 3], whole[GOMZELAT_MOST_BYTES];
 static uint8_t sent[GOMZELAT_BYTES(GOMZELAT_MOST_BITS)];
@@ -45,7 +45,7 @@ int main(int argc, char **argv) {
             differ("bits", sizes.bits, plan.c_minus * plan.k_minus + plan.c_plus * plan.k_plus) ||
             differ("cells", sizes.cells, 3 * (sizes.bits + 4 * plan.c)))
             return 1;
-        must("payload", gomzelat_payload(round, 0, payload, length));
+        must("payload", gomzelat_trial_payload(round, 0, payload, length));
         const unsigned count = 1 + next(MOST);
         const uint32_t n_ir = next(2) ? 0 : (uint32_t)(plan.c * 3 * (plan.k_plus + 36) * 3 / 4);
         const uint32_t windows[] = {1, 8, 16, 32, 5, 64};

@@ -238,5 +238,5 @@ def payload(length: int, seed: int, block: int = 0) -> bytes:
     """The payload of so many bytes, 1 to 18,722, of a block, counted from 0, from a seed."""
     # One byte too many is refused as any greater length is.
     out = (ctypes.c_uint8 * min(_number("length", length, 64), MOST_BYTES + 1))()
-    _done(_library.gomzelat_payload(_number("seed", seed, 64), _number("block", block), out, len(out)))
+    _done(_library.gomzelat_trial_payload(_number("seed", seed, 64), _number("block", block), out, len(out)))
     return bytes(out)

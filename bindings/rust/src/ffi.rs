@@ -62,5 +62,5 @@ unsafe extern "C" {
         room: usize,
     ) -> u32;
 
-    pub fn gomzelat_payload(seed: u64, block: u32, out: *mut u8, length: usize) -> u32;
+    pub fn gomzelat_trial_payload(seed: u64, block: u32, out: *mut u8, length: usize) -> u32;
 }

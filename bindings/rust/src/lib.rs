@@ -165,6 +165,6 @@ pub fn payload(length: usize, seed: u64, block: u32) -> Result<Vec<u8>, Error> {
     // One byte too many is refused as any greater length is.
     let mut out = vec![0; length.min(MOST_BYTES + 1)];
     // SAFETY: pointer and length are those of a slice that is borrowed for the call.
-    done(unsafe { ffi::gomzelat_payload(seed, block, out.as_mut_ptr(), out.len()) })?;
+    done(unsafe { ffi::gomzelat_trial_payload(seed, block, out.as_mut_ptr(), out.len()) })?;
     Ok(out)
 }

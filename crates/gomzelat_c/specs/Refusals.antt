@@ -5,29 +5,35 @@ use Rattle.std.specs.declared.result.Result.{Result}
 use Rattle.rate_match.specs.declared.matching.BadMatch.{BadMatch}
 use Rattle.rate_match.specs.declared.matching.BadMatch.TheVariants as bad
 use Rattle.gomzelat_c.specs.declared.refusal.Refusal.{Refusal}
-use Rattle.gomzelat_c.specs.declared.refusal.Refusal.TheVariants.{BadLength, BadCount, BadQm, BadNl, BadG, BadVersion, BadBuffer, BadWindows, BadLimit, BadValues, BadBits, BadAmp, BadNoise, BadNumber, ShortOutput, NoMemory, ShortCells, ShortBlocks, ShortBits}
+use Rattle.gomzelat_c.specs.declared.refusal.Refusal.TheVariants.{NoMemory, BadLength, BadCount, BadQm, BadNl, BadG, BadVersion, BadBuffer, BadBlock, BadWindows, BadLimit, BadSize, BadFillers, BadCheck, BadValues, BadBits, BadAmp, BadNoise, BadNumber, BadScrambling, BadPoints, ShortOutput, ShortCells, ShortBlocks, ShortBits}
 
 -- from 1 on, as the header lists them
 abbrev pub number_of : Refusal → ℕ
-number_of BadLength = 1
-number_of BadCount = 2
-number_of BadQm = 3
-number_of BadNl = 4
-number_of BadG = 5
-number_of BadVersion = 6
-number_of BadBuffer = 7
-number_of BadWindows = 8
-number_of BadLimit = 9
-number_of BadValues = 10
-number_of BadBits = 11
-number_of BadAmp = 12
-number_of BadNoise = 13
-number_of BadNumber = 14
-number_of ShortOutput = 15
-number_of NoMemory = 16
-number_of ShortCells = 17
-number_of ShortBlocks = 18
-number_of ShortBits = 19
+number_of NoMemory = 1
+number_of BadLength = 2
+number_of BadCount = 3
+number_of BadQm = 4
+number_of BadNl = 5
+number_of BadG = 6
+number_of BadVersion = 7
+number_of BadBuffer = 8
+number_of BadBlock = 9
+number_of BadWindows = 10
+number_of BadLimit = 11
+number_of BadSize = 12
+number_of BadFillers = 13
+number_of BadCheck = 14
+number_of BadValues = 15
+number_of BadBits = 16
+number_of BadAmp = 17
+number_of BadNoise = 18
+number_of BadNumber = 19
+number_of BadScrambling = 20
+number_of BadPoints = 21
+number_of ShortOutput = 22
+number_of ShortCells = 23
+number_of ShortBlocks = 24
+number_of ShortBits = 25
 
 -- the number of what is refused, or 0 where nothing is
 abbrev pub told : Option Refusal → ℕ

@@ -12,7 +12,7 @@ use Rattle.model_sender.specs.Segmentation.{Plan, fill, plan_of, size}
 use Rattle.model_sender.specs.declared.spot.Spot.{Spot}
 use Rattle.rate_match.specs.declared.sends.Sending.{Sending}
 use Rattle.gomzelat_c.specs.Tests.{Test, buffer_test, length_test, test, transmission_tests}
-use Rattle.gomzelat_c.specs.declared.refusal.Refusal.TheVariants.{BadNumber, ShortOutput}
+use Rattle.gomzelat_c.specs.declared.refusal.Refusal.TheVariants.{BadBlock, ShortOutput}
 use Rattle.gomzelat_c.specs.declared.pieces.Piece.{Piece}
 use Rattle.gomzelat_c.specs.declared.transmission.Transmission.{Transmission}
 
@@ -20,7 +20,7 @@ use Rattle.gomzelat_c.specs.declared.transmission.Transmission.{Transmission}
 
 -- a payload of so many bytes has a block r
 abbrev pub block_test : (bytes r : ℕ) → Test
-block_test bytes r = test (nat_lt r (plan_of bytes).c) BadNumber
+block_test bytes r = test (nat_lt r (plan_of bytes).c) BadBlock
 
 -- block r of a payload of so many bytes, where so many values are to be written
 abbrev pub stage_tests : (bytes r values room : ℕ) → List Test

@@ -52,7 +52,7 @@ fn accepted(
     let buffer = buffer_of(n_ir);
     let sending = transmission.sending(buffer)?;
     accept(fits_buffer(buffer, &plan), Refusal::BadBuffer)?;
-    accept(r < plan.c, Refusal::BadNumber)?;
+    accept(r < plan.c, Refusal::BadBlock)?;
     Ok(Asked { plan, sending })
 }
 

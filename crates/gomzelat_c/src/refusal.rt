@@ -8,9 +8,12 @@ use lte_bits::NoMemory;
 use rate_match::BadMatch;
 use segmentation::BadLength;
 
-/// What is refused, in the order in which it is tested, but for running out of memory, which comes last.
+/// Why a call gives nothing: that memory ran out, which is told only where nothing is refused; and what is
+/// refused, in the order in which it is tested.
 #[derive(Clone, Copy, Debug, PartialEq, Eq, Hash)]
 pub enum Refusal {
+    /// Memory ran out.
+    NoMemory,
     /// A payload has no bytes, or more than 18,722.
     BadLength,
     /// There are no transmissions, or more than eight.
@@ -25,11 +28,19 @@ pub enum Refusal {
     BadVersion,
     /// N_IR is too small for the payload.
     BadBuffer,
+    /// There is no code block of that number.
+    BadBlock,
     /// The greatest number of windows is 0, or above 64.
     BadWindows,
     /// The greatest number of iterations is 0, or above 16.
     BadLimit,
-    /// There aren't as many soft values as the transmissions have bits.
+    /// K isn't one of the 188 sizes of a code block.
+    BadSize,
+    /// There are as many fillers as bits, or more.
+    BadFillers,
+    /// The check of a code block is neither CRC24A nor CRC24B.
+    BadCheck,
+    /// There aren't as many soft values as there have to be.
     BadValues,
     /// There are fewer bytes than the bits need.
     BadBits,
@@ -37,12 +48,14 @@ pub enum Refusal {
     BadAmp,
     /// The noise is above 127.
     BadNoise,
-    /// A transmission's number is above 7, or there is no code block of that number.
+    /// A transmission's number is above 7.
     BadNumber,
+    /// An identity is above 65,535, a codeword's number above 1, a slot above 19, or a cell above 503.
+    BadScrambling,
+    /// The bits are no multiple of Q_m, or a coordinate isn't from -4000 to 4000.
+    BadPoints,
     /// The buffer for what is written is too short.
     ShortOutput,
-    /// Memory ran out.
-    NoMemory,
     /// There are fewer soft cells than the code blocks have.
     ShortCells,
     /// There are fewer entries than code blocks.
@@ -57,25 +70,31 @@ impl Refusal {
         ensures { result ≡ number_of self }
     {
         match self {
-            Refusal::BadLength => 1,
-            Refusal::BadCount => 2,
-            Refusal::BadQm => 3,
-            Refusal::BadNl => 4,
-            Refusal::BadG => 5,
-            Refusal::BadVersion => 6,
-            Refusal::BadBuffer => 7,
-            Refusal::BadWindows => 8,
-            Refusal::BadLimit => 9,
-            Refusal::BadValues => 10,
-            Refusal::BadBits => 11,
-            Refusal::BadAmp => 12,
-            Refusal::BadNoise => 13,
-            Refusal::BadNumber => 14,
-            Refusal::ShortOutput => 15,
-            Refusal::NoMemory => 16,
-            Refusal::ShortCells => 17,
-            Refusal::ShortBlocks => 18,
-            Refusal::ShortBits => 19,
+            Refusal::NoMemory => 1,
+            Refusal::BadLength => 2,
+            Refusal::BadCount => 3,
+            Refusal::BadQm => 4,
+            Refusal::BadNl => 5,
+            Refusal::BadG => 6,
+            Refusal::BadVersion => 7,
+            Refusal::BadBuffer => 8,
+            Refusal::BadBlock => 9,
+            Refusal::BadWindows => 10,
+            Refusal::BadLimit => 11,
+            Refusal::BadSize => 12,
+            Refusal::BadFillers => 13,
+            Refusal::BadCheck => 14,
+            Refusal::BadValues => 15,
+            Refusal::BadBits => 16,
+            Refusal::BadAmp => 17,
+            Refusal::BadNoise => 18,
+            Refusal::BadNumber => 19,
+            Refusal::BadScrambling => 20,
+            Refusal::BadPoints => 21,
+            Refusal::ShortOutput => 22,
+            Refusal::ShortCells => 23,
+            Refusal::ShortBlocks => 24,
+            Refusal::ShortBits => 25,
         }
     }
 }
