@@ -19,7 +19,7 @@ pub enum Status {
     Done,
     /// The same, but some block failed.
     SomeFailed,
-    /// A word was refused, before anything was read or written.
+    /// An argument was refused, before anything was read, and nothing was written to `out`.
     BadWords { number: u8, place: usize },
     /// The input was refused at a byte, counted from 0.
     BadStream { number: u8, place: u64 },

@@ -11,7 +11,8 @@ use lte_bits::{Block, NoMemory, Streams};
 use std::alloc::Global;
 
 /// The three coded streams of a code block of K bits, each of K + 4 cells. K is one of the 188 sizes
-/// (36.212, table 5.1.3-3). `d0` and `d1` are `Null` at the fillers, and `d2` nowhere (5.1.3.2).
+/// (36.212, table 5.1.3-3). `d0` and `d1` are `Null` at the fillers, and `d2` nowhere (5.1.3.2). The bits at
+/// the fillers' places are coded as they are: the standard asks that they be `Zero`.
 pub fn encode(alloc: Global, block: &Block) -> Result<Streams, NoMemory>
     requires { Contains sizes (length block.now.bits) }
     ensures { IfOk result (λ s. s ≡ streams block.now) }

@@ -26,8 +26,8 @@ use std::thread::Threads;
 use tb_pipeline::{NoStart, through};
 use window_workers::{Gate, NoGate};
 
-/// Does what the words ask for, and tells a fault. Where blocks of a stream are decoded one after the other,
-/// `receive` does it, and where several are decoded at once, `run_jobs`.
+/// Does what the arguments ask for, and reports a fault. Where blocks of a stream are decoded one after the
+/// other, `receive` does it, and where several are decoded at once, `run_jobs`.
 fn run_by<
     F: Fn(Global, &Task, usize, &Sends, &[Soft]) -> Received,
     B: Fn(Global, &[BlockJob], usize) -> Outcomes,
@@ -68,7 +68,7 @@ fn run_by<
     }
 }
 
-/// Does what the words ask for, from the source to `out` and the report, on one thread.
+/// Does what the arguments ask for, from the source to `out` and the report, on one thread.
 pub fn run_alone<S: Source, D: Sink, R: Sink>(
     alloc: Global,
     words: &[&str],
@@ -101,9 +101,9 @@ pub fn run_alone<S: Source, D: Sink, R: Sink>(
     run_by(alloc, words, &receive, &run_jobs, source, out, report)
 }
 
-/// Does what the words ask for, from the source to `out` and the report. Where `decode` has several workers,
-/// they may run on threads of their own, and each enters `gate` before each window that it decodes; so may
-/// the pipes of `batch`, where there are several.
+/// Does what the arguments ask for, from the source to `out` and the report. Where `decode` has several
+/// workers, they may run on threads of their own, and each enters `gate` before each window that it decodes.
+/// The pipes of `batch`, where there are several, may run on threads of their own too; they enter no gate.
 pub fn run_gated<H: Threads + Wait + Sync, S: Source, D: Sink, R: Sink, G: Gate + Sync>(
     rt: &H,
     alloc: Global,
@@ -143,8 +143,8 @@ pub fn run_gated<H: Threads + Wait + Sync, S: Source, D: Sink, R: Sink, G: Gate 
     run_by(alloc, words, &receive, &run_jobs, source, out, report)
 }
 
-/// Does what the words ask for, from the source to `out` and the report. Where `decode` has several workers,
-/// or `batch` several pipes, they may run on threads of their own.
+/// Does what the arguments ask for, from the source to `out` and the report. Where `decode` has several
+/// workers, or `batch` several pipes, they may run on threads of their own.
 pub fn run<H: Threads + Wait + Sync, S: Source, D: Sink, R: Sink>(
     rt: &H,
     alloc: Global,
