@@ -1,13 +1,20 @@
 //! The laws of the circular buffer (36.212 5.1.4.1.1, 5.1.4.1.2).
-ghost use Rattle.std.specs.Prelude.{◌≡◌, ℕ, ◌+◌, ◌*◌, ◌%◌, ◌<◌, ◌≤◌, ◌↔◌, None, Some, length, slice_index_or};
+ghost use Rattle.std.specs.Prelude.{◌≡◌, ℕ, ◌+◌, ◌*◌, ◌/◌, ◌%◌, ◌<◌, ◌≤◌, ◌↔◌, None, Some, length, slice_index, slice_index_or};
 ghost use Rattle.lte_bits.specs.declared.bit.Cell.{Cell};
 ghost use Rattle.lte_bits.specs.declared.block.Block.{Block};
 ghost use Rattle.lte_bits.specs.declared.block.Streams.{Streams};
-ghost use Rattle.model_sender.specs.CircularBuffer.{AreStreams, buffer_size, read_place, rows_of, spot, w, y};
+ghost use Rattle.model_sender.specs.CircularBuffer.{AreStreams, buffer_size, column_order, read_place, rows_of, spot, w, y};
 ghost use Rattle.model_sender.specs.CodedStreams.{streams};
 ghost use Rattle.model_sender.specs.declared.spot.Spot.{Spot};
 
 use lte_bits::Cell;
+
+/// There are 32 columns, and the one that is read at place i has the five bits of i in reverse order.
+pub fn columns_are_read_in_bit_reversed_order()
+    ensures columns { length column_order ≡ 32 }
+    ensures reversed { (i : ℕ) → i < 32 → slice_index column_order i
+        ≡ 16 * (i % 2) + 8 * (i / 2 % 2) + 4 * (i / 4 % 2) + 2 * (i / 8 % 2) + i / 16 % 2 }
+{}
 
 /// The coded streams of a code block have NULL at its fillers in d0 and d1, and nowhere in d2.
 pub fn streams_have_nulls_at_fillers()
