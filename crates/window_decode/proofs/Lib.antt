@@ -9,6 +9,8 @@ pub mod ForwardMetrics
 pub mod BackwardMetrics
 pub mod JoinedPaths
 pub mod Spread
+pub mod Widening
 pub mod WindowSteps
 pub mod WindowSweep
+pub mod WindowParts
 pub mod WindowSpread

@@ -1,5 +1,5 @@
 -- From the third position on the metrics of all states are near one another.
-use Rattle.std.proofs.Common.{◌≡◌, ℕ, suc, zero, ◌+◌, ◌<◌, ◌≤◌, List, [], ◌∷◌, ◌++◌, length, ℤ, pos, ◌+ℤ◌, ◌-ℤ◌, ◌≤ℤ◌, refl, sym, ap, ◌∙◌, subst, arith, length-append}
+use Rattle.std.proofs.Common.{◌≡◌, ℕ, suc, ◌+◌, ◌<◌, List, [], ◌∷◌, ◌++◌, length, ℤ, pos, ◌+ℤ◌, ◌-ℤ◌, ◌≤ℤ◌, sym, ap, ◌∙◌, subst, arith, length-append}
 use Rattle.std.specs.Int.{int_min}
 use Rattle.std.proofs.lemmas.Int.{ints, clamps}
 use Rattle.lte_bits.specs.Softs.{IsWithin}
@@ -7,14 +7,10 @@ use Rattle.lte_bits.specs.declared.bit.Bit.{Bit}
 use Rattle.lte_bits.specs.declared.bit.Bit.TheVariants.{Zero, One}
 use Rattle.model_sender.specs.ConstituentCoder.{State, next, parity}
 use Rattle.model_sender.specs.Tail.{reached}
-use Rattle.rsc_trellis.specs.Steps.{state_before, input_before}
 use Rattle.rsc_trellis.proofs.TrellisSteps.{three_inputs}
-use Rattle.model_receiver.proofs.Maxima.{greatest_one}
-use Rattle.window_decode.proofs.ForwardMetrics.{forward-attained, forward_none, forward_more}
-use Rattle.window_decode.proofs.BackwardMetrics.{backward-attained, backward_none, backward_more}
 use Rattle.model_receiver.specs.Borders.{if_zero}
 use Rattle.model_receiver.specs.Paths.{path, Gain, earned}
-use Rattle.window_decode.specs.Recursions.{AreNear, step_gain, forward, backward}
+use Rattle.window_decode.specs.Recursions.{AreNear, step_gain}
 use Rattle.window_decode.specs.Metrics.{IsForward, IsBackward}
 use Rattle.window_decode.proofs.PathSteps.{reached-append, earned-append, earned-from_zero, Cut, cut}
 
@@ -136,57 +132,3 @@ narrow-step g j x p e h k = record {
   least = λ s u. subst (λ (z : ℤ). lowest x p ≤ℤ z) (sym (e s u)) (step-least x p s u);
   most = λ s u. subst (λ (z : ℤ). z ≤ℤ (lowest x p +ℤ pos 765)) (sym (e s u)) (step-most x p s u h k);
 }
-
--- ---- at every position
-
--- one position widens the spread by at most 765
-pub forward-wider : (g : Gain) (j n : ℕ) (m : State → ℤ) → IsNarrow g j → AreNear n m → AreNear (n + 765) (forward m (g j))
-forward-wider g j n m h near s t =
-    let v = forward-attained m (g j) s in let w = forward-attained m (g j) t in
-    let a : State = state_before s v.0 in let b : State = state_before t w.0 in
-    by_sum _ _ (m a) (m b) (g j a (input_before s v.0)) (g j b (input_before t w.0)) h.low v.1 w.1 (near a b) (h.most a (input_before s v.0)) (h.least b (input_before t w.0))
-  where
-    by_sum : (f k x y u v l : ℤ) → f ≡ x +ℤ u → k ≡ y +ℤ v → (x -ℤ y) ≤ℤ pos n → u ≤ℤ (l +ℤ pos 765) → l ≤ℤ v → (f -ℤ k) ≤ℤ pos (n + 765)
-    by_sum f k x y u v l e h p q r = omega (arith, ints)
-
-pub backward-wider : (g : Gain) (j n : ℕ) (m : State → ℤ) → IsNarrow g j → AreNear n m → AreNear (n + 765) (backward m (g j))
-backward-wider g j n m h near s t =
-    let v = backward-attained m (g j) s in let w = backward-attained m (g j) t in
-    by_sum _ _ (m (next s v.0)) (m (next t w.0)) (g j s v.0) (g j t w.0) h.low v.1 w.1 (near (next s v.0) (next t w.0)) (h.most s v.0) (h.least t w.0)
-  where
-    by_sum : (f k x y u v l : ℤ) → f ≡ u +ℤ x → k ≡ v +ℤ y → (x -ℤ y) ≤ℤ pos n → u ≤ℤ (l +ℤ pos 765) → l ≤ℤ v → (f -ℤ k) ≤ℤ pos (n + 765)
-    by_sum f k x y u v l e h p q r = omega (arith, ints)
-
-near-same : (n k : ℕ) (f h : State → ℤ) → ((s : State) → f s ≡ h s) → n ≤ k → AreNear n h → AreNear k f
-near-same n k f h e le near s t = moved _ _ _ _ (e s) (e t) (near s t)
-  where
-    moved : (a b x y : ℤ) → a ≡ x → b ≡ y → (x -ℤ y) ≤ℤ pos n → (a -ℤ b) ≤ℤ pos k
-    moved a b x y p q h = omega (arith, ints)
-
-pub forward-spread : (first : State → ℤ) (g : Gain) (j : ℕ) (m : State → ℤ) → AreNear 4096 first → ((i : ℕ) → i < j → IsNarrow g i) → IsForward first g j m → AreNear 6391 m
-forward-spread first g zero m near narrow h = near-same 4096 6391 m first (λ s. greatest_one _ _ _ _ (h s) (forward_none first g s)) (omega arith) near
-forward-spread first g (suc zero) m near narrow h =
-    near-same (4096 + 765) 6391 m (forward first (g 0)) (λ s. greatest_one _ _ _ _ (h s) (forward_more first g 0 first (forward_none first g) s)) (omega arith)
-    (forward-wider g 0 4096 first (narrow 0 (omega arith)) near)
-forward-spread first g (suc (suc zero)) m near narrow h =
-    near-same (4096 + 765 + 765) 6391 m (forward (forward first (g 0)) (g 1))
-    (λ s. greatest_one _ _ _ _ (h s) (forward_more first g 1 (forward first (g 0)) (forward_more first g 0 first (forward_none first g)) s)) (omega arith)
-    (forward-wider g 1 (4096 + 765) (forward first (g 0)) (narrow 1 (omega arith)) (forward-wider g 0 4096 first (narrow 0 (omega arith)) near))
-forward-spread first g (suc (suc (suc j))) m near narrow h =
-    let e : suc (suc (suc j)) ≡ j + 3 = omega arith in
-    near-same 2295 6391 m m (λ s. refl) (omega arith)
-    (forward-near first g j m (λ i lt. narrow i (omega (arith, lt))) (subst (λ n. IsForward first g n m) e h))
-
-pub backward-spread : (last : State → ℤ) (g : Gain) (j n : ℕ) (m : State → ℤ) → AreNear 4096 last → ((i : ℕ) → i < j + n → IsNarrow g i) → IsBackward last g j n m → AreNear 6391 m
-backward-spread last g j zero m near narrow h = near-same 4096 6391 m last (λ s. greatest_one _ _ _ _ (h s) (backward_none last g j s)) (omega arith) near
-backward-spread last g j (suc zero) m near narrow h =
-    near-same (4096 + 765) 6391 m (backward last (g j)) (λ s. greatest_one _ _ _ _ (h s) (backward_more last g j 0 last (backward_none last g (suc j)) s)) (omega arith)
-    (backward-wider g j 4096 last (narrow j (omega arith)) near)
-backward-spread last g j (suc (suc zero)) m near narrow h =
-    near-same (4096 + 765 + 765) 6391 m (backward (backward last (g (suc j))) (g j))
-    (λ s. greatest_one _ _ _ _ (h s) (backward_more last g j 1 (backward last (g (suc j))) (backward_more last g (suc j) 0 last (backward_none last g (suc (suc j)))) s)) (omega arith)
-    (backward-wider g j (4096 + 765) (backward last (g (suc j))) (narrow j (omega arith)) (backward-wider g (suc j) 4096 last (narrow (suc j) (omega arith)) near))
-backward-spread last g j (suc (suc (suc n))) m near narrow h =
-    let e : suc (suc (suc n)) ≡ 3 + n = omega arith in
-    near-same 2295 6391 m m (λ s. refl) (omega arith)
-    (backward-near last g j n m (λ i lt. narrow i (omega (arith, lt))) (subst (λ i. IsBackward last g j i m) e h))

@@ -19,7 +19,8 @@ use Rattle.window_decode.proofs.LaneKernel.{passed-relative}
 use Rattle.window_decode.proofs.ForwardMetrics.{forward_none, forward_more}
 use Rattle.window_decode.proofs.BackwardMetrics.{backward_none, backward_more}
 use Rattle.window_decode.proofs.JoinedPaths.{joined-best}
-use Rattle.window_decode.proofs.Spread.{IsNarrow, narrow-step, forward-spread, backward-spread}
+use Rattle.window_decode.proofs.Spread.{IsNarrow, narrow-step}
+use Rattle.window_decode.proofs.Widening.{forward-spread, backward-spread}
 
 pub at-values : (cells : List Extrinsic) (j : ℕ) → at (values cells) j ≡ (cell_at cells j).value
 at-values [] j = refl
