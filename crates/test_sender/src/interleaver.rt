@@ -2,6 +2,7 @@
 ghost use Rattle.std.specs.Prelude.{◌≡◌, ◌<◌};
 ghost use Rattle.qpp_table.specs.Qpp.{size_in};
 
+use crate::interleaver_sums::SUMS;
 use qpp_table::interleaver::Qpp;
 use qpp_table::{FixedQpp, Interleaver, addresses, bank_row, qpp, win, windows_stay_apart};
 use std::alloc::{AllocError, Global};
@@ -45,7 +46,34 @@ fn each_of_the_188_sizes_is_permuted(rt: HostRuntime) -> Result<(), Fail> {
     Ok(())
 }
 
-// A number may be changed everywhere alike and its row still be lawful. The sums come from outside.
+/// The sum of the values times their places, counted from 1, modulo 2^32.
+fn sum_in_order(values: &[u16]) -> u32 {
+    let mut place = 0u32;
+    let mut sum = 0u32;
+    for value in values {
+        place = place.wrapping_add(1);
+        sum = sum.wrapping_add(place.wrapping_mul(u32::from(*value)));
+    }
+    sum
+}
+
+// A row may be changed everywhere alike and still be lawful.
+#[test]
+fn each_of_the_188_sizes_has_the_sum_of_another_library(rt: HostRuntime) -> Result<(), Fail> {
+    let mut sums = SUMS.iter();
+    for k in 0..6300usize {
+        if qpp(k).is_some() {
+            let mut out = vec![in rt.alloc(); 0u16; k]?;
+            addresses(k, out.as_mut_slice());
+            let sum = sum_in_order(out.as_slice());
+            assert_eq!(rt; sums.next(), Some(&sum), "size {k}");
+        }
+    }
+    assert!(rt; sums.next().is_none());
+    Ok(())
+}
+
+// Other numbers may have the same values, as f1 + K in place of f1. The sums come from outside.
 #[test]
 fn the_numbers_of_the_table_have_known_sums(rt: HostRuntime) {
     let mut row = 0usize;

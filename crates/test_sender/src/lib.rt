@@ -11,6 +11,8 @@ mod codewords;
 #[cfg(test)]
 mod interleaver;
 #[cfg(test)]
+mod interleaver_sums;
+#[cfg(test)]
 mod lists;
 #[cfg(test)]
 mod matching;
