@@ -5,3 +5,4 @@ pub mod Steps
 pub mod Joins
 pub mod Cells
 pub mod Sweeps
+pub mod Bounds

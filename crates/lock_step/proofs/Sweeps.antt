@@ -16,9 +16,7 @@ use Rattle.window_decode.specs.Ranges.{IsSoft}
 use Rattle.window_decode.specs.Metrics.{IsForwardRow, IsBackwardRow, IsForward, IsBackward}
 use Rattle.window_decode.proofs.JoinedPaths.{forward-left, backward-left}
 use Rattle.window_decode.proofs.Within.{within-same, within-sum, within-more}
-use Rattle.window_decode.proofs.Spread.{IsNarrow}
 use Rattle.window_decode.proofs.WindowSteps.{Earns}
-use Rattle.window_decode.proofs.WindowSpread.{narrow}
 use Rattle.lock_step.specs.Lanes.{row_at, column, border_at, lane_window, decided_cells, AreWithin, AreSoft}
 use Rattle.lock_step.specs.Vectors.{IsSmall, AreMetrics, AreBorders, lane_gain, metrics_at, cell_of}
 use Rattle.lock_step.proofs.StateRows.{at-column}
@@ -36,14 +34,12 @@ column-within n b rows t j lt h =
     nothing : IsWithin b (pos 0)
     nothing = (omega (arith, ints), omega (arith, ints))
 
-pub lane-narrow : (n t : ℕ) (sys par cells : List (List ℤ)) → t < n → AreSoft n sys par cells → (j : ℕ) → IsNarrow (lane_gain t sys par cells) j
-lane-narrow n t sys par cells lt soft j =
-    narrow (lane_window t [] [] sys par cells)
-    (let h : IsSoft (lane_window t [] [] sys par cells) = record {
-      systematic = λ j. column-within n 127 sys t j lt soft.systematic;
-      parity = λ j. column-within n 127 par t j lt soft.parity;
-      cells = λ j. column-within n 511 cells t j lt soft.extrinsic;
-    } in h) j
+pub lane-soft : (n t : ℕ) (start end : Border) (sys par cells : List (List ℤ)) → t < n → AreSoft n sys par cells → IsSoft (lane_window t start end sys par cells)
+lane-soft n t start end sys par cells lt soft = record {
+  systematic = λ j. column-within n 127 sys t j lt soft.systematic;
+  parity = λ j. column-within n 127 par t j lt soft.parity;
+  cells = λ j. column-within n 511 cells t j lt soft.extrinsic;
+}
 
 -- x and p are what input and parity bits 0 earn in lane t at position j
 pub lane-earns : (n t : ℕ) (sys par cells : List (List ℤ)) (j : ℕ) (x p : ℤ) → t < n → AreSoft n sys par cells → j < length sys → j < length par → j < length cells

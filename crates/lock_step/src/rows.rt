@@ -1,4 +1,5 @@
-//! N windows by rows.
+//! N windows by rows. That their metrics fit 16 bits is a law of window_decode, which is called where it is
+//! used: the call does nothing.
 ghost use Rattle.std.specs.Prelude.{◌≡◌, ◌<◌, ◌≤◌, ℕ, ℤ, List, pos, ◌+ℤ◌, int_lt, length};
 ghost use Rattle.model_receiver.specs.Borders.{at, number_for, relative};
 ghost use Rattle.model_receiver.specs.Windows.{new_cells, forward_left, backward_left};
@@ -15,6 +16,7 @@ use crate::lanes::add;
 use crate::metrics::{backward, forward, keep};
 use crate::work::LaneWork;
 use window_decode::Border;
+use window_decode::metrics::metrics_stay_near;
 
 /// Keeps the metrics before each position in the rows, and leaves those after the last.
 fn sweep_forward<const N: usize>(
@@ -36,6 +38,7 @@ fn sweep_forward<const N: usize>(
     ensures last { (t : ℕ) → t < N → IsForwardRow (column t m.old)
         (lane_gain t sys.now par.now cells.now) (length sys.now) (column t m.new) }
 {
+    metrics_stay_near();
     let mut x = [0; N];
     for j in 0..sys.len() {
         keep(m, &mut rows[j]);
@@ -101,6 +104,7 @@ fn sweep_backward<const N: usize>(
         ≡ new_cells (lane_window t start (column t m.old) sys.now par.now cells.old) }
     ensures sums { AreWithin N 32767 sums.new }
 {
+    metrics_stay_near();
     let width = sys.len();
     for i in 0..width {
         let j = width - 1 - i;
@@ -141,6 +145,7 @@ pub fn run_rows<const N: usize>(
         ≡ backward_left (window_at t from.now to.now sys.now par.now cells.old) }
     ensures room { work.new ≡ work.old }
 {
+    metrics_stay_near();
     let rows = work.rows.as_mut_slice();
     let mut m = [[0; N]; 8];
     put_borders(from, &mut m);

@@ -1,6 +1,9 @@
 -- The metrics at a position of a window are those of the window's parts before and after it.
-use Rattle.std.proofs.Common.{◌≡◌, ℕ, suc, ◌+◌, ◌-◌, ◌<◌, ◌≤◌, List, [], ◌∷◌, length, take, drop, ℤ, pos, ◌+ℤ◌, ◌≤ℤ◌, refl, sym, ap, ◌∙◌, subst, arith}
-use Rattle.std.proofs.lemmas.List.{get_or-take, get_or-drop, length-take-le, length-drop}
+use Rattle.std.proofs.Common.{◌≡◌, ℕ, suc, ◌+◌, ◌-◌, ◌<◌, ◌≤◌, List, [], ◌∷◌, length, take, drop, ℤ, pos, ◌+ℤ◌, ◌≤ℤ◌, refl, sym, ap, ◌∙◌, subst, inl, inr, arith}
+use Rattle.std.proofs.lemmas.Bool.{cases_lt}
+use Rattle.std.proofs.lemmas.Int.{ints}
+use Rattle.std.proofs.lemmas.List.{get_or_past, get_or-take, get_or-drop, length-take, length-take-le, length-drop}
+use Rattle.lte_bits.specs.Softs.{IsWithin}
 use Rattle.lte_bits.specs.declared.bit.Bit.{Bit}
 use Rattle.model_sender.specs.ConstituentCoder.{State, next, parity}
 use Rattle.model_sender.specs.Tail.{reached}
@@ -8,7 +11,8 @@ use Rattle.model_receiver.specs.Borders.{number_for, at, if_zero}
 use Rattle.model_receiver.specs.Paths.{Window, width, path, Gain, gain, earned, best_to, best_from}
 use Rattle.model_receiver.proofs.GreatestPaths.{best_to-is, best_from-is}
 use Rattle.window_decode.specs.Metrics.{IsForward, IsBackward}
-use Rattle.window_decode.specs.Ranges.{part_before, part_from}
+use Rattle.window_decode.specs.Ranges.{IsSoft, part_before, part_from}
+use Rattle.window_decode.proofs.Within.{within-same}
 
 -- ---- what steps earn there
 
@@ -37,6 +41,32 @@ earned-shifted g h j e i k s [] place = refl
 earned-shifted g h j e i k s (u ∷ us) place =
     ap (λ z. z +ℤ earned g (suc i) (next s u) us) (e i s u ∙ ap (λ n. h n s u) (sym place))
     ∙ ap (λ z. h k s u +ℤ z) (earned-shifted g h j e (suc i) (suc k) (next s u) us (omega (arith, place)))
+
+-- ---- a part is as soft as the window
+
+within-take : (n j i : ℕ) (xs : List ℤ) → ((i : ℕ) → IsWithin n (at xs i)) → IsWithin n (at (take j xs) i)
+within-take n j i xs h =
+    elim (cases_lt i j) [
+      | inl below ↦ within-same n _ _ (get_or-take j xs i (pos 0) below) (h i)
+      | inr past ↦ within-same n _ (pos 0) (get_or_past (take j xs) i (pos 0) (let e = length-take j xs in omega (arith, e, past))) (omega (arith, ints), omega (arith, ints))
+    ]
+
+within-drop : (n j i : ℕ) (xs : List ℤ) → ((i : ℕ) → IsWithin n (at xs i)) → IsWithin n (at (drop j xs) i)
+within-drop n j i xs h = within-same n _ _ (get_or-drop j xs i (pos 0)) (h (j + i))
+
+pub soft-before : (w : Window) (j : ℕ) → IsSoft w → IsSoft (part_before w j)
+soft-before w j h = record {
+  systematic = λ i. within-take 127 j i w.sys h.systematic;
+  parity = λ i. within-take 127 j i w.par h.parity;
+  cells = λ i. within-take 511 j i w.cells h.cells;
+}
+
+pub soft-from : (w : Window) (j : ℕ) → IsSoft w → IsSoft (part_from w j)
+soft-from w j h = record {
+  systematic = λ i. within-drop 127 j i w.sys h.systematic;
+  parity = λ i. within-drop 127 j i w.par h.parity;
+  cells = λ i. within-drop 511 j i w.cells h.cells;
+}
 
 -- ---- the metrics
 

@@ -70,7 +70,7 @@ relative-less f m c e = border-same (λ s. f s -ℤ f zero_state) (λ s. m s -�
     less a b x y p q = omega (arith, ints)
 
 -- rows stay near, so that they fit 16 bits
-row-relative : (row : List ℤ) (m : State → ℤ) → row ≡ relative m → AreNear 6391 m → IsRelative row
+pub row-relative : (row : List ℤ) (m : State → ℤ) → row ≡ relative m → AreNear 6391 m → IsRelative row
 row-relative row m e near = record {
   eight = ap length e;
   zero = number-relative row m e zero_state ∙ nothing (m zero_state);

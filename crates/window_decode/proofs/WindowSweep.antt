@@ -105,7 +105,7 @@ backward_at end g i j n k row e f h = subst (λ m. IsBackwardRow end g j m row) 
 
 -- ---- the ends
 
-border_from_near : (row : List ℤ) (m : State → ℤ) → row ≡ relative m → AreNear 2295 m → IsBorder row
+pub border_from_near : (row : List ℤ) (m : State → ℤ) → row ≡ relative m → AreNear 2295 m → IsBorder row
 border_from_near row m e near = subst (λ (b : Border). IsBorder b) (sym e) (border_from m (λ s t. more _ (near s t)))
   where
     more : (x : ℤ) → x ≤ℤ pos 2295 → x ≤ℤ pos 4096

@@ -1,11 +1,10 @@
-use Rattle.std.proofs.Common.{List, length, ℤ, sym, ap, ◌∙◌, subst, rules}
+use Rattle.std.proofs.Common.{List, [], length, ℤ, sym, ap, ◌∙◌, subst, arith, rules}
 use Rattle.model_receiver.specs.Windows.{new_cells}
 use Rattle.window_decode.specs.Metrics.{IsForwardRow, IsBackwardRow}
-use Rattle.window_decode.proofs.WindowSteps.{forward-relative}
-use Rattle.window_decode.proofs.WindowSweep.{forward_row-border, backward_row-border}
 use Rattle.lock_step.specs.Lanes.{column, border_at, lane_window, window_at}
 use Rattle.lock_step.specs.Vectors.{AreBorders, lane_gain, AreForwardRows}
-use Rattle.lock_step.proofs.Sweeps.{lane-narrow, borders_from, width-column, new-within, forward-end, backward-end}
+use Rattle.lock_step.proofs.Sweeps.{lane-soft, borders_from, width-column, new-within, forward-end, backward-end}
+use Rattle.lock_step.proofs.Bounds.{forward-relative, forward-border, backward-border}
 use Rattle.lock_step.proofs.rows.run_rows.Goals as goal
 
 pub sweep_forward-requires : goal.sweep_forward-requires
@@ -39,8 +38,8 @@ take_borders-requires g c = (
       record {
         shape = c.sweep_forward.ensures.shape;
         border = λ t lt.
-            forward_row-border _ _ (length c.args.sys.now) _ c.requires.least
-            (λ i below. lane-narrow g.row.N t c.args.sys.now c.args.par.now c.args.cells.now lt c.requires.soft i) (c.sweep_forward.ensures.last t lt);
+            forward-border c.metrics_stay_near.ensures.to_after_three (lane_window t (column t c.put_borders.new.m) [] c.args.sys.now c.args.par.now c.args.cells.now) (length c.args.sys.now) _ (width-column c.args.cells.now t (length c.args.sys.now) c.requires.cells) c.requires.least
+            (lane-soft g.row.N t (column t c.put_borders.new.m) [] c.args.sys.now c.args.par.now c.args.cells.now lt c.requires.soft) (c.sweep_forward.ensures.last t lt);
       },
     ),
   ),
@@ -66,7 +65,9 @@ sweep_backward-requires g c =
                     λ j below. record {
                       shape = c.sweep_forward.ensures.shapes j below;
                       relative = λ t lt.
-                          forward-relative _ _ j _ (start.border t lt) (λ i _. lane-narrow g.row.N t c.args.sys.now c.args.par.now c.args.cells.now lt c.requires.soft i) (c.sweep_forward.ensures.rows t lt j below);
+                          forward-relative c.metrics_stay_near.ensures.to_at_any_width (lane_window t (column t c.put_borders.new.m) [] c.args.sys.now c.args.par.now c.args.cells.now) j _
+                          (let wide = width-column c.args.cells.now t (length c.args.sys.now) c.requires.cells in omega (arith, wide, below))
+                          (lane-soft g.row.N t (column t c.put_borders.new.m) [] c.args.sys.now c.args.par.now c.args.cells.now lt c.requires.soft) (start.border t lt) (c.sweep_forward.ensures.rows t lt j below);
                     },
                     borders_from g.row.N c.put_borders-2.new.m c.args.to.now c.put_borders-2.ensures.shape c.put_borders-2.ensures.lanes c.put_borders-2.ensures.borders,
                   ),
@@ -88,8 +89,8 @@ take_borders-requires-2 g c = (
       record {
         shape = c.sweep_backward.ensures.shape;
         border = λ t lt.
-            backward_row-border _ _ (length c.args.sys.now) _ c.requires.least
-            (λ i below. lane-narrow g.row.N t c.args.sys.now c.args.par.now c.args.cells.now lt c.requires.soft i) (c.sweep_backward.ensures.first t lt);
+            backward-border c.metrics_stay_near.ensures.from_after_three (lane_window t [] (column t c.put_borders-2.new.m) c.args.sys.now c.args.par.now c.args.cells.now) (length c.args.sys.now) _ (width-column c.args.cells.now t (length c.args.sys.now) c.requires.cells) c.requires.least
+            (lane-soft g.row.N t [] (column t c.put_borders-2.new.m) c.args.sys.now c.args.par.now c.args.cells.now lt c.requires.soft) (c.sweep_backward.ensures.first t lt);
       },
     ),
   ),

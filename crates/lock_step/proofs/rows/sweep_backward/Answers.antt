@@ -1,15 +1,16 @@
-use Rattle.std.proofs.Common.{◌≡◌, ℕ, suc, ◌<◌, ◌+◌, ◌-◌, List, length, ℤ, ◌+ℤ◌, refl, sym, ap, ◌∙◌, subst, arith, rules}
+use Rattle.std.proofs.Common.{◌≡◌, ℕ, suc, ◌<◌, ◌+◌, ◌-◌, List, [], length, ℤ, ◌+ℤ◌, refl, sym, ap, ◌∙◌, subst, arith, rules}
 use Rattle.std.proofs.lemmas.List.{length-set, length-map}
 use Rattle.model_receiver.specs.Borders.{at}
 use Rattle.model_receiver.specs.Paths.{Window}
 use Rattle.model_receiver.specs.Windows.{new_cell}
 use Rattle.window_decode.specs.Recursions.{cell_through}
-use Rattle.window_decode.proofs.WindowSteps.{cell-best, backward_first, backward-row, backward-relative}
+use Rattle.window_decode.proofs.WindowSteps.{cell-best, backward_first, backward-row}
 use Rattle.window_decode.proofs.WindowSweep.{backward_at}
 use Rattle.lock_step.specs.Lanes.{row_at, column, lane_window}
 use Rattle.lock_step.specs.Vectors.{AreRelative, lane_gain, metrics_at}
 use Rattle.lock_step.proofs.StateRows.{at-column}
-use Rattle.lock_step.proofs.Sweeps.{lane-narrow, lane-earns, row-read, metrics-read, read-small, kept-more, small-more, renewed-more, cell-set, decided-all}
+use Rattle.lock_step.proofs.Sweeps.{lane-soft, lane-earns, row-read, metrics-read, read-small, kept-more, small-more, renewed-more, cell-set, decided-all, width-column}
+use Rattle.lock_step.proofs.Bounds.{backward-relative}
 use Rattle.lock_step.proofs.rows.sweep_backward.Goals as goal
 
 pub loop-i-init : goal.loop-i-init
@@ -44,7 +45,10 @@ step_back-requires g c =
           (
             record {
               shape = h.shape;
-              relative = λ t lt. backward-relative _ _ (n - i) i _ (c.requires.end.border t lt) (λ k below. lane-narrow g.row.N t sys par cells lt c.requires.soft k) (h.row t lt);
+              relative = λ t lt.
+                  backward-relative c.metrics_stay_near.ensures.from_at_any_width (lane_window t [] (column t c.args.m.now) sys par cells) (n - i) i _
+                  (let wide = width-column cells t n c.requires.cells in omega (arith, wide, c.loop-i-test.true))
+                  (lane-soft g.row.N t [] (column t c.args.m.now) sys par cells lt c.requires.soft) (c.requires.end.border t lt) (h.row t lt);
             },
             (
               read-small g.row.N 127 127 sys j _ (omega arith) (omega (arith, place)) c.requires.soft.systematic s,

@@ -3,11 +3,12 @@ use Rattle.std.proofs.lemmas.List.{get_or-set_same, length-set}
 use Rattle.model_receiver.specs.Borders.{at, number_for, relative}
 use Rattle.window_decode.specs.Recursions.{step_gain, forward}
 use Rattle.window_decode.specs.Metrics.{IsForwardRow}
-use Rattle.window_decode.proofs.WindowSteps.{forward_first, forward-row, forward-relative}
-use Rattle.lock_step.specs.Lanes.{row_at, column}
+use Rattle.window_decode.proofs.WindowSteps.{forward_first, forward-row}
+use Rattle.lock_step.specs.Lanes.{row_at, column, lane_window}
 use Rattle.lock_step.specs.Vectors.{AreMetrics, AreRelative, lane_gain}
 use Rattle.lock_step.proofs.Vectors.{sum-small}
-use Rattle.lock_step.proofs.Sweeps.{lane-narrow, lane-earns, row-read, read-small, set-more}
+use Rattle.lock_step.proofs.Sweeps.{lane-soft, lane-earns, row-read, read-small, set-more, width-column}
+use Rattle.lock_step.proofs.Bounds.{forward-relative}
 use Rattle.lock_step.proofs.rows.sweep_forward.Goals as goal
 
 pub loop-j-init : goal.loop-j-init
@@ -28,7 +29,9 @@ keep-requires g c =
         record {
           shape = h.shape;
           relative = λ t lt.
-              forward-relative _ _ c.loop-j.j _ (c.requires.start.border t lt) (λ i below. lane-narrow g.row.N t c.args.sys.now c.args.par.now c.args.cells.now lt c.requires.soft i) (h.row t lt);
+              forward-relative c.metrics_stay_near.ensures.to_at_any_width (lane_window t (column t c.args.m.now) [] c.args.sys.now c.args.par.now c.args.cells.now) c.loop-j.j _
+              (let wide = width-column c.args.cells.now t (length c.args.sys.now) c.requires.cells in omega (arith, wide, c.loop-j-test.true))
+              (lane-soft g.row.N t (column t c.args.m.now) [] c.args.sys.now c.args.par.now c.args.cells.now lt c.requires.soft) (c.requires.start.border t lt) (h.row t lt);
         },
       ),
     )
@@ -58,7 +61,9 @@ forward-requires g c =
           subst (λ (m : List (List ℤ)). AreRelative g.row.N m) (sym kept) (record {
             shape = h.shape;
             relative = λ t lt.
-                forward-relative _ _ j _ (c.requires.start.border t lt) (λ i below. lane-narrow g.row.N t c.args.sys.now c.args.par.now c.args.cells.now lt c.requires.soft i) (h.row t lt);
+                forward-relative c.metrics_stay_near.ensures.to_at_any_width (lane_window t (column t c.args.m.now) [] c.args.sys.now c.args.par.now c.args.cells.now) c.loop-j.j _
+                (let wide = width-column c.args.cells.now t (length c.args.sys.now) c.requires.cells in omega (arith, wide, c.loop-j-test.true))
+                (lane-soft g.row.N t (column t c.args.m.now) [] c.args.sys.now c.args.par.now c.args.cells.now lt c.requires.soft) (c.requires.start.border t lt) (h.row t lt);
           }),
           (
             sum-small g.row.N c.index-sys-j.result c.index-cells-j.result c.add.new.out
