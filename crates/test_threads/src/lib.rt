@@ -8,11 +8,13 @@ mod batch;
 #[cfg(test)]
 mod board;
 #[cfg(test)]
+mod counting_start;
+#[cfg(test)]
 mod kept_blocks;
 #[cfg(test)]
-mod noting_gate;
+mod meeting_gate;
 #[cfg(test)]
-mod pair_gate;
+mod noting_gate;
 #[cfg(test)]
 mod pipeline;
 #[cfg(test)]

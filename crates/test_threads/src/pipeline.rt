@@ -2,7 +2,8 @@
 ghost use Rattle.std.specs.Prelude.{◌≡◌, ◌*◌, false};
 ghost use Rattle.tb_pipeline.specs.Hands.{IsHandOf, hand_view};
 
-use crate::pair_gate::PairGate;
+use crate::counting_start::CountingStart;
+use crate::meeting_gate::MeetingGate;
 use std::process::Abort;
 use std::sync::Wait;
 use std::test::Fail;
@@ -75,10 +76,37 @@ fn answers_stand_in_the_order_of_the_jobs(rt: HostRuntime) -> Result<(), Fail> {
 
 #[test]
 fn two_blocks_at_once(rt: HostRuntime) -> Result<(), Fail> {
-    let gate = PairGate::new();
+    let gate = MeetingGate::new(2);
     let jobs = [7, 3].map(|number| Square { number });
     let answers = through(&rt, rt.alloc(), &jobs, 2, &gate)?;
     assert_eq!(rt; answers.as_slice(), [49u64, 9].as_slice());
+    assert!(rt; gate.met());
+    Ok(())
+}
+
+#[test]
+fn two_workers_begin_each_job_once_and_neither_works_alone(rt: HostRuntime) -> Result<(), Fail> {
+    let start = CountingStart::new(rt.alloc(), 8)?;
+    let jobs = [7, 3, 1, 0, 2, 6, 5, 4].map(|number| Square { number });
+    let answers = through(&rt, rt.alloc(), &jobs, 2, &start)?;
+    assert_eq!(rt;
+        answers.as_slice(),
+        [49u64, 9, 1, 0, 4, 36, 25, 16].as_slice()
+    );
+    assert!(rt; start.saw_each_once());
+    assert!(rt; start.went_on());
+    Ok(())
+}
+
+#[test]
+fn eight_workers_do_eight_jobs_at_once(rt: HostRuntime) -> Result<(), Fail> {
+    let gate = MeetingGate::new(8);
+    let jobs = [7, 3, 1, 0, 2, 6, 5, 4].map(|number| Square { number });
+    let answers = through(&rt, rt.alloc(), &jobs, 8, &gate)?;
+    assert_eq!(rt;
+        answers.as_slice(),
+        [49u64, 9, 1, 0, 4, 36, 25, 16].as_slice()
+    );
     assert!(rt; gate.met());
     Ok(())
 }

@@ -1,5 +1,5 @@
 //! Runs of the program's `decode` with several workers.
-use crate::pair_gate::PairGate;
+use crate::meeting_gate::MeetingGate;
 use edge_io::MemSource;
 use std::process::Abort;
 use std::sync::Wait;
@@ -42,7 +42,7 @@ fn assert_delivered<H: Threads + Wait + Sync + Abort + AllocGlobal, G: Gate + Sy
 
 #[test]
 fn two_windows_at_once(rt: HostRuntime) -> Result<(), Fail> {
-    let gate = PairGate::new();
+    let gate = MeetingGate::new(2);
     let stream = joined(rt.alloc(), &[&SOFT, &LENGTH_2, &[0; 132], &END])?;
     let want = ([0u8, 0].as_slice(), 1);
     assert_delivered(

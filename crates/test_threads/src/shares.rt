@@ -4,6 +4,7 @@ ghost use Prim.Native.Nat.{◌∣◌};
 ghost use Rattle.cell_shares.specs.Orders.{IsOrderOf};
 ghost use Rattle.cell_shares.specs.Shares.{name_of, cell_values, share_label, share_values};
 
+use crate::meeting_gate::MeetingGate;
 use cell_shares::{Cells, Order, Share, join};
 use lte_bits::{List, NoMemory};
 use qpp_table::qpp;
@@ -88,12 +89,25 @@ fn sign(share: &mut Share<(usize, usize)>, width: usize, number: usize)
     }
 }
 
-/// Signs all shares, each on a thread.
-fn sign_all<R: Threads + Sync>(rt: &R, shares: &mut [Share<(usize, usize)>], width: usize)
+/// Signs all shares, each on a thread that has passed the gate.
+fn sign_all<R: Threads + Sync>(
+    rt: &R,
+    gate: &MeetingGate,
+    shares: &mut [Share<(usize, usize)>],
+    width: usize,
+)
     requires { All (λ s. width ≡ length (share_values s)) shares.old }
     ensures { map share_label shares.new ≡ map share_label shares.old }
 {
-    thread::for_each_mut(rt, shares, 4, &|number, share| sign(share, width, number));
+    thread::for_each_mut(
+        rt,
+        shares,
+        4,
+        &|number, share| {
+            gate.pass();
+            sign(share, width, number);
+        },
+    );
 }
 
 /// Whether each of 40 cells tells its place in an order for four shares.
@@ -114,7 +128,9 @@ fn each_share_is_written_by_a_thread(rt: HostRuntime) -> Result<(), Fail> {
     let values = List::from_vec(vec![in rt.alloc(); (0, 0); 40]?);
     let order = Order::Interleaved(qpp(40).expect(&rt, "40 is a size"));
     let mut shares = Cells::new(rt.alloc(), values, 4)?.split(order);
-    sign_all(&rt, shares.as_mut_slice(), 10);
+    let gate = MeetingGate::new(4);
+    sign_all(&rt, &gate, shares.as_mut_slice(), 10);
+    assert!(rt; gate.met());
     assert!(rt; are_signed(&join(shares), &order));
     Ok(())
 }

@@ -1,8 +1,8 @@
 //! Code blocks, decoded by several threads.
 ghost use Rattle.std.specs.Prelude.{◌≡◌, IfOk, length};
 
+use crate::meeting_gate::MeetingGate;
 use crate::noting_gate::NotingGate;
-use crate::pair_gate::PairGate;
 use block_crc::crc24a;
 use lte_bits::{Bit, Block, Cell, List, NoMemory, Soft, SoftStreams};
 use qpp_table::qpp;
@@ -62,11 +62,13 @@ fn two_threads_serve_a_board(rt: HostRuntime) -> Result<(), Fail> {
     let shape = Shape::new(40, 0, CheckKind::A, 5, 8).ok_or("it is a shape")?;
     let (board, seat) = open_board(rt.alloc(), &streams, &shape)?;
     let (one, two) = board.split_seat(seat);
+    let gate = MeetingGate::new(2);
     let (one, two) = join(
         &rt,
-        || serve(&rt, &board, one, &NoGate),
-        || serve(&rt, &board, two, &NoGate),
+        || serve(&rt, &board, one, &gate),
+        || serve(&rt, &board, two, &gate),
     );
+    assert!(rt; gate.met());
     let seat = board.join_seat(one, two);
     assert!(rt; seat.saw_over());
     let (common, closed) = board.close(seat);
@@ -112,7 +114,7 @@ fn any_number_of_workers_decodes_alike(rt: HostRuntime) -> Result<(), Fail> {
 fn two_windows_run_at_once(rt: HostRuntime) -> Result<(), Fail> {
     let streams = zeros(rt.alloc())?;
     let shape = Shape::new(40, 0, CheckKind::A, 5, 8).ok_or("it is a shape")?;
-    let gate = PairGate::new();
+    let gate = MeetingGate::new(2);
     let (result, closed) = decode_block_shared(&rt, rt.alloc(), &streams, &shape, 2, &gate)?;
     assert!(rt; gate.met());
     assert_eq!(rt;
