@@ -38,6 +38,10 @@ IsHandOf relay hand =
 abbrev pub IsNewHandOf : Relay → Hand → Type 0
 IsNewHandOf relay hand = IsHandOf relay hand × ((hand_view hand).places ≡ []) × ((hand_view hand).ended ≡ false)
 
+-- it is a hand of this relay that has ended
+abbrev pub IsEndedHandOf : Relay → Hand → Type 0
+IsEndedHandOf relay hand = IsHandOf relay hand × ((hand_view hand).ended ≡ true)
+
 -- After a number the hand has it, which is its place, and goes on. After an end mark it has the place of
 -- this mark, so that each number was popped by then, and it has ended.
 abbrev pub IsNextOf : Relay → Hand → Next → Type 0

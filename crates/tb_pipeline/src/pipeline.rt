@@ -34,7 +34,7 @@ where
     let (answers, teller) = ask(rt, alloc, jobs)?;
     let (relay, hands) = Relay::new(rt, alloc, jobs.len(), pipes)?;
     let (teller, others) = another(&answers, teller);
-    work_all(rt, &relay, hands, jobs, start, &answers, others);
+    let _ended = work_all(rt, &relay, hands, jobs, start, &answers, others);
     collect(jobs, &answers, teller, slots.as_mut_slice());
     finish(jobs, start, slots.as_mut_slice(), &mut done);
     Ok(List::from_vec(done))

@@ -1,8 +1,8 @@
 //! Workers that share a relay.
-ghost use Rattle.std.specs.Prelude.{◌≡◌, ◌<◌, Some, false, length, All};
+ghost use Rattle.std.specs.Prelude.{◌≡◌, ◌<◌, Some, false, length, vec_capacity, All};
 ghost use Rattle.std.specs.Thread.{IsSend, IsSync};
 ghost use Rattle.crossbeam_queue.specs.Passes.{IsPassOf, view};
-ghost use Rattle.tb_pipeline.specs.Hands.{IsHandOf, IsNewHandOf, hand_view, relay_count};
+ghost use Rattle.tb_pipeline.specs.Hands.{IsEndedHandOf, IsHandOf, IsNewHandOf, hand_view, relay_count};
 
 use crate::hand::{Hand, Next, Relay};
 use crate::job::{Job, Start};
@@ -11,7 +11,8 @@ use crate::telling::another;
 use std::sync::Wait;
 use std::thread::{Threads, join};
 
-/// Does jobs until there is no further one. An answer for which there is no room is dropped.
+/// Does jobs until there is no further one, and gives the hand back, which has taken an end mark. An answer
+/// for which there is no room is dropped.
 fn work<J: Job, G: Start, R: Wait>(
     rt: &R,
     relay: &Relay,
@@ -20,18 +21,19 @@ fn work<J: Job, G: Start, R: Wait>(
     start: &G,
     answers: &Answers<J>,
     teller: Teller<J>,
-)
+) -> Hand
 where
     J::Done: Drop,
     requires count { relay_count relay.now ≡ length jobs.now }
     requires hand { IsHandOf relay.now hand × ((hand_view hand).ended ≡ false) }
     requires answers { IsPassOf answers.now.queue teller.pass × (view teller.pass ≡ Some jobs.now) }
+    ensures { IsEndedHandOf relay.now result }
 {
     let mut hand = hand;
     let Teller { mut pass } = teller;
     for _ in rt.forever() {
         match relay.take(rt, hand) {
-            Next::Empty(_) => return,
+            Next::Empty(ended) => return ended,
             Next::Job(next, number) => {
                 hand = next;
                 start.enter(number);
@@ -42,9 +44,10 @@ where
             }
         }
     }
+    unreachable!()
 }
 
-/// Has a worker for each hand do jobs.
+/// Has a worker for each hand do jobs, and gives back the hands, each of which has taken an end mark.
 pub(crate) fn work_all<J: Job + Sync, G: Start + Sync, R: Threads + Wait + Sync>(
     rt: &R,
     relay: &Relay,
@@ -53,34 +56,43 @@ pub(crate) fn work_all<J: Job + Sync, G: Start + Sync, R: Threads + Wait + Sync>
     start: &G,
     answers: &Answers<J>,
     teller: Teller<J>,
-)
+) -> Vec<Hand>
 where
     J::Done: Drop + Send,
     requires crossing { IsSync R.row × IsSync G.row × IsSync J.row × IsSend J.Done.row }
     requires count { relay_count relay.now ≡ length jobs.now }
     requires hands { All (IsNewHandOf relay.now) hands.items }
     requires answers { IsPassOf answers.now.queue teller.pass × (view teller.pass ≡ Some jobs.now) }
+    ensures ended { All (IsEndedHandOf relay.now) result.items }
+    ensures count { length result.items ≡ length hands.items }
+    ensures room { vec_capacity result ≡ vec_capacity hands }
 {
     let mut hands = hands;
     let Some(hand) = hands.pop() else {
-        return;
+        return hands;
     };
     if hands.is_empty() {
-        work(rt, relay, hand, jobs, start, answers, teller);
-        return;
+        hands.push_reserved(work(rt, relay, hand, jobs, start, answers, teller));
+        return hands;
     }
     let (teller, other) = another(answers, teller);
-    join(
+    let (ended, mut others) = join(
         rt,
-        move ||
+        move || -> Hand
             requires { (relay_count relay.now ≡ length jobs.now) × IsNewHandOf relay.now hand
                 × IsPassOf answers.now.queue teller.pass × (view teller.pass ≡ Some jobs.now) }
+            ensures { IsEndedHandOf relay.entry.now result }
         { work(rt, relay, hand, jobs, start, answers, teller) },
-        move ||
+        move || -> Vec<Hand>
             requires { IsSync R.row × IsSync G.row × IsSync J.row × IsSend J.Done.row
                 × (relay_count relay.now ≡ length jobs.now) × All (IsNewHandOf relay.now) hands.items
                 × IsPassOf answers.now.queue other.pass
                 × (view other.pass ≡ Some jobs.now) }
+            ensures ended { All (IsEndedHandOf relay.entry.now) result.items }
+            ensures count { length result.items ≡ length hands.items }
+            ensures room { vec_capacity result ≡ vec_capacity hands }
         { work_all(rt, relay, hands, jobs, start, answers, other) },
     );
+    others.push_reserved(ended);
+    others
 }

@@ -9,8 +9,8 @@ use Rattle.tb_pipeline.proofs.working.+fn-work_all-join+arg3+work_all.Goals as g
 
 -- The first closure may go to another thread: so may each value that it captures, in their order, and leaving
 -- it leaves nothing behind. `search` finds this of each value, but not of all seven at once.
-pub join-requires-send-F : goal.join-requires-send-F
-join-requires-send-F g t c κs within =
+pub join-ended-requires-send-F : goal.join-ended-requires-send-F
+join-ended-requires-send-F g t c κs within =
     let facts = c.requires.crossing in let runtime = facts.0 in let start = facts.1 in let job = facts.2 in let done = facts.3 in
     let jobs = shr_slice_send (named 0) κs.1.1.1.1.1.1.1.1.0 (param 0 g.row.J) job in
     let answers = Answers-sync (J-row g.row.J g.row.G g.row.R g.row.J-Done) (J-Done-row g.row.J g.row.G g.row.R g.row.J-Done) done g.J.Job in
