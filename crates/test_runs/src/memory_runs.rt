@@ -14,12 +14,13 @@ pub struct Edges<'a> {
     pub reports: &'a [u64],
 }
 
-/// How a run ended, what `out` and the report hold, and how many bytes the source still has.
+/// How a run ended, what `out` and the report hold, and how many bytes the source had and still has.
 #[derive(Drop)]
 pub struct Ran {
     pub status: Status,
     pub out: MemSink,
     pub report: MemSink,
+    pub had: usize,
     pub left: usize,
 }
 
@@ -53,11 +54,23 @@ pub fn run_of(
         status,
         out,
         report,
+        had: input.len(),
         left: source.left().len(),
     })
 }
 
-/// Whether a run ended so, with this output and this report.
+/// How many bytes a run that ended so leaves of its source: all where it had nothing to read, and none where
+/// the input is read to its end. No number is known of other endings.
+fn left_by(line: &str, ran: &Ran) -> Option<usize> {
+    match ran.status {
+        Status::BadWords { .. } => Some(ran.had),
+        Status::Done | Status::SomeFailed if line.starts_with("trial ") => Some(ran.had),
+        Status::Done | Status::SomeFailed => Some(0),
+        _ => None,
+    }
+}
+
+/// Whether a run ended so, with this output and this report, and left of its source what such an ending leaves.
 fn expect(line: &str, ran: &Ran, want: (Status, &[u8], &str)) -> Result<(), Fail> {
     let (status, out, report) = want;
     if ran.status != status || ran.out.bytes() != out {
@@ -66,7 +79,12 @@ fn expect(line: &str, ran: &Ran, want: (Status, &[u8], &str)) -> Result<(), Fail
     if ran.report.bytes() != report.as_bytes() {
         return Err(Fail::new(format_args!("of {line}: report {:?}", ran.report.bytes())));
     }
-    Ok(())
+    match left_by(line, ran) {
+        Some(left) if left != ran.left => {
+            Err(Fail::new(format_args!("of {line}: {} of {} are left", ran.left, ran.had)))
+        }
+        _ => Ok(()),
+    }
 }
 
 /// Does what a line asks for, in pieces of 1 and of 7 bytes, with no failure.
