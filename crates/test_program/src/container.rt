@@ -2,7 +2,7 @@
 use crate::streams::{Outcome, Stream, assert_reads, bad, bytes_of, read};
 use coded_stream::{StreamStop, Want};
 use std::test::Fail;
-use test_runs::small_blocks;
+use test_runs::{joined, small_blocks};
 
 #[test]
 fn a_stream_that_is_cut_is_refused_at_its_end(rt: HostRuntime) -> Result<(), Fail> {
@@ -61,6 +61,29 @@ fn each_change_is_refused_at_its_byte(rt: HostRuntime) -> Result<(), Fail> {
         }
         let left = bytes.len().saturating_sub(taken);
         assert_reads(&rt, &bytes, Want::Any, (0, bad(number, place), left))?;
+    }
+    Ok(())
+}
+
+#[test]
+fn a_unit_that_is_cut_is_refused_at_its_end_whatever_it_holds(rt: HostRuntime) -> Result<(), Fail> {
+    // The stream; the byte that is changed, and to what; and the bytes that are there.
+    let rows = [
+        (Stream::Soft, 0, 0x4D, 17),
+        (Stream::Soft, 3, 0x33, 17),
+        (Stream::Soft, 4, 0x02, 17),
+        (Stream::Soft, 19, 0xFF, 22),
+        (Stream::Two, 3, 0x33, 17),
+        (Stream::Two, 5, 0x09, 11),
+        (Stream::Two, 12, 0x03, 25),
+    ];
+    for (stream, at, byte, count) in rows {
+        let mut bytes = bytes_of(rt.alloc(), stream)?;
+        if let Some(changed) = bytes.get_mut(at) {
+            *changed = byte;
+        }
+        let cut = &bytes[..count.min(bytes.len())];
+        assert_reads(&rt, cut, Want::Any, (0, bad(6, count as u64), 0))?;
     }
     Ok(())
 }
@@ -125,6 +148,12 @@ fn each_failed_read_ends_the_stream(rt: HostRuntime) -> Result<(), Fail> {
 fn streams_have_at_most_4096_blocks(rt: HostRuntime) -> Result<(), Fail> {
     let many = small_blocks(rt.alloc(), 4096)?;
     assert_reads(&rt, &many, Want::Soft, (4096, None, 0))?;
+    // What stands in place of the end word: too little of a length word, and one above the greatest.
+    let cut = &many[..24_598.min(many.len())];
+    assert_reads(&rt, cut, Want::Soft, (4096, bad(6, 24_598), 0))?;
+    let blocks = &many[..24_595.min(many.len())];
+    let above = joined(rt.alloc(), &[blocks, &[0xFF; 4]])?;
+    assert_reads(&rt, &above, Want::Soft, (4096, bad(8, 24_595), 0))?;
     let many = small_blocks(rt.alloc(), 4097)?;
     assert_reads(&rt, &many, Want::Soft, (4096, bad(8, 24595), 6))
 }
