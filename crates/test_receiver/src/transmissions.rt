@@ -97,6 +97,29 @@ fn each_sum_is_clamped_at_once(rt: HostRuntime) -> Result<(), Fail> {
     Ok(())
 }
 
+// The first three bits that version 0 sends of 40 are the places 20, 4 and 36 of d0. Each is sent thrice.
+#[test]
+fn so_is_each_sum_within_a_transmission(rt: HostRuntime) -> Result<(), Fail> {
+    let mut values = Vec::new(rt.alloc());
+    for first in [[100, 100, -100], [100, -127, -100], [-127, 100, 100]] {
+        values.extend_from_slice(&first)?;
+        values.extend_from_slice(&[0; 129])?;
+    }
+    let mut want = [0; 44];
+    want[4] = 73;
+    want[36] = -27;
+    let sent = [Sent {
+        qm: 2,
+        rv: 0,
+        values: &values,
+    }];
+    let [d0, d1, d2] = received(&rt, rt.alloc(), 2, Buffer::Full, &sent)?;
+    assert_eq!(rt; d0.as_slice(), want.as_slice());
+    assert_eq!(rt; d1.as_slice(), [0; 44].as_slice());
+    assert_eq!(rt; d2.as_slice(), [0; 44].as_slice());
+    Ok(())
+}
+
 #[test]
 fn fillers_are_known(rt: HostRuntime) -> Result<(), Fail> {
     let sent = [Sent {
