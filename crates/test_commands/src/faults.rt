@@ -3,7 +3,10 @@
 use edge_io::MemSource;
 use std::process::Abort;
 use std::test::Fail;
-use test_runs::{Edges, Ran, list_of, run_of, sink_of, small_blocks, sound, words_of};
+use test_runs::{
+    END, Edges, HARD, LENGTH_2, Ran, SOFT, joined, list_of, run_of, sink_of, small_blocks, sound,
+    words_of,
+};
 use turbo_run::{SinkName, Status, run};
 
 /// A run, and of its text the bytes of the opening, of a block's input, and of a whole block.
@@ -16,13 +19,20 @@ struct Case {
     text: usize,
 }
 
-const CASES: [Case; 3] = [
+const CASES: [Case; 4] = [
     Case {
         line: "codeword g=132 qm=2 rv=0",
         input: &[0, 1],
         opening: 0,
         size: 3,
         text: 17,
+    },
+    Case {
+        line: "encode tb=2 g=132 qm=2 rv=0",
+        input: &[0, 0],
+        opening: 19,
+        size: 2,
+        text: 21,
     },
     Case {
         line: "encode tb=2 g=116 qm=2 rv=0",
@@ -115,17 +125,52 @@ fn each_write_fails_in_turn(rt: HostRuntime) -> Result<(), Fail> {
 
 #[test]
 fn the_line_of_a_fault_may_fail_itself(rt: HostRuntime) -> Result<(), Fail> {
-    let line = b"read fault\n";
-    for command in [
-        "codeword g=132 qm=2 rv=0",
-        "encode tb=2 g=132 qm=2 rv=0",
-        "decode",
-    ] {
-        for n in 0..line.len() {
+    let mut unused = joined(rt.alloc(), &[&HARD, &LENGTH_2, &[0; 17], &END])?;
+    if let Some(byte) = unused.get_mut(39) {
+        *byte = 1;
+    }
+    let channel = "channel amp=40 noise=0 seed=1";
+    let encode = "encode tb=2 g=132 qm=2 rv=0";
+    // The arguments and the input, the reads and the writes to `out` that fail; and the line, its ending's exit,
+    // and what `out` holds.
+    let rows: [(&str, &[u8], &[u64], &[u64], &str, u8, &[u8]); 7] = [
+        (
+            "codeword g=132 qm=2 rv=0",
+            &[0, 0],
+            &[0],
+            &[],
+            "read fault\n",
+            4,
+            &[],
+        ),
+        (encode, &[0, 0], &[0], &[], "read fault\n", 4, &HARD),
+        ("decode", &[0, 0], &[0], &[], "read fault\n", 4, &[]),
+        (
+            "encode tb=1 g=2",
+            &[0, 0],
+            &[0],
+            &[0],
+            "bad words 5 at 3\n",
+            2,
+            &[],
+        ),
+        (channel, &unused, &[], &[], "bad stream 5 at 39\n", 3, &SOFT),
+        (encode, &[0, 0], &[], &[0], "write fault out\n", 5, &[]),
+        (encode, &[0, 0], &[], &[19], "write fault out\n", 5, &HARD),
+    ];
+    for (command, input, reads, outs, line, exit, out) in rows {
+        let line = line.as_bytes();
+        // The last run has no failure but those of the row.
+        for n in 0..=line.len() {
             let calls = [n as u64];
-            let ran = run_of(rt.alloc(), command, &[0, 1], failing(&[0], &[], &calls))?;
-            assert_eq!(rt; ran.status, Status::ReadFault);
-            assert_eq!(rt; ran.report.bytes(), &line[..n], "of {command}");
+            let ran = run_of(rt.alloc(), command, input, failing(reads, outs, &calls))?;
+            assert_eq!(rt; ran.status.exit(), exit, "of {command}");
+            assert_eq!(rt; ran.out.bytes(), out, "of {command}");
+            assert_eq!(rt;
+                ran.report.bytes(),
+                &line[..n.min(line.len())],
+                "of {command}"
+            );
         }
     }
     Ok(())
