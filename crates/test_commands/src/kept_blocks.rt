@@ -1,4 +1,5 @@
-//! Runs of `decode` over several code blocks, of which some pass at once.
+//! Runs of `decode` over several code blocks, of which some pass at once, by one worker and by several.
+use crate::shared_runs::assert_run;
 use std::test::Fail;
 use test_blocks::{sent_of_block, zeros_and_one};
 use test_runs::{END, bytes_of, expect_run, joined, large_header};
@@ -34,6 +35,7 @@ fn blocks_that_passed_are_kept(rt: HostRuntime) -> Result<(), Fail> {
         let alone = joined(rt.alloc(), &[&once, &length, &first, &END])?;
         let failed = (Status::SomeFailed, [].as_slice(), report);
         expect_run(rt.alloc(), "decode limit=3", &alone, failed)?;
+        assert_run(&rt, "decode limit=3 workers=4", &alone, failed)?;
         let twice = large_header(rt.alloc(), 2)?;
         let both = joined(
             rt.alloc(),
@@ -43,6 +45,7 @@ fn blocks_that_passed_are_kept(rt: HostRuntime) -> Result<(), Fail> {
             "block 0 delivered bytes 766 transmissions 2 iterations 2\nend blocks 1 delivered 1 failed 0\n";
         let done = (Status::Done, [0; 766].as_slice(), report);
         expect_run(rt.alloc(), "decode limit=3", &both, done)?;
+        assert_run(&rt, "decode limit=3 workers=4", &both, done)?;
     }
     Ok(())
 }

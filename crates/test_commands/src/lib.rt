@@ -20,4 +20,6 @@ mod relay_faults;
 #[cfg(test)]
 mod relay_runs;
 #[cfg(test)]
+mod shared_runs;
+#[cfg(test)]
 mod trial_runs;
