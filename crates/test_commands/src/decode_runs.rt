@@ -1,8 +1,8 @@
 //! Runs of `decode` and `batch` over memory.
 use std::test::Fail;
 use test_runs::{
-    END, HARD, LENGTH_2, SOFT, SOFT_TWICE, expect_run, failing_values, joined, run_of,
-    small_blocks, sound,
+    END, HARD, LENGTH_2, SOFT, SOFT_TWICE, expect_chain, expect_run, failing_values, joined,
+    run_of, small_blocks, sound,
 };
 use turbo_run::Status;
 
@@ -23,6 +23,7 @@ fn values_that_say_nothing_deliver_zeros(rt: HostRuntime) -> Result<(), Fail> {
 #[test]
 fn streams_that_are_cut_or_too_long_are_refused(rt: HostRuntime) -> Result<(), Fail> {
     let input = joined(rt.alloc(), &[&SOFT, &LENGTH_2, &[0; 132], &END, &[0]])?;
+    let whole = &input[..159.min(input.len())];
     let refused = |number: u8, place: u64| Status::BadStream { number, place };
     let cut = &input[..100.min(input.len())];
     let nothing: &[u8] = &[];
@@ -33,7 +34,7 @@ fn streams_that_are_cut_or_too_long_are_refused(rt: HostRuntime) -> Result<(), F
     expect_run(rt.alloc(), "decode", &input, ended)?;
     // A stream of the other kind.
     let ended = (refused(2, 4), nothing, "bad stream 2 at 4\n");
-    expect_run(rt.alloc(), "channel amp=1 noise=0 seed=0", &input, ended)?;
+    expect_run(rt.alloc(), "channel amp=1 noise=0 seed=0", whole, ended)?;
     expect_run(rt.alloc(), "decode", &HARD, ended)
 }
 
@@ -67,7 +68,25 @@ fn failed_blocks_add_a_line_alone(rt: HostRuntime) -> Result<(), Fail> {
                   block 1 delivered bytes 2 transmissions 1 iterations 1\n\
                   end blocks 2 delivered 1 failed 1\n";
     let failed = (Status::SomeFailed, [0u8, 0].as_slice(), report);
-    expect_run(rt.alloc(), "decode limit=3", &input, failed)
+    for decoder in DECODERS {
+        let line = format!(in rt.alloc(); "{decoder} limit=3")?;
+        expect_run(rt.alloc(), line.as_str(), &input, failed)?;
+    }
+    Ok(())
+}
+
+// The few parity bits say nothing of any one bit alone. So each is decided 0, and the checks of zeros hold.
+#[test]
+fn a_reception_of_little_but_parity_may_decode_to_zeros(rt: HostRuntime) -> Result<(), Fail> {
+    let channel = "channel amp=40 noise=0 seed=1";
+    let report = format!(in rt.alloc(); "{DELIVERED}end blocks 1 delivered 1 failed 0\n")?;
+    for (g, rv) in [(2, 2), (32, 2), (8, 3)] {
+        let encode = format!(in rt.alloc(); "encode tb=2 g={g} qm=2 rv={rv}")?;
+        let lines = [encode.as_str(), channel, "decode"];
+        let zeros = ([0u8, 0].as_slice(), report.as_str());
+        expect_chain(rt.alloc(), &lines, &[0xA5, 0x55], zeros)?;
+    }
+    Ok(())
 }
 
 #[test]
