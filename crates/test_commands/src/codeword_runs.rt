@@ -41,12 +41,9 @@ fn codewords_are_written_whole(rt: HostRuntime) -> Result<(), Fail> {
 #[test]
 fn lengths_up_to_18722_are_taken(rt: HostRuntime) -> Result<(), Fail> {
     let line = "codeword g=2 qm=2 rv=0";
-    expect_run(
-        rt.alloc(),
-        line,
-        &[],
-        (refused(0), &[], "bad stream 4 at 0\n"),
-    )?;
+    let none = (refused(0), [].as_slice(), "bad stream 4 at 0\n");
+    expect_run(rt.alloc(), line, &[], none)?;
+    expect_run(rt.alloc(), "codeword g=132 qm=2 rv=0", &[], none)?;
     let most = vec![in rt.alloc(); 0u8; 18_722]?;
     expect_run(
         rt.alloc(),
@@ -61,12 +58,24 @@ fn lengths_up_to_18722_are_taken(rt: HostRuntime) -> Result<(), Fail> {
 
 #[test]
 fn refused_words_read_and_write_nothing(rt: HostRuntime) -> Result<(), Fail> {
-    let status = Status::BadWords {
-        number: 8,
-        place: 5,
-    };
-    let line = "encode tb=766 g=132 qm=2 rv=0 nir=6176";
-    expect_run(rt.alloc(), line, &[1], (status, &[], "bad words 8 at 5\n"))
+    let rows = [
+        ("", 1, 0),
+        ("fly", 2, 0),
+        ("encode x=1", 3, 1),
+        ("encode tb=2 tb=3", 4, 2),
+        ("encode tb=2 qm=2 rv=0", 5, 4),
+        ("encode tb=02", 6, 1),
+        ("encode tb=2 g=132 qm=2 rv=4", 7, 4),
+        ("encode tb=2 g=133 qm=2 rv=0", 7, 2),
+        ("encode tb=18723", 7, 1),
+        ("encode tb=766 g=132 qm=2 rv=0 nir=6176", 8, 5),
+    ];
+    for (line, number, place) in rows {
+        let report = format!(in rt.alloc(); "bad words {number} at {place}\n")?;
+        let status = Status::BadWords { number, place };
+        expect_run(rt.alloc(), line, &[1], (status, &[], report.as_str()))?;
+    }
+    Ok(())
 }
 
 #[test]

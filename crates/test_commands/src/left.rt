@@ -13,13 +13,17 @@ fn no_byte_after_a_refused_unit_is_taken(rt: HostRuntime) -> Result<(), Fail> {
         *byte = 3;
     }
     let zeros = vec![in rt.alloc(); 0u8; 18_730]?;
-    let rows: [(&str, &[u8], usize); 10] = [
+    let rows: [(&str, &[u8], usize); 14] = [
         ("encode tb=2 g=132 qm=2 rv=0", &[0, 1], 0),
         ("codeword g=132 qm=2 rv=0", &[0, 1], 0),
         ("decode", &stream, 0),
         ("decode", &longer, 4),
         ("decode", &too_long, 136),
+        ("batch", &longer, 4),
+        ("batch", &too_long, 136),
         ("channel amp=40 noise=0 seed=1", &stream, 141),
+        ("scramble rnti=0 q=0 slot=0 cell=0", &longer, 4),
+        ("upgrade", &longer, 4),
         ("codeword g=2 qm=2 rv=0", &zeros, 7),
         ("encode tb=1 g=2 qm=2 rv=0", &zeros[..4100], 3),
         ("encode tb=0", &[0, 1], 2),

@@ -142,21 +142,15 @@ fn scrambled_streams_are_decoded_in_any_number_of_windows(rt: HostRuntime) -> Re
 
 #[test]
 fn points_of_two_bits_are_received_as_bits_are(rt: HostRuntime) -> Result<(), Fail> {
-    let first = &[0u8, 1];
     let encode = "encode tb=2 g=132 qm=2 rv=0";
-    let of_channel = chain_of(
-        rt.alloc(),
-        &[encode, "channel amp=40 noise=20 seed=5"],
-        first,
-    )?
-    .ok_or("some command ran")?;
-    let of_points = chain_of(
-        rt.alloc(),
-        &[encode, "points amp=40 noise=20 seed=5"],
-        first,
-    )?
-    .ok_or("some command ran")?;
-    assert_eq!(rt; of_channel.out.bytes(), of_points.out.bytes());
+    for payload in [[0u8, 0], [0, 1]] {
+        let channel = [encode, "channel amp=40 noise=20 seed=5"];
+        let points = [encode, "points amp=40 noise=20 seed=5"];
+        let of_channel = chain_of(rt.alloc(), &channel, &payload)?.ok_or("some command ran")?;
+        let of_points = chain_of(rt.alloc(), &points, &payload)?.ok_or("some command ran")?;
+        assert_eq!(rt; of_channel.status, Status::Done);
+        assert_eq!(rt; of_channel.out.bytes(), of_points.out.bytes());
+    }
     Ok(())
 }
 
