@@ -79,17 +79,18 @@ fn one_and_16_windows_come_back(rt: HostRuntime) -> Result<(), Fail> {
     Ok(())
 }
 
-/// Writes into each of a share's `width` cells the share's number and the cell's.
-fn sign(share: &mut Share<(usize, usize)>, width: usize, number: usize)
+/// Passes the gate, and then writes into each of a share's `width` cells the share's number and the cell's.
+fn sign(gate: &MeetingGate, share: &mut Share<(usize, usize)>, width: usize, number: usize)
     requires { width ≡ length (share_values share.old) }
     ensures { share_label share.new ≡ share_label share.old }
 {
+    gate.pass();
     for j in 0..width {
         share.set(j, (number, j));
     }
 }
 
-/// Signs all shares, each on a thread that has passed the gate.
+/// Signs all shares, each on a thread.
 fn sign_all<R: Threads + Sync>(
     rt: &R,
     gate: &MeetingGate,
@@ -103,10 +104,7 @@ fn sign_all<R: Threads + Sync>(
         rt,
         shares,
         4,
-        &|number, share| {
-            gate.pass();
-            sign(share, width, number);
-        },
+        &|number, share| sign(gate, share, width, number),
     );
 }
 
