@@ -5,7 +5,7 @@ use std::thread::yield_now;
 use tb_pipeline::Start;
 
 /// How often a worker that is held looks for the next job.
-const MOST_TURNS: u64 = 20_000_000;
+const MOST_TURNS: u64 = 4_000_000;
 
 /// A start that counts how often each job was begun, and holds each second one until the next was begun.
 #[derive(Drop)]

@@ -5,7 +5,7 @@ use tb_pipeline::Start;
 use window_workers::Gate;
 
 /// How often a worker that is held looks for the others.
-const MOST_TURNS: u64 = 20_000_000;
+const MOST_TURNS: u64 = 4_000_000;
 
 /// A gate that holds each worker that enters until so many have entered.
 #[derive(Drop)]
