@@ -108,7 +108,12 @@ fn write_payload(alloc: Global, seed: u64, block: u32, out: &mut [u8]) -> Result
 /// Fills `out`, of 1 to 18,722 bytes, with the payload of a trial's block, counted from 0. Answers 0, or
 /// a `Refusal`'s number, and then nothing is changed.
 #[unsafe(no_mangle)]
-pub extern "C" fn gomzelat_trial_payload(alloc: Global, seed: u64, block: u32, out: &mut [u8]) -> u32
+pub extern "C" fn gomzelat_trial_payload(
+    alloc: Global,
+    seed: u64,
+    block: u32,
+    out: &mut [u8],
+) -> u32
     ensures answer { IsTold result (first_failed (length_test (length out.old) ∷ [])) }
     ensures payload { result ≡ 0 → out.new ≡ trial_payload seed block (length out.old) }
     ensures kept { result ≢ 0 → out.new ≡ out.old }

@@ -58,7 +58,12 @@ fn write_block(alloc: Global, payload: &[u8], r: usize, out: &mut [u8]) -> Resul
 /// Writes to the beginning of `out` the K bits of code block `r` of a payload of 1 to 18,722 bytes, each
 /// 0 or 1, fillers 0. Answers 0, or a `Refusal`'s number, and then nothing is changed.
 #[unsafe(no_mangle)]
-pub extern "C" fn gomzelat_code_block(alloc: Global, payload: &[u8], r: usize, out: &mut [u8]) -> u32
+pub extern "C" fn gomzelat_code_block(
+    alloc: Global,
+    payload: &[u8],
+    r: usize,
+    out: &mut [u8],
+) -> u32
     ensures answer { IsTold result (first_failed (stage_tests (length payload.now) r
         (size (plan_of (length payload.now)) r) (length out.old))) }
     ensures bits { result ≡ 0 → out.new ≡ with_front (block_digits payload.now r) out.old }
