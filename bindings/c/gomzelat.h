@@ -118,6 +118,14 @@ struct gomzelat_transmission {
 uint32_t gomzelat_codeword(const uint8_t *payload, size_t length, struct gomzelat_transmission transmission,
                            uint32_t n_ir, uint8_t *out, size_t room);
 
+/* Writes the codewords of `count` transmissions, 1 to GOMZELAT_MOST_TRANSMISSIONS, with one soft buffer, from one
+ * coding of the transport block: to `out`, of `room` bytes, one after the other, each in GOMZELAT_BYTES(G) bytes of its
+ * own as gomzelat_codeword writes it; the bytes after them are left.
+ *
+ * Refused: BAD_LENGTH, BAD_COUNT, BAD_QM, BAD_NL, BAD_G, BAD_VERSION, BAD_BUFFER, SHORT_OUTPUT. */
+uint32_t gomzelat_codewords(const uint8_t *payload, size_t length, const struct gomzelat_transmission *transmissions,
+                            size_t count, uint32_t n_ir, uint8_t *out, size_t room);
+
 /* How a transport block is cut into code blocks (5.1.2): the first `c_minus` have `k_minus` bits, the others, `c_plus`
  * of them, `k_plus`, and `f` fillers stand first in the first one. */
 struct gomzelat_plan {
@@ -133,31 +141,51 @@ struct gomzelat_plan {
 uint32_t gomzelat_plan(size_t length, struct gomzelat_plan *plan);
 
 /* Writes the K bits of code block `r`, counted from 0, to `out`: each 0 or 1 in a byte, fillers 0, with all check bits.
- * Refused: BAD_LENGTH, BAD_NUMBER, SHORT_OUTPUT. */
+ * Refused: BAD_LENGTH, BAD_BLOCK, SHORT_OUTPUT. */
 uint32_t gomzelat_code_block(const uint8_t *payload, size_t length, size_t r, uint8_t *out, size_t room);
 
 /* Writes the coded streams d0, d1 and d2 of code block `r` (5.1.3.2) to `out`, one after the other, each of K + 4 cells:
- * 0, 1, or 2 at a NULL. Refused: BAD_LENGTH, BAD_NUMBER, SHORT_OUTPUT. */
+ * 0, 1, or 2 at a NULL. Refused: BAD_LENGTH, BAD_BLOCK, SHORT_OUTPUT. */
 uint32_t gomzelat_streams(const uint8_t *payload, size_t length, size_t r, uint8_t *out, size_t room);
 
 /* Writes to `out`, for each of the K_w places of the circular buffer of code block `r` (5.1.4.1), which bit stands there:
  * 65,536 times its stream, and its index; or 2^32 - 1 at a NULL. K_w is 96 times (K + 4) / 32, rounded up.
- * Refused: BAD_LENGTH, BAD_NUMBER, SHORT_OUTPUT. */
+ * Refused: BAD_LENGTH, BAD_BLOCK, SHORT_OUTPUT. */
 uint32_t gomzelat_spots(size_t length, size_t r, uint32_t *out, size_t room);
 
 /* What a code block sends of its circular buffer (5.1.4.1.2). */
 struct gomzelat_piece {
     size_t k;      /* its bits */
     size_t fill;   /* those that are fillers */
-    size_t places; /* N_cb */
+    size_t buffer; /* K_w, the places of its circular buffer */
+    size_t places; /* N_cb, those of them from which it sends */
     size_t start;  /* k0, which is below N_cb or is taken modulo N_cb */
     size_t bits;   /* E, the bits that are sent */
 };
 
 /* Leaves in `piece` what code block `r` of a payload of `length` bytes sends in a transmission.
- * Refused: BAD_LENGTH, BAD_QM, BAD_NL, BAD_G, BAD_VERSION, BAD_BUFFER, BAD_NUMBER. */
+ * Refused: BAD_LENGTH, BAD_QM, BAD_NL, BAD_G, BAD_VERSION, BAD_BUFFER, BAD_BLOCK. */
 uint32_t gomzelat_piece(size_t length, size_t r, struct gomzelat_transmission transmission, uint32_t n_ir,
                         struct gomzelat_piece *piece);
+
+/* Writes the E bits that code block `r` sends in a transmission to `out`, each 0 or 1 in a byte; the bytes after them
+ * are left. Block after block, these are the bits of the codeword.
+ * Refused: BAD_LENGTH, BAD_QM, BAD_NL, BAD_G, BAD_VERSION, BAD_BUFFER, BAD_BLOCK, SHORT_OUTPUT. */
+uint32_t gomzelat_select(const uint8_t *payload, size_t length, size_t r, struct gomzelat_transmission transmission,
+                         uint32_t n_ir, uint8_t *out, size_t room);
+
+/* The check bits of a transport block, and of a code block where there are several (5.1.1, 5.1.2). */
+#define GOMZELAT_CRC24A 0
+#define GOMZELAT_CRC24B 1
+
+/* Writes the 24 check bits of bits to `out`, each 0 or 1 in a byte, the first one first: by CRC24A, and by CRC24B.
+ *
+ * `bits`, `count`: a byte for each bit, in their order, where any byte but 0 is a 1; there may be any number of them,
+ * also none.
+ *
+ * Refused: SHORT_OUTPUT, where `room` is below 24. */
+uint32_t gomzelat_crc24a(const uint8_t *bits, size_t count, uint8_t *out, size_t room);
+uint32_t gomzelat_crc24b(const uint8_t *bits, size_t count, uint8_t *out, size_t room);
 
 /* How a receiver decodes. */
 struct gomzelat_receiver {
@@ -237,6 +265,27 @@ struct gomzelat_result {
 uint32_t gomzelat_decode(size_t length, struct gomzelat_receiver receiver, const int8_t *cells, size_t amount,
                          struct gomzelat_result *blocks, size_t count, uint8_t *bits, size_t extent,
                          uint8_t *payload, size_t room, uint32_t *delivered);
+
+/* A code block by itself. */
+struct gomzelat_code {
+    size_t k;       /* K, its bits: one of the 188 sizes */
+    size_t fill;    /* those of them that are fillers, which stand first: fewer than K */
+    uint32_t check; /* the check that it ends with: GOMZELAT_CRC24A or GOMZELAT_CRC24B */
+};
+
+/* Decodes one code block from the soft values of its coded streams, as gomzelat_decode decodes each.
+ *
+ * `windows`, `limit`: the most windows and the most iterations, as in gomzelat_receiver.
+ * `values`, `amount`: 3 * (K + 4) soft values: those of d0, of d1 and of d2 (5.1.3.2). What stands at the fillers of d0
+ * and d1 isn't used.
+ * `bits`, `room`: a byte 0 or 1 for each of the K bits is written here, fillers 0, whether or not the check holds; the
+ * bytes after them are left.
+ * `result`: whether the check holds, and the iterations that it took.
+ *
+ * Refused: BAD_SIZE, BAD_FILLERS, BAD_CHECK, BAD_WINDOWS, BAD_LIMIT, BAD_VALUES, SHORT_OUTPUT. */
+uint32_t gomzelat_decode_block(struct gomzelat_code block, uint32_t windows, uint32_t limit,
+                               const int8_t *values, size_t amount, uint8_t *bits, size_t room,
+                               struct gomzelat_result *result);
 
 /* A channel. */
 struct gomzelat_channel {
