@@ -307,6 +307,68 @@ uint32_t gomzelat_noisy(const uint8_t *bits, size_t length, size_t count, struct
  * does. Refused: BAD_LENGTH. */
 uint32_t gomzelat_trial_payload(uint64_t seed, uint32_t block, uint8_t *out, size_t length);
 
+/* ---- Between the bits of a codeword and what is sent (36.211): scrambling and points. Each call is by itself, so that
+ * a caller who has a channel of their own takes only those that they need. */
+
+/* What the bits of a transmission are scrambled by. */
+struct gomzelat_scrambling {
+    uint32_t rnti; /* n_RNTI, the terminal's identity: 0 to 65,535 */
+    uint32_t q;    /* q, the number of the codeword: 0 or 1; 0 in the uplink */
+    uint32_t slot; /* n_s, the slot within the radio frame: 0 to 19 */
+    uint32_t cell; /* the identity of the cell: 0 to 503 */
+};
+
+/* Leaves in `init` the number c_init, with which the sequence c of a transmission begins (36.211 6.3.1; with q = 0 also
+ * 5.3.1; the sequence itself 7.2). Refused: BAD_SCRAMBLING. */
+uint32_t gomzelat_init(struct gomzelat_scrambling scrambling, uint32_t *init);
+
+/* Scrambles the first `count` bits of `bits`, which has `length` bytes, where they stand: adds c(i) to bit i, modulo 2
+ * (36.211 5.3.1, 6.3.1). Unused low bits of their last byte become 0; the bytes after them are left. Scrambling once
+ * more gives the bits back.
+ *
+ * Refused: BAD_BITS, BAD_SCRAMBLING. */
+uint32_t gomzelat_scramble(uint8_t *bits, size_t length, size_t count, struct gomzelat_scrambling scrambling);
+
+/* Turns `amount` soft values of scrambled bits, where they stand, into those of the bits before: negates value i where
+ * c(i) is 1. -128 is taken as -127. Refused: BAD_SCRAMBLING. */
+uint32_t gomzelat_descramble(int8_t *values, size_t amount, struct gomzelat_scrambling scrambling);
+
+/* A point of a constellation, or one that was received. */
+struct gomzelat_point {
+    int32_t i;
+    int32_t q;
+};
+
+/* Writes to `points`, of `room` points, the count / Q_m points as which the first `count` bits of `bits` are sent, Q_m
+ * bits each; `bits` has `length` bytes. Their coordinates are odd numbers from -1 to 1, -3 to 3 or -7 to 7: those of
+ * 36.211 7.1.2 to 7.1.4, times the square root of 2, 10 or 42.
+ *
+ * `qm`: Q_m, 2 (QPSK), 4 (16QAM) or 6 (64QAM).
+ * `count`: a multiple of Q_m.
+ *
+ * Refused: BAD_QM, BAD_BITS, BAD_POINTS, SHORT_OUTPUT. */
+uint32_t gomzelat_map(const uint8_t *bits, size_t length, size_t count, uint32_t qm, struct gomzelat_point *points,
+                      size_t room);
+
+/* Writes to `out`, of `room` values, the Q_m soft values of each of `count` received points. A bit's value is by how
+ * much the nearest point whose bit is 1 is further than the nearest whose bit is 0, in squared distances, divided by
+ * four times the amplitude, rounded toward 0, and clamped to -127 to 127.
+ *
+ * `points`: coordinates from -4000 to 4000, those of gomzelat_map times the amplitude where there is no noise.
+ * `qm`: Q_m, 2, 4 or 6.
+ * `amp`: the amplitude, 1 to 127.
+ *
+ * Refused: BAD_QM, BAD_AMP, BAD_POINTS, SHORT_OUTPUT. */
+uint32_t gomzelat_demap(const struct gomzelat_point *points, size_t count, uint32_t qm, uint32_t amp, int8_t *out,
+                        size_t room);
+
+/* The edition of these declarations. */
+#define GOMZELAT_VERSION 2
+
+/* Returns the edition of the library, which can be compared with that of the header before any other call. It is no
+ * answer as those above are. */
+uint32_t gomzelat_version(void);
+
 #ifdef __cplusplus
 }
 #endif
