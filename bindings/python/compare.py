@@ -75,7 +75,7 @@ def differences(program: str, case: Case) -> tuple[str, list[str]]:
         codewords, softs = case.soft()
     except Refused as refused:
         # The program wants a buffer that fits each shorter payload too, which need no more.
-        same = (refused.number, status) == (7, 2)
+        same = (refused.number, status) == (8, 2)
         return "refused", [] if same else [f"refused with {refused.number}, and there {status}"]
     if status != 0:
         return "refused", [f"encode ended with {status}: {report}"]

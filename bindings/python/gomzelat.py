@@ -18,23 +18,23 @@ MOST_BYTES = 18722
 MOST_BITS = 1_000_000
 
 _REFUSALS = {
-    1: "a payload has 1 to 18722 bytes",
-    2: "there are 1 to 8 transmissions",
-    3: "Q_m is 2, 4 or 6",
-    4: "N_L is 1 or 2",
-    5: "G is 1 to 1000000 and a multiple of N_L * Q_m",
-    6: "a redundancy version is 0 to 3",
-    7: "N_IR is too small for the payload",
-    8: "there are 1 to 64 windows at most",
-    9: "there are 1 to 16 iterations at most",
-    10: "there is a soft value for each bit of the transmissions",
-    11: "there are fewer bytes than the bits need",
-    12: "the amplitude is 1 to 127",
-    13: "the noise is 0 to 127",
-    14: "a transmission's number is 0 to 7",
-    15: "the buffer for what is written is too short",
+    2: "a payload has 1 to 18722 bytes",
+    3: "there are 1 to 8 transmissions",
+    4: "Q_m is 2, 4 or 6",
+    5: "N_L is 1 or 2",
+    6: "G is 1 to 1000000 and a multiple of N_L * Q_m",
+    7: "a redundancy version is 0 to 3",
+    8: "N_IR is too small for the payload",
+    10: "there are 1 to 64 windows at most",
+    11: "there are 1 to 16 iterations at most",
+    15: "there is a soft value for each bit of the transmissions",
+    16: "there are fewer bytes than the bits need",
+    17: "the amplitude is 1 to 127",
+    18: "the noise is 0 to 127",
+    19: "a transmission's number is 0 to 7",
+    22: "the buffer for what is written is too short",
 }
-_NO_MEMORY = 16
+_NO_MEMORY = 1
 
 
 class Refused(ValueError):
@@ -129,7 +129,7 @@ def _load() -> ctypes.CDLL:
         "plan": [size, memory],
         "receive": [size, memory, size, _Receiver, memory, size, memory, size, memory],
         "noisy": [memory, size, size, _Channel, u32, u32, memory, size],
-        "payload": [u64, u32, memory, size],
+        "trial_payload": [u64, u32, memory, size],
     }.items():
         function = getattr(library, f"gomzelat_{call}")
         function.argtypes, function.restype = arguments, u32

@@ -12,14 +12,14 @@ GOOD = Transmission(qm=2, g=132, rv=0)
 CHANNEL = Channel(amp=40, noise=20, seed=5)
 # Transmissions with one bad number, and what is refused.
 BAD = [
-    (Transmission(qm=3, g=132, rv=0), 3),
-    (Transmission(qm=258, g=132, rv=0, nl=9), 3),
-    (Transmission(qm=2, g=132, rv=0, nl=0), 4),
-    (Transmission(qm=2, g=0, rv=0, nl=257), 4),
-    (Transmission(qm=2, g=133, rv=0), 5),
-    (Transmission(qm=2, g=2**32 - 2, rv=9), 5),
-    (Transmission(qm=2, g=132, rv=4), 6),
-    (Transmission(qm=2, g=132, rv=256), 6),
+    (Transmission(qm=3, g=132, rv=0), 4),
+    (Transmission(qm=258, g=132, rv=0, nl=9), 4),
+    (Transmission(qm=2, g=132, rv=0, nl=0), 5),
+    (Transmission(qm=2, g=0, rv=0, nl=257), 5),
+    (Transmission(qm=2, g=133, rv=0), 6),
+    (Transmission(qm=2, g=2**32 - 2, rv=9), 6),
+    (Transmission(qm=2, g=132, rv=4), 7),
+    (Transmission(qm=2, g=132, rv=256), 7),
 ]
 
 
@@ -41,11 +41,11 @@ class Calls(unittest.TestCase):
             self.assertEqual(codeword(SENT, Transmission(qm=2, g=8, rv=rv)), byte)
 
     def test_what_is_refused_of_a_codeword(self):
-        self.refuses(1, codeword, b"", GOOD)
-        self.refuses(1, codeword, bytes(18723), GOOD)
+        self.refuses(2, codeword, b"", GOOD)
+        self.refuses(2, codeword, bytes(18723), GOOD)
         for transmission, number in BAD:
             self.refuses(number, codeword, SENT, transmission, n_ir=1)
-        self.refuses(7, codeword, SENT, GOOD, n_ir=63)
+        self.refuses(8, codeword, SENT, GOOD, n_ir=63)
         with self.assertRaises(TypeError):
             codeword(array.array("d", [0, 1]), GOOD)
         with self.assertRaises(ValueError):
@@ -55,7 +55,7 @@ class Calls(unittest.TestCase):
         self.assertEqual(plan(1), Plan(c=1, k_plus=40, k_minus=0, c_plus=1, c_minus=0, f=8))
         self.assertEqual(plan(9422), Plan(c=13, k_plus=5824, k_minus=5760, c_plus=13, c_minus=0, f=0))
         for length in (0, 18723, 2**64 - 1):
-            self.refuses(1, plan, length)
+            self.refuses(2, plan, length)
 
     def test_what_was_sent_is_received(self):
         values = strong(CODEWORD, 132)
@@ -71,18 +71,18 @@ class Calls(unittest.TestCase):
         self.assertEqual(receive(2, [GOOD], memoryview(wide)[::2]).payload, SENT)
 
     def test_what_is_refused_of_a_reception(self):
-        self.refuses(1, receive, 0, [], [])
-        self.refuses(1, receive, 2**64 - 1, [], [])
-        self.refuses(2, receive, 2, [], [])
-        self.refuses(2, receive, 2, [GOOD] * 9, [0] * (9 * 132))
+        self.refuses(2, receive, 0, [], [])
+        self.refuses(2, receive, 2**64 - 1, [], [])
+        self.refuses(3, receive, 2, [], [])
+        self.refuses(3, receive, 2, [GOOD] * 9, [0] * (9 * 132))
         for transmission, number in BAD:
             self.refuses(number, receive, 2, [GOOD, transmission], [])
-        self.refuses(7, receive, 2, [GOOD], [0] * 132, n_ir=63)
-        self.refuses(8, receive, 2, [GOOD], [0] * 132, windows=0, limit=0)
-        self.refuses(8, receive, 2, [GOOD], [0] * 132, windows=65)
-        self.refuses(9, receive, 2, [GOOD], [], limit=17)
-        self.refuses(10, receive, 2, [GOOD], [0] * 131)
-        self.refuses(10, receive, 2, [GOOD], [])
+        self.refuses(8, receive, 2, [GOOD], [0] * 132, n_ir=63)
+        self.refuses(10, receive, 2, [GOOD], [0] * 132, windows=0, limit=0)
+        self.refuses(10, receive, 2, [GOOD], [0] * 132, windows=65)
+        self.refuses(11, receive, 2, [GOOD], [], limit=17)
+        self.refuses(15, receive, 2, [GOOD], [0] * 131)
+        self.refuses(15, receive, 2, [GOOD], [])
         with self.assertRaises(TypeError):
             receive(2, [GOOD], bytes(132))
 
@@ -96,13 +96,13 @@ class Calls(unittest.TestCase):
         self.assertEqual(list(noisy(b"", 0, CHANNEL)), [])
 
     def test_what_is_refused_of_a_channel(self):
-        self.refuses(11, noisy, bytes(2), 17, CHANNEL)
-        self.refuses(11, noisy, b"", 2**64 - 1, CHANNEL)
-        self.refuses(12, noisy, b"\0", 8, Channel(amp=0, noise=200, seed=1))
-        self.refuses(13, noisy, b"\0", 8, Channel(amp=1, noise=128, seed=1), number=9)
-        self.refuses(14, noisy, b"\0", 8, CHANNEL, number=8)
-        self.refuses(1, payload, 0, 1)
-        self.refuses(1, payload, 2**64 - 1, 1)
+        self.refuses(16, noisy, bytes(2), 17, CHANNEL)
+        self.refuses(16, noisy, b"", 2**64 - 1, CHANNEL)
+        self.refuses(17, noisy, b"\0", 8, Channel(amp=0, noise=200, seed=1))
+        self.refuses(18, noisy, b"\0", 8, Channel(amp=1, noise=128, seed=1), number=9)
+        self.refuses(19, noisy, b"\0", 8, CHANNEL, number=8)
+        self.refuses(2, payload, 0, 1)
+        self.refuses(2, payload, 2**64 - 1, 1)
 
     def test_arrays_of_numpy_are_taken(self):
         try:

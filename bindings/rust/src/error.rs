@@ -2,9 +2,12 @@
 
 use std::fmt;
 
-/// What is refused, or that memory ran out.
+/// What is refused, or that memory ran out. A later version of the library may refuse more.
 #[derive(Clone, Copy, Debug, PartialEq, Eq, Hash)]
+#[non_exhaustive]
 pub enum Error {
+    /// Memory ran out.
+    NoMemory,
     /// A payload has no bytes, or more than 18,722.
     BadLength,
     /// There are no transmissions, or more than eight.
@@ -19,11 +22,19 @@ pub enum Error {
     BadVersion,
     /// N_IR is too small for the payload.
     BadBuffer,
+    /// There is no code block of that number.
+    BadBlock,
     /// The greatest number of windows is 0, or above 64.
     BadWindows,
     /// The greatest number of iterations is 0, or above 16.
     BadLimit,
-    /// There aren't as many soft values as the transmissions have bits.
+    /// K isn't one of the 188 sizes of a code block.
+    BadSize,
+    /// There are as many fillers as bits, or more.
+    BadFillers,
+    /// The check of a code block is neither CRC24A nor CRC24B.
+    BadCheck,
+    /// There aren't as many soft values as there have to be.
     BadValues,
     /// There are fewer bytes than the bits need.
     BadBits,
@@ -33,8 +44,18 @@ pub enum Error {
     BadNoise,
     /// A transmission's number is above 7.
     BadNumber,
-    /// Memory ran out.
-    NoMemory,
+    /// n_RNTI is above 65,535, q above 1, n_s above 19, or the cell's identity above 503.
+    BadScrambling,
+    /// The bits are no multiple of Q_m, or a coordinate isn't from -4000 to 4000.
+    BadPoints,
+    /// A buffer is too short for what is written.
+    ShortOutput,
+    /// There are fewer soft cells than the code blocks have.
+    ShortCells,
+    /// There are fewer entries than code blocks.
+    ShortBlocks,
+    /// There are fewer bytes than the code blocks have bits.
+    ShortBits,
     /// The library answered a number that this crate doesn't know: it is of another version.
     Unknown(u32),
 }
@@ -43,22 +64,31 @@ pub enum Error {
 pub(crate) fn done(answer: u32) -> Result<(), Error> {
     Err(match answer {
         0 => return Ok(()),
-        1 => Error::BadLength,
-        2 => Error::BadCount,
-        3 => Error::BadQm,
-        4 => Error::BadNl,
-        5 => Error::BadG,
-        6 => Error::BadVersion,
-        7 => Error::BadBuffer,
-        8 => Error::BadWindows,
-        9 => Error::BadLimit,
-        10 => Error::BadValues,
-        11 => Error::BadBits,
-        12 => Error::BadAmp,
-        13 => Error::BadNoise,
-        14 => Error::BadNumber,
-        16 => Error::NoMemory,
-        // 15 is a buffer that is too short, and those of this crate never are.
+        1 => Error::NoMemory,
+        2 => Error::BadLength,
+        3 => Error::BadCount,
+        4 => Error::BadQm,
+        5 => Error::BadNl,
+        6 => Error::BadG,
+        7 => Error::BadVersion,
+        8 => Error::BadBuffer,
+        9 => Error::BadBlock,
+        10 => Error::BadWindows,
+        11 => Error::BadLimit,
+        12 => Error::BadSize,
+        13 => Error::BadFillers,
+        14 => Error::BadCheck,
+        15 => Error::BadValues,
+        16 => Error::BadBits,
+        17 => Error::BadAmp,
+        18 => Error::BadNoise,
+        19 => Error::BadNumber,
+        20 => Error::BadScrambling,
+        21 => Error::BadPoints,
+        22 => Error::ShortOutput,
+        23 => Error::ShortCells,
+        24 => Error::ShortBlocks,
+        25 => Error::ShortBits,
         other => Error::Unknown(other),
     })
 }
@@ -66,6 +96,7 @@ pub(crate) fn done(answer: u32) -> Result<(), Error> {
 impl fmt::Display for Error {
     fn fmt(&self, f: &mut fmt::Formatter<'_>) -> fmt::Result {
         f.write_str(match self {
+            Error::NoMemory => "no memory",
             Error::BadLength => "a payload has 1 to 18722 bytes",
             Error::BadCount => "there are 1 to 8 transmissions",
             Error::BadQm => "Q_m is 2, 4 or 6",
@@ -73,14 +104,23 @@ impl fmt::Display for Error {
             Error::BadG => "G is 1 to 1000000 and a multiple of N_L * Q_m",
             Error::BadVersion => "a redundancy version is 0 to 3",
             Error::BadBuffer => "N_IR is too small for the payload",
+            Error::BadBlock => "there is no code block of that number",
             Error::BadWindows => "there are 1 to 64 windows at most",
             Error::BadLimit => "there are 1 to 16 iterations at most",
-            Error::BadValues => "there is a soft value for each bit of the transmissions",
+            Error::BadSize => "K is one of the 188 sizes of a code block",
+            Error::BadFillers => "there are fewer fillers than bits",
+            Error::BadCheck => "a check is CRC24A or CRC24B",
+            Error::BadValues => "there is a soft value for each bit",
             Error::BadBits => "there are fewer bytes than the bits need",
             Error::BadAmp => "the amplitude is 1 to 127",
             Error::BadNoise => "the noise is 0 to 127",
             Error::BadNumber => "a transmission's number is 0 to 7",
-            Error::NoMemory => "no memory",
+            Error::BadScrambling => "a number of the scrambling is out of range",
+            Error::BadPoints => "bits are a multiple of Q_m, coordinates from -4000 to 4000",
+            Error::ShortOutput => "a buffer is too short for what is written",
+            Error::ShortCells => "there are fewer soft cells than the code blocks have",
+            Error::ShortBlocks => "there are fewer entries than code blocks",
+            Error::ShortBits => "there are fewer bytes than the code blocks have bits",
             Error::Unknown(answer) => return write!(f, "the library answered {answer}"),
         })
     }

@@ -27,6 +27,22 @@ pub struct Outcome {
     pub iterations: usize,
 }
 
+#[repr(C)]
+#[derive(Default)]
+pub struct Sizes {
+    pub cells: usize,
+    pub blocks: usize,
+    pub bits: usize,
+}
+
+/// What a code block came to. The library takes any number but 0 for one that passed.
+#[repr(C)]
+#[derive(Clone, Copy, Debug, Default)]
+pub struct Block {
+    pub passed: u32,
+    pub iterations: usize,
+}
+
 unsafe extern "C" {
     pub fn gomzelat_codeword(
         payload: *const u8,
@@ -49,6 +65,32 @@ unsafe extern "C" {
         payload: *mut u8,
         room: usize,
         outcome: &mut Outcome,
+    ) -> u32;
+
+    pub fn gomzelat_sizes(length: usize, sizes: &mut Sizes) -> u32;
+
+    pub fn gomzelat_combine(
+        length: usize,
+        transmission: Transmission,
+        n_ir: u32,
+        values: *const i8,
+        amount: usize,
+        cells: *mut i8,
+        room: usize,
+    ) -> u32;
+
+    pub fn gomzelat_decode(
+        length: usize,
+        receiver: Receiver,
+        cells: *const i8,
+        amount: usize,
+        blocks: *mut Block,
+        count: usize,
+        bits: *mut u8,
+        extent: usize,
+        payload: *mut u8,
+        room: usize,
+        delivered: &mut u32,
     ) -> u32;
 
     pub fn gomzelat_noisy(

@@ -23,9 +23,11 @@
 
 mod error;
 mod ffi;
+mod harq;
 mod types;
 
 pub use error::Error;
+pub use harq::{Harq, Try};
 pub use types::{Buffer, Channel, Outcome, Plan, Receiver, Transmission};
 
 use error::done;

@@ -1,6 +1,6 @@
 //! The calls against worked values, and each refusal by its name.
 
-use gomzelat::{Buffer, Channel, Error, Outcome, Plan, Receiver, Transmission};
+use gomzelat::{Buffer, Channel, Error, Harq, Outcome, Plan, Receiver, Transmission};
 use gomzelat::{codeword, noisy, payload, plan, receive};
 use std::num::NonZeroU32;
 
@@ -257,4 +257,63 @@ fn what_is_refused_of_a_channel_is_named() {
     assert_eq!(noisy(&[0], 8, CHANNEL, 0, 8), Err(Error::BadNumber));
     assert_eq!(payload(0, 1, 0), Err(Error::BadLength));
     assert_eq!(payload(usize::MAX, 1, 0), Err(Error::BadLength));
+}
+
+#[test]
+fn call_by_call_a_block_comes_to_what_it_comes_to_at_once() {
+    let mut harq = Harq::new(2, RECEIVER).expect("a length that isn't refused");
+    let second = Transmission { rv: 2, ..GOOD };
+    let values = strong(&CODEWORD, 132);
+    harq.combine(GOOD, &[-1; 132]).expect("all is right");
+    assert!(!harq.decode().expect("all is right").delivered);
+    assert_eq!(harq.combine(second, &[1; 131]), Err(Error::BadValues));
+    harq.combine(GOOD, &values).expect("all is right");
+    let now = harq.decode().expect("all is right");
+    assert!(now.delivered && now.failed_blocks == 0 && now.bits.len() == 40);
+    assert_eq!(now.payload, SENT);
+    let both = [vec![-1; 132], values].concat();
+    let at_once = receive(2, &[GOOD; 2], RECEIVER, &both);
+    assert_eq!(
+        at_once,
+        Ok(Outcome::Delivered {
+            payload: SENT.to_vec(),
+            transmissions: 2,
+            iterations: now.iterations
+        })
+    );
+}
+
+#[test]
+fn what_is_refused_call_by_call_is_named() {
+    assert!(matches!(Harq::new(0, RECEIVER), Err(Error::BadLength)));
+    for (transmission, error) in BAD {
+        let mut harq = Harq::new(2, RECEIVER).expect("a length that isn't refused");
+        assert_eq!(harq.combine(transmission, &[]), Err(error));
+    }
+    for (receiver, error) in [
+        (
+            Receiver {
+                buffer: limited(63),
+                ..RECEIVER
+            },
+            Error::BadBuffer,
+        ),
+        (
+            Receiver {
+                windows: 0,
+                ..RECEIVER
+            },
+            Error::BadWindows,
+        ),
+        (
+            Receiver {
+                limit: 17,
+                ..RECEIVER
+            },
+            Error::BadLimit,
+        ),
+    ] {
+        let mut harq = Harq::new(2, receiver).expect("a length that isn't refused");
+        assert_eq!(harq.decode().err(), Some(error));
+    }
 }

@@ -1,0 +1,3 @@
+/* Random calls of scrambling and of constellation points. */
+
+#define SIGNALS NULL
