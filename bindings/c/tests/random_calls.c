@@ -4,6 +4,7 @@
  *
  *     random_calls CALLS SEED PROCESSES */
 #include "guarded.h"
+#include "signals.h"
 #include "standard.h"
 
 #include <inttypes.h>
@@ -42,8 +43,22 @@ static void ready(void) {
     for (int i = 0; i < used; i++) keep(uses[i].slot);
 }
 
+/* Which answers came of which calls, over all processes. */
+static struct {
+    char call[32];
+    size_t came[64];
+} *seen;
+
+static void note(const char *call, uint32_t answer) {
+    size_t i = 0;
+    while (seen[i].call[0] && strcmp(seen[i].call, call) != 0) i++;
+    snprintf(seen[i].call, sizeof seen[i].call, "%s", call);
+    if (answer < 64) seen[i].came[answer]++;
+}
+
 /* Compares an answer with the one that is due, and the buffers with what they held. */
 static void judge(const char *call, uint32_t answer, uint32_t due) {
+    note(call, answer);
     if (answer != due) {
         printf("%s: %" PRIu32 " (%s), and not %" PRIu32 "\n", call, answer, gomzelat_text(answer), due);
         failures++;
