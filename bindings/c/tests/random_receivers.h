@@ -10,16 +10,11 @@ static size_t an_amount(size_t need) {
 
 static void receive(void) {
     const size_t length = one_in(50) ? SIZE_MAX : a_length();
-    const size_t count = one_in(20) ? 9 * below(2) : 1 + below(one_in(20) ? 8 : 2);
+    const size_t count = a_count();
     const struct gomzelat_receiver receiver = a_receiver(length);
     struct gomzelat_transmission *ts = buffer(count, sizeof *ts, 0);
-    uint32_t refused = FIRST(length_refused(length), count == 0 || count > 8 ? GOMZELAT_BAD_COUNT : 0);
     size_t bits = 0;
-    for (size_t i = 0; i < count; i++) {
-        ts[i] = a_transmission();
-        refused = FIRST(refused, transmission_refused(ts[i]));
-        if (!refused) bits += ts[i].g;
-    }
+    uint32_t refused = FIRST(length_refused(length), transmissions_drawn(ts, count, &bits));
     if (!refused) refused = FIRST(buffer_refused(length, receiver.n_ir), decoder_refused(receiver.windows, receiver.limit));
     const size_t amount = an_amount(refused ? 9 : bits), room = a_room(refused ? 9 : length);
     if (!refused && amount != bits) refused = GOMZELAT_BAD_VALUES;
@@ -99,6 +94,29 @@ static void decode(void) {
     if (answer == 0) hold("decode, delivered", *delivered <= 1);
 }
 
+static void decode_block(void) {
+    struct gomzelat_code block = {.k = 40 + 8 * below(20), .check = a_number(0, 1)};
+    if (one_in(20)) block.k = (size_t[]){0, 39, 41, 520, 6152, 6145, SIZE_MAX}[below(7)];
+    block.fill = one_in(20) ? block.k + below(3) : one_in(2) ? 0 : below(block.k ? block.k : 1);
+    const uint32_t windows = a_number(1, 64), limit = a_number(1, 16);
+    uint32_t refused = FIRST(is_block_size(block.k) ? 0 : GOMZELAT_BAD_SIZE, block.fill >= block.k ? GOMZELAT_BAD_FILLERS : 0,
+                             block.check > 1 ? GOMZELAT_BAD_CHECK : 0, decoder_refused(windows, limit));
+    const size_t due = refused ? 9 : 3 * (block.k + 4), amount = an_amount(due), need = refused ? 9 : block.k;
+    if (!refused && amount != due) refused = GOMZELAT_BAD_VALUES;
+    const size_t room = a_room(need);
+    const int8_t *values = buffer(amount, 1, 0);
+    uint8_t *bits = buffer(room, 1, need);
+    struct gomzelat_result *result = structure(sizeof *result, true);
+    ready();
+    const uint32_t answer = gomzelat_decode_block(block, windows, limit, values, amount, bits, room, result);
+    const struct gomzelat_result came = *result;
+    judge("decode_block", answer, refused ? refused : short_of(room, need, GOMZELAT_SHORT_OUTPUT));
+    if (answer != 0) return;
+    for (size_t i = 0; i < need; i++) hold("decode_block, a bit", bits[i] <= (i >= block.fill));
+    hold("decode_block, iterations", 1 <= came.iterations && came.iterations <= limit);
+    hold("decode_block, its check", came.passed == (crc24_of(bits, need, block.check ? 0x800063 : 0x864CFB) == 0));
+}
+
 static void noisy(void) {
     const size_t length = below(60), most = 8 * length, count = one_in(20) ? most + 1 + below(9) : below(most + 1);
     const struct gomzelat_channel channel = {.seed = drawn(), .amp = a_number(1, 127), .noise = a_number(0, 127)};
@@ -115,4 +133,4 @@ static void noisy(void) {
     for (size_t i = 0; answer == 0 && i < count; i++) hold("noisy, a value", out[i] != -128);
 }
 
-#define RECEIVERS receive, sizes, combine, combine, decode, noisy
+#define RECEIVERS receive, sizes, combine, decode, decode_block, noisy

@@ -65,7 +65,7 @@ static void map(void) {
     if (!due) due = FIRST(count % qm != 0 ? GOMZELAT_BAD_POINTS : 0, short_of(room, need, GOMZELAT_SHORT_OUTPUT));
     judge("map", answer, due);
     for (size_t n = 0; answer == 0 && n < need; n++) {
-        int told[6];
+        int told[6] = {0};
         for (uint32_t i = 0; i < qm; i++) told[i] = bit_at(bits, n * qm + i);
         hold("map, a point", points[n].i == coordinate(told, qm) && points[n].q == coordinate(told + 1, qm));
     }

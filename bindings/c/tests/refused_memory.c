@@ -42,6 +42,9 @@ void __wrap_free(void *old) {
 static const struct gomzelat_transmission ts[2] = {{2, 1, BITS, 0}, {4, 2, BITS, 2}};
 static const struct gomzelat_receiver receiver = {.n_ir = 36000, .windows = 7, .limit = 2};
 static const struct gomzelat_channel channel = {.seed = 1, .amp = 40, .noise = 10};
+static const struct gomzelat_code code = {.k = 4672, .fill = 32, .check = GOMZELAT_CRC24B};
+static const struct gomzelat_scrambling scrambling = {.rnti = 9, .q = 1, .slot = 3, .cell = 5};
+static struct gomzelat_point points[4000];
 static uint8_t payload[LENGTH], codeword[2][BITS / 8];
 static int8_t values[2 * BITS];
 
@@ -51,6 +54,7 @@ static struct {
     uint32_t words[20000];
     int8_t cells[60000];
     struct gomzelat_result blocks[3];
+    struct gomzelat_point points[4000];
     struct gomzelat_plan plan;
     struct gomzelat_piece piece;
     struct gomzelat_sizes sizes;
@@ -61,6 +65,7 @@ static struct {
 #define CALL(name, ...) \
     static uint32_t call_##name(void) { return gomzelat_##name(__VA_ARGS__); }
 CALL(codeword, payload, LENGTH, ts[1], 36000, at.bytes, sizeof at.bytes)
+CALL(codewords, payload, LENGTH, ts, 2, 36000, at.bytes, sizeof at.bytes)
 CALL(plan, LENGTH, &at.plan)
 CALL(code_block, payload, LENGTH, 1, at.bytes, sizeof at.bytes)
 CALL(streams, payload, LENGTH, 1, at.bytes, sizeof at.bytes)
@@ -73,12 +78,22 @@ CALL(decode, LENGTH, receiver, at.cells, sizeof at.cells, at.blocks, 3, at.bytes
      &at.number)
 CALL(noisy, codeword[0], BITS / 8, BITS, channel, 0, 0, at.cells, sizeof at.cells)
 CALL(trial_payload, 1, 0, at.bytes, LENGTH)
+CALL(select, payload, LENGTH, 1, ts[1], 36000, at.bytes, sizeof at.bytes)
+CALL(crc24a, payload, LENGTH, at.bytes, sizeof at.bytes)
+CALL(crc24b, payload, LENGTH, at.bytes, sizeof at.bytes)
+CALL(decode_block, code, 7, 2, values, 3 * (4672 + 4), at.bytes, sizeof at.bytes, at.blocks)
+CALL(init, scrambling, &at.number)
+CALL(scramble, at.bytes, 5000, 39999, scrambling)
+CALL(descramble, at.cells, sizeof at.cells, scrambling)
+CALL(map, codeword[0], BITS / 8, BITS, 6, at.points, 4000)
+CALL(demap, points, 4000, 6, 30, at.cells, sizeof at.cells)
 
 static const struct {
     const char *name;
     uint32_t (*call)(void);
 } calls[] = {
     {"codeword", call_codeword},
+    {"codewords", call_codewords},
     {"plan", call_plan},
     {"code_block", call_code_block},
     {"streams", call_streams},
@@ -90,6 +105,15 @@ static const struct {
     {"decode", call_decode},
     {"noisy", call_noisy},
     {"trial_payload", call_trial_payload},
+    {"select", call_select},
+    {"crc24a", call_crc24a},
+    {"crc24b", call_crc24b},
+    {"decode_block", call_decode_block},
+    {"init", call_init},
+    {"scramble", call_scramble},
+    {"descramble", call_descramble},
+    {"map", call_map},
+    {"demap", call_demap},
 };
 
 static void prepare(void) {

@@ -42,7 +42,7 @@ static inline int coordinate(const int *bits, uint32_t qm) {
 static inline int soft_of(struct gomzelat_point at, uint32_t qm, int bit, int amp) {
     int64_t nearest[2] = {INT64_MAX, INT64_MAX};
     for (int point = 0; point < 1 << qm; point++) {
-        int bits[6];
+        int bits[6] = {0};
         for (uint32_t i = 0; i < qm; i++) bits[i] = point >> i & 1;
         const int64_t x = at.i - (int64_t)amp * coordinate(bits, qm), y = at.q - (int64_t)amp * coordinate(bits + 1, qm);
         if (x * x + y * y < nearest[bits[bit]]) nearest[bits[bit]] = x * x + y * y;

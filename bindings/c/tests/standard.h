@@ -47,12 +47,23 @@ static inline size_t all_bits(const struct gomzelat_plan *plan) {
 static inline struct gomzelat_piece piece_of(const struct gomzelat_plan *plan, size_t r,
                                              struct gomzelat_transmission t, uint32_t n_ir) {
     struct gomzelat_piece piece = {.k = block_size(plan, r), .fill = r == 0 ? plan->f : 0};
-    const size_t rows = rows_of(piece.k), kw = 96 * rows, of_buffer = n_ir == 0 ? kw : n_ir / plan->c;
-    piece.places = of_buffer < kw ? of_buffer : kw;
+    const size_t rows = rows_of(piece.k), of_buffer = n_ir == 0 ? SIZE_MAX : n_ir / plan->c;
+    piece.buffer = 96 * rows;
+    piece.places = of_buffer < piece.buffer ? of_buffer : piece.buffer;
     const size_t unit = (size_t)t.nl * t.qm, units = t.g / unit, gamma = units % plan->c;
     piece.bits = unit * (units / plan->c + (r >= plan->c - gamma));
     piece.start = rows * (2 * ((piece.places + 8 * rows - 1) / (8 * rows)) * t.rv + 2);
     return piece;
+}
+
+/* The 24 check bits of bits, of which any byte but 0 is a 1 (5.1.1). `generator` is its polynomial without D^24. */
+static inline uint32_t crc24_of(const uint8_t *bits, size_t count, uint32_t generator) {
+    uint32_t rest = 0;
+    for (size_t i = 0; i < count; i++) {
+        const uint32_t carry = (rest >> 23 ^ (bits[i] != 0)) & 1;
+        rest = (rest << 1 & 0xFFFFFF) ^ (carry ? generator : 0);
+    }
+    return rest;
 }
 
 /* ---- What is refused: each test gives its answer, or 0. */
