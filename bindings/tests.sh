@@ -23,6 +23,33 @@ refused_memory() {
     compiled refused_memory -Wl,--wrap=malloc,--wrap=calloc,--wrap=realloc,--wrap=free && "$work/refused_memory"
 }
 
+measuring_compiles() {
+    compiled speed && compiled costs -pthread -Wl,--wrap=malloc,--wrap=realloc,--wrap=free
+}
+
+# A million calls; and each answer that the header names for a function came of it.
+random_calls() {
+    of_c random_calls 1000000 1 "$(nproc)" >"$work/said" || { cat "$work/said" && return 1; }
+    awk '
+        /^ *GOMZELAT_[A-Z_0-9]* = [0-9]/ { gsub(/,/, ""); number[$1] = $3 }
+        /Refused:/ { told = ""; reads = 1 }
+        reads { told = told " " $0 }
+        /\*\// { reads = 0 }
+        /^uint32_t gomzelat_[a-z0-9_]*\(/ {
+            match($0, /gomzelat_[a-z0-9_]*/)
+            name = substr($0, RSTART, RLENGTH)
+            if (name == "gomzelat_version") next
+            sub(/.*Refused:/, "", told)
+            print name, 0
+            for (rest = told; match(rest, /(BAD|SHORT)_[A-Z]+/); rest = substr(rest, RSTART + RLENGTH))
+                print name, number["GOMZELAT_" substr(rest, RSTART, RLENGTH)]
+        }
+    ' "$top/bindings/c/gomzelat.h" | sort >"$work/wanted"
+    sed -n 's/^answers of //p' "$work/said" | awk -F '[: ]+' '{ for (i = 2; i <= NF; i++) print $1, $i }' | sort \
+        >"$work/came"
+    diff "$work/wanted" "$work/came"
+}
+
 threads_under_helgrind() {
     compiled concurrent -pthread && "$work/concurrent" &&
         valgrind -q --tool=helgrind --error-exitcode=1 "$work/concurrent"
@@ -103,6 +130,20 @@ target_link_libraries(example_static gomzelat::static)
 END_OF_CMAKE
     cmake -S "$work/cmake" -B "$work/cmake/out" "-DCMAKE_PREFIX_PATH=$work/installed" &&
         cmake --build "$work/cmake/out" && "$work/cmake/out/example" && "$work/cmake/out/example_static"
+}
+
+# What bindings/pack leaves, unpacked elsewhere: the program runs, and the library is found and called.
+packed() {
+    local folder
+    "$top/bindings/pack" "$work/packed" >"$work/said" && mkdir -p "$work/unpacked" &&
+        tar -xzf "$(tail -n 1 "$work/said")" -C "$work/unpacked" || return 1
+    folder=$(echo "$work"/unpacked/*)
+    (cd "$folder" && sha256sum --quiet -c SHA256SUMS) &&
+        printf '\x00\x01' | "$folder/bin/turbo" codeword g=8 qm=2 rv=1 | od -An -tx1 | grep -q '^ 24$' || return 1
+    # shellcheck disable=SC2046
+    "${CC:-cc}" -o "$work/packed_example" "$folder/share/doc/gomzelat/bindings/c/example.c" \
+        $(PKG_CONFIG_PATH=$folder/lib/pkgconfig pkg-config --cflags --libs gomzelat) &&
+        LD_LIBRARY_PATH=$folder/lib "$work/packed_example"
 }
 
 of_rust() {
