@@ -1,19 +1,36 @@
 /* The coding chain of LTE transport blocks, 3GPP TS 36.212 5.1.1 to 5.1.5, with a receiver and a channel: the calls of
- * libgomzelat. They are proved to do what is said here; docs/LIBRARY_C.md says how to build and link.
+ * libgomzelat. What is proved is the crate behind these declarations; the declarations are tested. docs/LIBRARY_C.md
+ * says how to build, install and link.
  *
- * Every call answers a number: GOMZELAT_DONE, or what is refused. All arguments are tested, in the order of the
- * numbers and transmission after transmission, and the first that is refused is told. Then, and where memory runs
- * out, no buffer and no structure of the caller is changed.
- *
- * A pointer that comes with a length has to lead to so much memory, and may be null where that length is 0. The
- * others must not be null. What a call writes to must not overlap anything else that it is passed. The caller owns
- * all buffers; a call takes working memory by malloc and gives it back before it returns. Nothing is kept from one
- * call to the next, so that several threads may call at once.
+ * Every call but gomzelat_version answers a number: GOMZELAT_DONE, or what is refused. All arguments are tested, in the
+ * order of the numbers and transmission after transmission, and the first that is refused is told. Then, and where
+ * memory runs out, no buffer and no structure of the caller is changed.
  *
  * Bits stand in bytes with the highest bit first. A soft value is a number from -127 to 127, above 0 where its bit is
- * rather 0 and below 0 where it is rather 1; -128 is taken as -127. */
+ * rather 0 and below 0 where it is rather 1; -128 is taken as -127.
+ *
+ * What a caller owes:
+ *
+ * - A pointer that comes with a length leads to so much memory, and may be null where that length is 0. The others are
+ *   not null. What a call writes to doesn't overlap anything else that it is passed.
+ * - What is passed doesn't change during a call. Several threads may call at once, and share what they only pass to be
+ *   read: nothing is kept from one call to the next, and no call starts a thread.
+ * - malloc, realloc and free are those of one allocator, and may be called: a call takes working memory and gives it
+ *   back before it returns. So no call is made from a signal handler, nor in the child that a process of several
+ *   threads forked. The caller owns all buffers.
+ * - A call may take 16 kB of stack. As measured, none takes more than 9 kB; of malloc's memory gomzelat_receive takes
+ *   9 MB at most, for eight transmissions of a million bits, gomzelat_combine 3 MB, gomzelat_noisy 2 MB, gomzelat_decode
+ *   and gomzelat_codeword 1.4 MB, and a reception of one transmission of 100,000 bits about 1.6 MB. bindings/c/costs.c
+ *   measures them.
+ * - The system is Linux on x86-64, and the processor has what x86-64-v2 names: SSE4.2, SSSE3, POPCNT. Nothing asks it.
+ *
+ * In later editions structures may grow, at their end alone, and there may be more answers, after these. */
 #ifndef GOMZELAT_H
 #define GOMZELAT_H
+
+#if !defined(__x86_64__) || !defined(__linux__) || defined(__ILP32__)
+#error "libgomzelat is for Linux on x86-64, with pointers of 64 bits"
+#endif
 
 #include <stddef.h>
 #include <stdint.h>
@@ -187,10 +204,12 @@ uint32_t gomzelat_select(const uint8_t *payload, size_t length, size_t r, struct
 uint32_t gomzelat_crc24a(const uint8_t *bits, size_t count, uint8_t *out, size_t room);
 uint32_t gomzelat_crc24b(const uint8_t *bits, size_t count, uint8_t *out, size_t room);
 
-/* How a receiver decodes. */
+/* How a receiver decodes. A code block of K bits has the greatest number of windows up to `windows` that divides K and
+ * leaves each of them 8 bits. 8, 16 and 32 of them run in lock step, which is fastest: 8 for every K from 64 on, 16 from
+ * 512 on, 32 from 1,024 on. More windows know less of the bits beyond their borders, and decode a little worse. */
 struct gomzelat_receiver {
     uint32_t n_ir;    /* N_IR, as for gomzelat_codeword; 0 is a full buffer */
-    uint32_t windows; /* the most windows of a code block: 1 to 64; 8, 16 and 32 run in lock step, which is fastest */
+    uint32_t windows; /* the most windows of a code block: 1 to 64 */
     uint32_t limit;   /* the most iterations of a code block: 1 to 16 */
 };
 
@@ -208,6 +227,11 @@ struct gomzelat_outcome {
  *
  * `values`, `amount`: the soft values of all transmissions, one transmission after the other, as many as they have
  * bits.
+ *
+ * THE ZERO BLOCK. Where what is received has little but parity bits (redundancy version 2 or 3 comes first, and the
+ * payload has more bits than were sent), the decoder comes to all zeros, and the checks of zeros hold: a block of zeros
+ * may be delivered that wasn't sent, far more often than checks of 24 bits hold by chance. So a payload of zeros isn't
+ * to be trusted there: wait for a transmission that has the systematic bits (redundancy version 0).
  *
  * Refused: BAD_LENGTH, BAD_COUNT, BAD_QM, BAD_NL, BAD_G, BAD_VERSION, BAD_BUFFER, BAD_WINDOWS, BAD_LIMIT, BAD_VALUES,
  * SHORT_OUTPUT. */
@@ -259,7 +283,8 @@ struct gomzelat_result {
  * included: before the call those of the call before, and after it those that are decided, also of blocks that failed.
  * Of what is held any byte but 0 is taken as 1.
  * `payload`, `room`: the bytes that these bits carry are written here, whether or not the checks hold.
- * `delivered`: 1 where the checks of all code blocks and of the transport block hold, else 0.
+ * `delivered`: 1 where the checks of all code blocks and of the transport block hold, else 0. A payload of zeros from
+ * little but parity bits isn't to be trusted: see THE ZERO BLOCK at gomzelat_receive.
  *
  * Refused: BAD_LENGTH, BAD_BUFFER, BAD_WINDOWS, BAD_LIMIT, SHORT_OUTPUT, SHORT_CELLS, SHORT_BLOCKS, SHORT_BITS. */
 uint32_t gomzelat_decode(size_t length, struct gomzelat_receiver receiver, const int8_t *cells, size_t amount,

@@ -1,0 +1,114 @@
+/* How much stack and how much of malloc's memory each call takes at most, for the largest payload, transmissions and
+ * numbers of windows: the figures of gomzelat.h. Link with -Wl,--wrap=malloc,--wrap=realloc,--wrap=free. */
+#include "gomzelat.h"
+
+#include <malloc.h>
+#include <pthread.h>
+#include <stdio.h>
+#include <stdlib.h>
+#include <string.h>
+
+#define STACK ((size_t)1 << 20)
+#define PAINT 0xA5
+#define MOST GOMZELAT_MOST_TRANSMISSIONS
+#define LENGTH GOMZELAT_MOST_BYTES
+#define BITS 999996
+
+static size_t in_use, most_in_use;
+void *__real_malloc(size_t), *__real_realloc(void *, size_t);
+void __real_free(void *);
+void *__wrap_malloc(size_t), *__wrap_realloc(void *, size_t);
+void __wrap_free(void *);
+
+static void *counted(void *made) {
+    in_use += malloc_usable_size(made);
+    if (in_use > most_in_use) most_in_use = in_use;
+    return made;
+}
+void *__wrap_malloc(size_t size) { return counted(__real_malloc(size)); }
+/* Both may be there while the old one is copied. */
+void *__wrap_realloc(void *old, size_t size) {
+    const size_t had = malloc_usable_size(old);
+    if (in_use + size > most_in_use) most_in_use = in_use + size;
+    in_use -= had;
+    return counted(__real_realloc(old, size));
+}
+void __wrap_free(void *old) {
+    in_use -= malloc_usable_size(old);
+    __real_free(old);
+}
+
+static uint8_t payload[LENGTH], packed[MOST * GOMZELAT_BYTES(BITS)], got[LENGTH], bytes[1 << 20];
+static uint32_t words[65536];
+static int8_t values[MOST * (size_t)BITS], cells[GOMZELAT_MOST_CELLS];
+static struct gomzelat_result blocks[GOMZELAT_MOST_BLOCKS];
+static struct gomzelat_transmission ts[MOST];
+static struct gomzelat_receiver receiver = {.n_ir = 0, .windows = 8, .limit = 2};
+
+static void codeword(void) { gomzelat_codeword(payload, LENGTH, ts[0], 0, packed, sizeof packed); }
+static void code_block(void) { gomzelat_code_block(payload, LENGTH, 1, bytes, sizeof bytes); }
+static void streams(void) { gomzelat_streams(payload, LENGTH, 1, bytes, sizeof bytes); }
+static void spots(void) { gomzelat_spots(LENGTH, 1, words, 65536); }
+static void receive(void) {
+    struct gomzelat_outcome outcome;
+    gomzelat_receive(LENGTH, ts, MOST, receiver, values, sizeof values, got, LENGTH, &outcome);
+}
+static void combine(void) { gomzelat_combine(LENGTH, ts[0], 0, values, BITS, cells, sizeof cells); }
+static void decode(void) {
+    uint32_t delivered;
+    memset(blocks, 0, sizeof blocks);
+    gomzelat_decode(LENGTH, receiver, cells, sizeof cells, blocks, GOMZELAT_MOST_BLOCKS, bytes, sizeof bytes, got,
+                    LENGTH, &delivered);
+}
+static void noisy(void) {
+    const struct gomzelat_channel channel = {.seed = 1, .amp = 40, .noise = 40};
+    gomzelat_noisy(packed, sizeof packed, BITS, channel, 0, 0, values, BITS);
+}
+static void trial_payload(void) { gomzelat_trial_payload(1, 0, got, LENGTH); }
+
+static const struct {
+    const char *name;
+    void (*call)(void);
+} calls[] = {
+    {"codeword", codeword}, {"code_block", code_block}, {"streams", streams}, {"spots", spots},
+    {"receive", receive},   {"combine", combine},       {"decode", decode},   {"noisy", noisy},
+    {"trial_payload", trial_payload},
+};
+
+static void *nothing(void *unused) { return unused; }
+static void *run(void *call) {
+    (*(void (**)(void))call)();
+    return NULL;
+}
+
+/* How deep a thread went into a stack that was painted before. */
+static size_t stack_of(void *(*body)(void *), void *argument) {
+    static uint8_t *stack;
+    pthread_attr_t attributes;
+    pthread_t thread;
+    if (!stack && posix_memalign((void **)&stack, 4096, STACK) != 0) exit(1);
+    memset(stack, PAINT, STACK);
+    pthread_attr_init(&attributes);
+    pthread_attr_setstack(&attributes, stack, STACK);
+    if (pthread_create(&thread, &attributes, body, argument) != 0) exit(1);
+    pthread_join(thread, NULL);
+    size_t untouched = 0;
+    while (untouched < STACK && stack[untouched] == PAINT) untouched++;
+    return STACK - untouched;
+}
+
+int main(void) {
+    for (size_t i = 0; i < LENGTH; i++) payload[i] = (uint8_t)(i * i + 7 * i);
+    for (uint32_t t = 0; t < MOST; t++) ts[t] = (struct gomzelat_transmission){.qm = 6, .nl = 2, .g = BITS, .rv = t % 4};
+    for (size_t i = 0; i < sizeof values; i++) values[i] = (int8_t)(i % 7 - 3);
+    const size_t empty = stack_of(nothing, NULL);
+    for (size_t i = 0; i < sizeof calls / sizeof *calls; i++)
+        for (receiver.windows = 7; receiver.windows <= 64; receiver.windows = receiver.windows == 7 ? 8 : 2 * receiver.windows) {
+            most_in_use = in_use;
+            const size_t before = in_use, deep = stack_of(run, (void *)&calls[i].call);
+            printf("%-14s %2u windows: stack %6zu bytes, malloc %9zu bytes\n", calls[i].name, (unsigned)receiver.windows,
+                   deep - empty, most_in_use - before);
+            if (calls[i].call != receive && calls[i].call != decode) break;
+        }
+    return 0;
+}
