@@ -1,6 +1,7 @@
 /* How many codewords, and how many receptions, one thread makes in a second of its processor's time. The blocks are
  * those of docs/MEASURING.md: 9,422 bytes, with G = 90,000 sent, and with G = 82,800 received in so much noise that
- * none is delivered, so that all iterations are made. */
+ * none is delivered, so that all iterations are made. And what one transmission more costs, call by call and by a
+ * reception from the beginning. */
 #include "gomzelat.h"
 
 #include <stdio.h>
@@ -30,6 +31,52 @@ static uint32_t receive(uint32_t windows) {
     return answer != GOMZELAT_DONE ? answer : outcome.delivered;
 }
 
+#define MOST 8
+static int8_t all_values[MOST * RECEIVED_BITS], cells[GOMZELAT_MOST_CELLS];
+static struct gomzelat_result blocks[GOMZELAT_MOST_BLOCKS];
+static uint8_t decided[GOMZELAT_MOST_BLOCK_BITS];
+static struct gomzelat_transmission sent[MOST];
+static const struct gomzelat_receiver receiver = {.n_ir = 0, .windows = 8, .limit = 8};
+
+/* Milliseconds of a reception of the first `count` transmissions. */
+static double at_once(size_t count) {
+    struct gomzelat_outcome outcome;
+    const clock_t begin = clock();
+    gomzelat_receive(LENGTH, sent, count, receiver, all_values, count * RECEIVED_BITS, got, LENGTH, &outcome);
+    return 1000 * seconds_since(begin);
+}
+
+/* Milliseconds of adding transmission `number` and of a try. */
+static double one_more(size_t number, uint32_t *delivered) {
+    const clock_t begin = clock();
+    gomzelat_combine(LENGTH, sent[number], 0, all_values + number * RECEIVED_BITS, RECEIVED_BITS, cells, sizeof cells);
+    gomzelat_decode(LENGTH, receiver, cells, sizeof cells, blocks, GOMZELAT_MOST_BLOCKS, decided, sizeof decided, got,
+                    LENGTH, delivered);
+    return 1000 * seconds_since(begin);
+}
+
+/* Transmissions in so much noise that some come through only together. */
+static uint32_t one_after_the_other(void) {
+    const struct gomzelat_channel channel = {.seed = 1, .amp = 8, .noise = 14};
+    uint32_t answer = GOMZELAT_DONE, delivered = 0;
+    for (uint32_t t = 0; t < MOST && answer == GOMZELAT_DONE; t++) {
+        sent[t] = (struct gomzelat_transmission){.qm = 6, .nl = 1, .g = RECEIVED_BITS, .rv = (uint32_t[]){0, 2, 3, 1}[t % 4]};
+        answer = gomzelat_codeword(payload, LENGTH, sent[t], 0, bits, sizeof bits);
+        if (answer == GOMZELAT_DONE)
+            answer = gomzelat_noisy(bits, sizeof bits, RECEIVED_BITS, channel, 0, t, all_values + t * RECEIVED_BITS,
+                                    RECEIVED_BITS);
+    }
+    double so_far = 0, again = 0;
+    for (size_t t = 0; t < MOST && answer == GOMZELAT_DONE && !delivered; t++) {
+        const double more = one_more(t, &delivered), whole = at_once(t + 1);
+        so_far += more;
+        again += whole;
+        printf("transmission %zu: %.1f ms more, %.1f ms from the beginning; all so far %.1f and %.1f\n", t + 1, more,
+               whole, so_far, again);
+    }
+    return answer;
+}
+
 int main(void) {
     if (gomzelat_trial_payload(1, 0, payload, LENGTH) != GOMZELAT_DONE)
         return 1;
@@ -55,5 +102,5 @@ int main(void) {
         printf("%.2f receptions a second in at most %u windows\n", (double)receptions / seconds_since(begin),
                (unsigned)windows);
     }
-    return 0;
+    return one_after_the_other() != GOMZELAT_DONE;
 }
