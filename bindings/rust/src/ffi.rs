@@ -1,5 +1,7 @@
 //! The library's calls, as the header declares them.
 
+use crate::signals::{Point, Scrambling};
+use crate::stages::Piece;
 use crate::types::{self, Channel, Plan, Transmission};
 
 #[repr(C)]
@@ -41,6 +43,13 @@ pub struct Sizes {
 pub struct Block {
     pub passed: u32,
     pub iterations: usize,
+}
+
+#[repr(C)]
+pub struct Code {
+    pub k: usize,
+    pub fill: usize,
+    pub check: u32,
 }
 
 unsafe extern "C" {
@@ -105,4 +114,96 @@ unsafe extern "C" {
     ) -> u32;
 
     pub fn gomzelat_trial_payload(seed: u64, block: u32, out: *mut u8, length: usize) -> u32;
+
+    pub fn gomzelat_codewords(
+        payload: *const u8,
+        length: usize,
+        transmissions: *const Transmission,
+        count: usize,
+        n_ir: u32,
+        out: *mut u8,
+        room: usize,
+    ) -> u32;
+
+    pub fn gomzelat_code_block(
+        payload: *const u8,
+        length: usize,
+        r: usize,
+        out: *mut u8,
+        room: usize,
+    ) -> u32;
+
+    pub fn gomzelat_streams(
+        payload: *const u8,
+        length: usize,
+        r: usize,
+        out: *mut u8,
+        room: usize,
+    ) -> u32;
+
+    pub fn gomzelat_spots(length: usize, r: usize, out: *mut u32, room: usize) -> u32;
+
+    pub fn gomzelat_piece(
+        length: usize,
+        r: usize,
+        transmission: Transmission,
+        n_ir: u32,
+        piece: &mut Piece,
+    ) -> u32;
+
+    pub fn gomzelat_select(
+        payload: *const u8,
+        length: usize,
+        r: usize,
+        transmission: Transmission,
+        n_ir: u32,
+        out: *mut u8,
+        room: usize,
+    ) -> u32;
+
+    pub fn gomzelat_crc24a(bits: *const u8, count: usize, out: *mut u8, room: usize) -> u32;
+
+    pub fn gomzelat_crc24b(bits: *const u8, count: usize, out: *mut u8, room: usize) -> u32;
+
+    pub fn gomzelat_decode_block(
+        block: Code,
+        windows: u32,
+        limit: u32,
+        values: *const i8,
+        amount: usize,
+        bits: *mut u8,
+        room: usize,
+        result: &mut Block,
+    ) -> u32;
+
+    pub fn gomzelat_init(scrambling: Scrambling, init: &mut u32) -> u32;
+
+    pub fn gomzelat_scramble(
+        bits: *mut u8,
+        length: usize,
+        count: usize,
+        scrambling: Scrambling,
+    ) -> u32;
+
+    pub fn gomzelat_descramble(values: *mut i8, amount: usize, scrambling: Scrambling) -> u32;
+
+    pub fn gomzelat_map(
+        bits: *const u8,
+        length: usize,
+        count: usize,
+        qm: u32,
+        points: *mut Point,
+        room: usize,
+    ) -> u32;
+
+    pub fn gomzelat_demap(
+        points: *const Point,
+        count: usize,
+        qm: u32,
+        amp: u32,
+        out: *mut i8,
+        room: usize,
+    ) -> u32;
+
+    pub fn gomzelat_version() -> u32;
 }

@@ -21,11 +21,15 @@
 //! # Ok::<(), gomzelat::Error>(())
 //! ```
 
+mod channel;
 mod error;
 mod ffi;
 mod harq;
+pub mod signals;
+pub mod stages;
 mod types;
 
+pub use channel::{noisy, payload};
 pub use error::Error;
 pub use harq::{Harq, Try};
 pub use types::{Buffer, Channel, Outcome, Plan, Receiver, Transmission};
@@ -63,6 +67,50 @@ pub fn codeword(
         )
     })?;
     Ok(out)
+}
+
+/// The codewords of one to eight transmissions, from one coding of the payload.
+///
+/// # Errors
+///
+/// `BadLength`, `BadCount`, `BadQm`, `BadNl`, `BadG`, `BadVersion` or `BadBuffer` for what is refused, the first in this
+/// order; `NoMemory`.
+pub fn codewords(
+    payload: &[u8],
+    transmissions: &[Transmission],
+    buffer: Buffer,
+) -> Result<Vec<Vec<u8>>, Error> {
+    // More transmissions, and a greater G, are refused, with no need of room.
+    let sizes = transmissions
+        .iter()
+        .take(8)
+        .map(|it| (it.g.min(MOST_BITS) as usize).div_ceil(8));
+    let mut out = vec![0; sizes.clone().sum()];
+    // SAFETY: pointers and lengths are those of slices that are borrowed for the call, and only `out` is written to.
+    done(unsafe {
+        ffi::gomzelat_codewords(
+            payload.as_ptr(),
+            payload.len(),
+            transmissions.as_ptr(),
+            transmissions.len(),
+            buffer.n_ir(),
+            out.as_mut_ptr(),
+            out.len(),
+        )
+    })?;
+    let mut rest = out.as_slice();
+    let next = |size| {
+        let (one, others) = rest.split_at(size);
+        rest = others;
+        one.to_vec()
+    };
+    Ok(sizes.map(next).collect())
+}
+
+/// The edition of the library that is linked.
+pub fn version() -> u32 {
+    // SAFETY: nothing is passed.
+    unsafe { ffi::gomzelat_version() }
 }
 
 /// How a payload of `length` bytes, 1 to 18,722, is cut into code blocks.
@@ -125,48 +173,4 @@ pub fn receive(
             iterations,
         }
     })
-}
-
-/// A soft value for each of the first `count` bits, as the channel makes them of transmission `number`, 0 to 7, of a
-/// block, both counted from 0.
-///
-/// # Errors
-///
-/// `BadBits`, `BadAmp`, `BadNoise` or `BadNumber` for what is refused, the first in this order; `NoMemory`.
-pub fn noisy(
-    bits: &[u8],
-    count: usize,
-    channel: Channel,
-    block: u32,
-    number: u32,
-) -> Result<Vec<i8>, Error> {
-    // More bits than there are are refused, with no need of room.
-    let mut out = vec![0; count.min(bits.len().saturating_mul(8))];
-    // SAFETY: pointers and lengths are those of slices that are borrowed for the call, and only `out` is written to.
-    done(unsafe {
-        ffi::gomzelat_noisy(
-            bits.as_ptr(),
-            bits.len(),
-            count,
-            channel,
-            block,
-            number,
-            out.as_mut_ptr(),
-            out.len(),
-        )
-    })?;
-    Ok(out)
-}
-
-/// The payload of `length` bytes, 1 to 18,722, of a block, counted from 0, from a seed.
-///
-/// # Errors
-///
-/// `BadLength`; `NoMemory`.
-pub fn payload(length: usize, seed: u64, block: u32) -> Result<Vec<u8>, Error> {
-    // One byte too many is refused as any greater length is.
-    let mut out = vec![0; length.min(MOST_BYTES + 1)];
-    // SAFETY: pointer and length are those of a slice that is borrowed for the call.
-    done(unsafe { ffi::gomzelat_trial_payload(seed, block, out.as_mut_ptr(), out.len()) })?;
-    Ok(out)
 }

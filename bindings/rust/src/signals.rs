@@ -1,0 +1,100 @@
+//! Scrambling and constellation points (36.211).
+
+use crate::error::done;
+use crate::{Error, ffi};
+
+/// What the bits of a transmission are scrambled by: n_RNTI, 0 to 65,535; q, 0 or 1; n_s, 0 to 19; and the cell's
+/// identity, 0 to 503.
+#[repr(C)]
+#[derive(Clone, Copy, Debug, PartialEq, Eq, Hash)]
+pub struct Scrambling {
+    pub rnti: u32,
+    pub q: u32,
+    pub slot: u32,
+    pub cell: u32,
+}
+
+/// A point of a constellation, or one that was received.
+#[repr(C)]
+#[derive(Clone, Copy, Debug, Default, PartialEq, Eq, Hash)]
+pub struct Point {
+    pub i: i32,
+    pub q: i32,
+}
+
+/// c_init, the number that the scrambling sequence begins with (6.3.1).
+///
+/// # Errors
+///
+/// `BadScrambling`.
+pub fn scrambling_init(scrambling: Scrambling) -> Result<u32, Error> {
+    let mut init = 0;
+    // SAFETY: the reference is that of a number of its own.
+    done(unsafe { ffi::gomzelat_init(scrambling, &mut init) })?;
+    Ok(init)
+}
+
+/// Scrambles the first `count` bits where they stand; unused low bits of their last byte become 0.
+///
+/// # Errors
+///
+/// `BadBits` or `BadScrambling` for what is refused, the first in this order; `NoMemory`.
+pub fn scramble(bits: &mut [u8], count: usize, scrambling: Scrambling) -> Result<(), Error> {
+    // SAFETY: pointer and length are those of a slice that is borrowed for the call.
+    done(unsafe { ffi::gomzelat_scramble(bits.as_mut_ptr(), bits.len(), count, scrambling) })
+}
+
+/// Turns soft values of scrambled bits, where they stand, into those of the bits before.
+///
+/// # Errors
+///
+/// `BadScrambling`; `NoMemory`.
+pub fn descramble(values: &mut [i8], scrambling: Scrambling) -> Result<(), Error> {
+    // SAFETY: pointer and length are those of a slice that is borrowed for the call.
+    done(unsafe { ffi::gomzelat_descramble(values.as_mut_ptr(), values.len(), scrambling) })
+}
+
+/// The points as which the first `count` bits are sent, Q_m bits each: odd coordinates, up to 1, 3 or 7.
+///
+/// # Errors
+///
+/// `BadQm`, `BadBits` or `BadPoints` for what is refused, the first in this order; `NoMemory`.
+pub fn map(bits: &[u8], count: usize, qm: u32) -> Result<Vec<Point>, Error> {
+    // More bits than there are are refused, with no need of room.
+    let mut points = vec![Point::default(); count.min(bits.len().saturating_mul(8))];
+    // SAFETY: pointers and lengths are those of slices that are borrowed for the call, and only `points` is written to.
+    done(unsafe {
+        ffi::gomzelat_map(
+            bits.as_ptr(),
+            bits.len(),
+            count,
+            qm,
+            points.as_mut_ptr(),
+            points.len(),
+        )
+    })?;
+    points.truncate(count / qm as usize);
+    Ok(points)
+}
+
+/// The Q_m soft values of each received point, whose coordinates are from -4000 to 4000.
+///
+/// # Errors
+///
+/// `BadQm`, `BadAmp` or `BadPoints` for what is refused, the first in this order; `NoMemory`.
+pub fn demap(points: &[Point], qm: u32, amp: u32) -> Result<Vec<i8>, Error> {
+    // A greater Q_m is refused, with no need of room.
+    let mut out = vec![0; points.len() * qm.min(6) as usize];
+    // SAFETY: pointers and lengths are those of slices that are borrowed for the call, and only `out` is written to.
+    done(unsafe {
+        ffi::gomzelat_demap(
+            points.as_ptr(),
+            points.len(),
+            qm,
+            amp,
+            out.as_mut_ptr(),
+            out.len(),
+        )
+    })?;
+    Ok(out)
+}
