@@ -98,7 +98,7 @@ only_calls_are_global() {
     {
         echo '#include "gomzelat.h"'
         for name in $names; do echo "int $name(void); int $name(void) { return 1; }"; done
-        echo 'int main(void) { struct gomzelat_plan plan; return (int)gomzelat_plan(1, &plan); }'
+        echo 'int main(void) { uint8_t out[1]; return (int)gomzelat_trial_payload(1, 0, out, 1); }'
     } >"$work/clash.c"
     "${CC:-cc}" -fno-builtin "-I$top/bindings/c" -o "$work/clash" "$work/clash.c" "$out/libgomzelat.a" && "$work/clash"
 }

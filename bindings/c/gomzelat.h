@@ -18,10 +18,10 @@
  * - malloc, realloc and free are those of one allocator, and may be called: a call takes working memory and gives it
  *   back before it returns. So no call is made from a signal handler, nor in the child that a process of several
  *   threads forked. The caller owns all buffers.
- * - A call may take 16 kB of stack. As measured, none takes more than 9 kB; of malloc's memory gomzelat_receive takes
- *   9 MB at most, for eight transmissions of a million bits, gomzelat_combine 3 MB, gomzelat_noisy 2 MB, gomzelat_decode
- *   and gomzelat_codeword 1.4 MB, and a reception of one transmission of 100,000 bits about 1.6 MB. bindings/c/costs.c
- *   measures them.
+ * - There are 16 kB of stack for a call; as measured, none takes more than 9 kB. Of malloc's memory, as measured,
+ *   gomzelat_receive takes 0.7 MB at most for one transmission of 9,422 bytes in 90,000 bits, and 9 MB for the longest
+ *   block in eight transmissions of a million bits; gomzelat_combine 3 MB, gomzelat_noisy 2 MB, and each other call less
+ *   than 1.5 MB (bindings/c/costs.c measures them).
  * - The system is Linux on x86-64, and the processor has what x86-64-v2 names: SSE4.2, SSSE3, POPCNT. Nothing asks it.
  *
  * In later editions structures may grow, at their end alone, and there may be more answers, after these. */
