@@ -24,7 +24,8 @@
  *   than 1.5 MB (bindings/c/costs.c measures them).
  * - The system is Linux on x86-64, and the processor has what x86-64-v2 names: SSE4.2, SSSE3, POPCNT. Nothing asks it.
  *
- * In later editions structures may grow, at their end alone, and there may be more answers, after these. */
+ * In later editions structures may grow, at their end alone, and there may be more answers, after these: a program that
+ * is compiled anew stays right, and one that was compiled before doesn't load a library of another edition. */
 #ifndef GOMZELAT_H
 #define GOMZELAT_H
 
