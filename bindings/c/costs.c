@@ -40,12 +40,25 @@ void __wrap_free(void *old) {
 
 static uint8_t payload[LENGTH], packed[MOST * GOMZELAT_BYTES(BITS)], got[LENGTH], bytes[1 << 20];
 static uint32_t words[65536];
+static struct gomzelat_point points[BITS / 6];
 static int8_t values[MOST * (size_t)BITS], cells[GOMZELAT_MOST_CELLS];
 static struct gomzelat_result blocks[GOMZELAT_MOST_BLOCKS];
 static struct gomzelat_transmission ts[MOST];
 static struct gomzelat_receiver receiver = {.n_ir = 0, .windows = 8, .limit = 2};
 
 static void codeword(void) { gomzelat_codeword(payload, LENGTH, ts[0], 0, packed, sizeof packed); }
+static void codewords(void) { gomzelat_codewords(payload, LENGTH, ts, MOST, 0, packed, sizeof packed); }
+static void select_bits(void) { gomzelat_select(payload, LENGTH, 1, ts[0], 0, bytes, sizeof bytes); }
+static void crc24a(void) { gomzelat_crc24a(bytes, 149776, got, LENGTH); }
+static void decode_block(void) {
+    const struct gomzelat_code block = {.k = 6144, .fill = 0, .check = GOMZELAT_CRC24B};
+    gomzelat_decode_block(block, receiver.windows, 2, values, 3 * (6144 + 4), bytes, sizeof bytes, blocks);
+}
+static const struct gomzelat_scrambling scrambling = {.rnti = 1, .q = 0, .slot = 2, .cell = 3};
+static void scramble(void) { gomzelat_scramble(packed, sizeof packed, BITS, scrambling); }
+static void descramble(void) { gomzelat_descramble(values, BITS, scrambling); }
+static void map(void) { gomzelat_map(packed, sizeof packed, BITS, 6, points, BITS / 6); }
+static void demap(void) { gomzelat_demap(points, BITS / 6, 6, 40, values, BITS); }
 static void code_block(void) { gomzelat_code_block(payload, LENGTH, 1, bytes, sizeof bytes); }
 static void streams(void) { gomzelat_streams(payload, LENGTH, 1, bytes, sizeof bytes); }
 static void spots(void) { gomzelat_spots(LENGTH, 1, words, 65536); }
@@ -75,9 +88,24 @@ static const struct {
     const char *name;
     void (*call)(void);
 } calls[] = {
-    {"codeword", codeword}, {"code_block", code_block}, {"streams", streams}, {"spots", spots},
-    {"receive", receive},   {"receive one", receive_one}, {"combine", combine}, {"decode", decode},
-    {"noisy", noisy},       {"trial_payload", trial_payload},
+    {"codeword", codeword},
+    {"codewords", codewords},
+    {"code_block", code_block},
+    {"streams", streams},
+    {"spots", spots},
+    {"select", select_bits},
+    {"crc24a", crc24a},
+    {"receive", receive},
+    {"receive one", receive_one},
+    {"combine", combine},
+    {"decode", decode},
+    {"decode_block", decode_block},
+    {"noisy", noisy},
+    {"trial_payload", trial_payload},
+    {"scramble", scramble},
+    {"descramble", descramble},
+    {"map", map},
+    {"demap", demap},
 };
 
 static void *nothing(void *unused) { return unused; }
@@ -107,13 +135,16 @@ int main(void) {
     for (uint32_t t = 0; t < MOST; t++) ts[t] = (struct gomzelat_transmission){.qm = 6, .nl = 2, .g = BITS, .rv = t % 4};
     for (size_t i = 0; i < sizeof values; i++) values[i] = (int8_t)(i % 7 - 3);
     const size_t empty = stack_of(nothing, NULL);
-    for (size_t i = 0; i < sizeof calls / sizeof *calls; i++)
-        for (receiver.windows = 7; receiver.windows <= 64; receiver.windows = receiver.windows == 7 ? 8 : 2 * receiver.windows) {
+    for (size_t i = 0; i < sizeof calls / sizeof *calls; i++) {
+        size_t deepest = 0, most = 0;
+        for (size_t n = 0; n < 5; n++) {
+            receiver.windows = (const uint32_t[]){7, 8, 16, 32, 64}[n];
             most_in_use = in_use;
-            const size_t before = in_use, deep = stack_of(run, (void *)&calls[i].call);
-            printf("%-14s %2u windows: stack %6zu bytes, malloc %9zu bytes\n", calls[i].name, (unsigned)receiver.windows,
-                   deep - empty, most_in_use - before);
-            if (calls[i].call != receive && calls[i].call != receive_one && calls[i].call != decode) break;
+            const size_t before = in_use, deep = stack_of(run, (void *)&calls[i].call) - empty;
+            if (deep > deepest) deepest = deep;
+            if (most_in_use - before > most) most = most_in_use - before;
         }
+        printf("%-14s stack %6zu bytes, malloc %9zu bytes\n", calls[i].name, deepest, most);
+    }
     return 0;
 }
