@@ -18,3 +18,4 @@ pub mod refusal;
 pub mod stages;
 pub mod state;
 pub mod transmission;
+pub mod version;
