@@ -8,3 +8,4 @@ mod Rooms
 mod Transmissions
 mod KeptBlocks
 mod CallByCall
+mod SignalLengths

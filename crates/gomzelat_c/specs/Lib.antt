@@ -9,3 +9,4 @@ pub mod Stages
 pub mod State
 pub mod Steps
 pub mod Rounds
+pub mod Scrambled

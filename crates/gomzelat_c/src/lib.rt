@@ -15,6 +15,7 @@ pub mod plans;
 pub mod receiver;
 pub mod receptions;
 pub mod refusal;
+pub mod scrambling;
 pub mod stages;
 pub mod state;
 pub mod transmission;
