@@ -10,3 +10,4 @@ pub mod State
 pub mod Steps
 pub mod Rounds
 pub mod Scrambled
+pub mod PointsInC
