@@ -5,6 +5,7 @@ mod Matched
 mod OneBlock
 mod PackedLength
 mod Rooms
+mod OneByOne
 mod Transmissions
 mod KeptBlocks
 mod CallByCall

@@ -50,6 +50,11 @@ transmission_tests t =
     ∷ test (nat_le t.rv 3) BadVersion
     ∷ []
 
+-- transmissions of a payload of so many bytes
+abbrev pub series_tests : (bytes : ℕ) → List Transmission → List Test
+series_tests bytes ts =
+    length_test bytes ∷ test (is_from 1 8 (length ts)) BadCount ∷ flat_map transmission_tests ts
+
 -- N_IR soft values for a payload of so many bytes
 abbrev pub buffer_test : (bytes n_ir : ℕ) → Test
 buffer_test bytes n_ir = test (fits_in (limit_in n_ir) (plan_of bytes).c (plan_of bytes).k_plus) BadBuffer
@@ -63,22 +68,29 @@ codeword_tests bytes t n_ir room =
     ∷ transmission_tests t
     ++ (buffer_test bytes n_ir ∷ test (nat_le (byte_count t.g) room) ShortOutput ∷ [])
 
--- how a payload of so many bytes is received from so many soft values, with room for so many bytes
-abbrev pub test_receiver : (bytes : ℕ) → List Transmission → Receiver → (values room : ℕ) → List Test
-test_receiver bytes ts r values room =
+-- codewords of so many bytes with this soft buffer, with room for so many bytes
+abbrev pub output_tests : (bytes n_ir written room : ℕ) → List Test
+output_tests bytes n_ir written room =
+    buffer_test bytes n_ir ∷ test (nat_le written room) ShortOutput ∷ []
+
+-- the codewords of transmissions of a payload of so many bytes, with room for so many bytes
+abbrev pub codewords_tests : (bytes : ℕ) → List Transmission → (n_ir room : ℕ) → List Test
+codewords_tests bytes ts n_ir room =
+    series_tests bytes ts ++ output_tests bytes n_ir (sum_by (λ t. byte_count t.g) ts) room
+
+-- how a payload of so many bytes is received from the soft values of so many bits, with room for so many bytes
+abbrev pub test_receiver : (bytes bits : ℕ) → Receiver → (values room : ℕ) → List Test
+test_receiver bytes bits r values room =
     buffer_test bytes r.n_ir
     ∷ test (is_from 1 64 r.windows) BadWindows
     ∷ test (is_from 1 16 r.limit) BadLimit
-    ∷ test (values == sum_by (λ t. t.g) ts) BadValues
+    ∷ test (values == bits) BadValues
     ∷ test (nat_le bytes room) ShortOutput
     ∷ []
 
 abbrev pub reception_tests : (bytes : ℕ) → List Transmission → Receiver → (values room : ℕ) → List Test
 reception_tests bytes ts r values room =
-    length_test bytes
-    ∷ test (is_from 1 8 (length ts)) BadCount
-    ∷ flat_map transmission_tests ts
-    ++ test_receiver bytes ts r values room
+    series_tests bytes ts ++ test_receiver bytes (sum_by (λ t. t.g) ts) r values room
 
 -- there are soft cells for a payload of so many bytes
 abbrev pub cells_test : (bytes cells : ℕ) → Test

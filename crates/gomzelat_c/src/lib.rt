@@ -1,5 +1,5 @@
-//! The chain for callers in C, and in whatever calls C: codewords, plans, receptions, and a channel with
-//! noise. No function here asks more of its caller than memory behind each pointer. Numbers are tested,
+//! The chain for callers in C, and in whatever calls C: codewords, plans, stages, receptions, and a channel
+//! with noise. No function here asks more of its caller than memory behind each pointer. Numbers are tested,
 //! and each refusal has a number of its own.
 #![tactic(auto)]
 
@@ -19,6 +19,7 @@ pub mod receiver;
 pub mod receptions;
 pub mod refusal;
 pub mod scrambling;
+pub mod series;
 pub mod stages;
 pub mod state;
 pub mod transmission;

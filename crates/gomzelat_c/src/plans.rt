@@ -20,7 +20,7 @@ pub struct Plan {
     pub f: usize,
 }
 
-/// Leaves in `plan` how a payload of `bytes` bytes is cut. Answers 0, or 1 where there are no bytes or
+/// Leaves in `plan` how a payload of `bytes` bytes is cut. Answers 0, or 2 where there are no bytes or
 /// more than 18,722, and then nothing is changed.
 #[unsafe(no_mangle)]
 pub extern "C" fn gomzelat_plan(bytes: usize, plan: &mut Plan) -> u32

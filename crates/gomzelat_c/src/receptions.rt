@@ -1,5 +1,5 @@
 //! Receptions.
-ghost use Rattle.std.specs.Prelude.{◌≡◌, ◌≢◌, ◌≤◌, IfOk, OnOk, OnErr, length, map, sum_by};
+ghost use Rattle.std.specs.Prelude.{◌≡◌, ◌≢◌, ◌≤◌, IfOk, OnOk, OnErr, length, map};
 ghost use Rattle.std.specs.Result.{result_err};
 ghost use Rattle.lte_bits.specs.Softs.{clamped};
 ghost use Rattle.model_sender.specs.CircularBuffer.{FitsIn};
@@ -16,12 +16,12 @@ ghost use Rattle.gomzelat_c.specs.Tests.{first_failed, test_receiver, reception_
 use crate::buffers::{softs_of, write_bytes};
 use crate::receiver::{Outcome, Receiver};
 use crate::refusal::{Refusal, accept, told};
-use crate::transmission::{Transmission, bit_count, buffer_of, sends_of};
+use crate::series::{bit_count, series_of};
+use crate::transmission::{Transmission, buffer_of};
 use block_receive::{Effort, receive_alone};
 use lte_bits::NoMemory;
 use model_receiver::TbOutcome;
 use rate_match::{Sends, fits_buffer};
-use segmentation::plan;
 use segmentation::plans::Plan;
 use std::alloc::Global;
 
@@ -33,23 +33,22 @@ struct Job {
     effort: Effort,
 }
 
-/// The effort of a receiver for one to eight transmissions of a transport block, from so many soft values
-/// and with room for so many bytes; or what is refused.
+/// The effort of a receiver for transmissions of so many bits, from so many soft values and with room for so
+/// many bytes; or what is refused.
 fn effort(
     plan: &Plan,
-    transmissions: &[Transmission],
+    bits: usize,
     receiver: &Receiver,
     values: usize,
     room: usize,
 ) -> Result<Effort, Refusal>
     requires plan { plan.now ≡ plan_of plan.now.bytes }
-    requires few { length transmissions.now ≤ 8 }
     ensures refused { result_err result
-        ≡ first_failed (test_receiver plan.now.bytes transmissions.now receiver.now values room) }
+        ≡ first_failed (test_receiver plan.now.bytes bits receiver.now values room) }
     ensures effort { IfOk result (λ effort. effort_of effort
         ≡ record { windows = receiver.now.windows; limit = receiver.now.limit }) }
     ensures fits { OnOk result (FitsIn (limit_in receiver.now.n_ir) plan.now.c plan.now.k_plus) }
-    ensures values { OnOk result (values ≡ sum_by (λ t. t.g) transmissions.now) }
+    ensures values { OnOk result (values ≡ bits) }
     ensures room { OnOk result (plan.now.bytes ≤ room) }
 {
     accept(
@@ -58,7 +57,7 @@ fn effort(
     )?;
     accept((1..=64).contains(&receiver.windows), Refusal::BadWindows)?;
     accept((1..=16).contains(&receiver.limit), Refusal::BadLimit)?;
-    accept(values == bit_count(transmissions), Refusal::BadValues)?;
+    accept(values == bits, Refusal::BadValues)?;
     accept(plan.bytes <= room, Refusal::ShortOutput)?;
     Ok(Effort {
         windows: receiver.windows as usize,
@@ -86,13 +85,17 @@ fn accepted(
     ensures values { IfOk result (λ job. values ≡ value_count job.sends) }
     ensures room { OnOk result (bytes ≤ room) }
 {
-    let plan = plan(bytes)?;
-    accept((1..=8).contains(&transmissions.len()), Refusal::BadCount)?;
-    let sends = sends_of(transmissions, buffer_of(receiver.n_ir))?;
-    let effort = effort(&plan, transmissions, receiver, values, room)?;
+    let series = series_of(bytes, transmissions, buffer_of(receiver.n_ir))?;
+    let effort = effort(
+        &series.plan,
+        bit_count(&series.sends),
+        receiver,
+        values,
+        room,
+    )?;
     Ok(Job {
-        plan,
-        sends,
+        plan: series.plan,
+        sends: series.sends,
         effort,
     })
 }

@@ -45,7 +45,7 @@ pub fn bit_count(plan: &Plan) -> usize
     count
 }
 
-/// Leaves in `sizes` how much is kept of a payload of `bytes` bytes. Answers 0, or 1 where there are no
+/// Leaves in `sizes` how much is kept of a payload of `bytes` bytes. Answers 0, or 2 where there are no
 /// bytes or more than 18,722, and then nothing is changed.
 #[unsafe(no_mangle)]
 pub extern "C" fn gomzelat_sizes(bytes: usize, sizes: &mut Sizes) -> u32
@@ -74,7 +74,7 @@ fn bit(byte: u8) -> Bit
 }
 
 /// The bits that bytes tell.
-fn bits_of(alloc: Global, bytes: &[u8]) -> Result<List<Bit>, NoMemory>
+pub fn bits_of(alloc: Global, bytes: &[u8]) -> Result<List<Bit>, NoMemory>
     ensures { IfOk result (λ bits. bits ≡ map bit_of bytes.now) }
 {
     let mut bits = Vec::with_capacity(alloc, bytes.len())?;
@@ -114,7 +114,7 @@ pub fn kept(
 }
 
 /// The entry of a result.
-fn entry(of: &CodeResult) -> CodeBlock
+pub fn entry(of: &CodeResult) -> CodeBlock
     ensures { result ≡ entry_of of.now }
 {
     CodeBlock {

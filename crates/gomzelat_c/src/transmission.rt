@@ -1,5 +1,5 @@
 //! A transmission as a caller tells it.
-ghost use Rattle.std.specs.Prelude.{◌≡◌, ◌≤◌, min, IfOk, length, flat_map, sum_by};
+ghost use Rattle.std.specs.Prelude.{◌≡◌, ◌≤◌, min, IfOk, length, flat_map};
 ghost use Rattle.std.specs.Result.{result_err};
 ghost use Rattle.rate_match.specs.Matching.{limit_of};
 ghost use Rattle.gomzelat_c.specs.Transmissions.{limit_in, transmission_of, transmissions_of};
@@ -39,10 +39,11 @@ fn in_a_byte(n: u32) -> u8
 }
 
 impl Transmission {
-    /// The transmission with a soft buffer, or what is refused of it.
-    pub fn sending(&self, buffer: Buffer) -> Result<Sending, Refusal>
-        ensures refused { result_err result ≡ first_failed (transmission_tests self.now) }
-        ensures sending { IfOk result (λ sending. sending ≡ transmission_of (limit_of buffer) self.now) }
+    /// The transmission with a soft buffer, or what is refused of it. It is passed by value, since what a
+    /// caller's memory holds may change between two readings.
+    pub fn sending(self, buffer: Buffer) -> Result<Sending, Refusal>
+        ensures refused { result_err result ≡ first_failed (transmission_tests self) }
+        ensures sending { IfOk result (λ sending. sending ≡ transmission_of (limit_of buffer) self) }
     {
         let m = Match::new(in_a_byte(self.qm), in_a_byte(self.nl), self.g, buffer)?;
         accept(self.rv <= 3, Refusal::BadVersion)?;
@@ -53,7 +54,7 @@ impl Transmission {
     }
 }
 
-/// One to eight transmissions with one soft buffer, or what is refused of them.
+/// One to eight transmissions with one soft buffer, or what is refused of them. Each is read once.
 pub fn sends_of(transmissions: &[Transmission], buffer: Buffer) -> Result<Sends, Refusal>
     requires some { 1 ≤ length transmissions.now }
     requires few { length transmissions.now ≤ 8 }
@@ -67,16 +68,4 @@ pub fn sends_of(transmissions: &[Transmission], buffer: Buffer) -> Result<Sends,
         let _added = sends.add(sending.m, sending.rv);
     }
     Ok(sends)
-}
-
-/// The bits of all transmissions, of which there are at most eight.
-pub fn bit_count(transmissions: &[Transmission]) -> usize
-    requires { length transmissions.now ≤ 8 }
-    ensures { result ≡ sum_by (λ t. t.g) transmissions.now }
-{
-    let mut bits = 0;
-    for transmission in transmissions {
-        bits += transmission.g as usize;
-    }
-    bits
 }

@@ -18,7 +18,7 @@ matching_is t limit qm nl r q n is =
 
 pub returns-in_err-m-clause-refused : goal.returns-in_err-m-clause-refused
 returns-in_err-m-clause-refused c =
-    let t = c.args.self.now in
+    let t = c.args.self in
     let l = limit_of c.args.buffer in
     let b = c.in_err-m.field-0.0 in
     let is = matching_is t l c.in_a_byte.result c.in_a_byte-2.result (Err b) c.in_a_byte.ensures c.in_a_byte-2.ensures c.in_err-m.ensures in
@@ -26,7 +26,7 @@ returns-in_err-m-clause-refused c =
 
 pub returns-in_err-accept-clause-refused : goal.returns-in_err-accept-clause-refused
 returns-in_err-accept-clause-refused c =
-    let t = c.args.self.now in
+    let t = c.args.self in
     let l = limit_of c.args.buffer in
     let m = c.in_ok-m.m in
     let is = matching_is t l c.in_a_byte.result c.in_a_byte-2.result (Ok m) c.in_a_byte.ensures c.in_a_byte-2.ensures c.in_ok-m.ensures in
@@ -36,7 +36,7 @@ returns-in_err-accept-clause-refused c =
 
 pub returns-clause-refused : goal.returns-clause-refused
 returns-clause-refused c =
-    let t = c.args.self.now in
+    let t = c.args.self in
     let l = limit_of c.args.buffer in
     let m = c.in_ok-m.m in
     let is = matching_is t l c.in_a_byte.result c.in_a_byte-2.result (Ok m) c.in_a_byte.ensures c.in_a_byte-2.ensures c.in_ok-m.ensures in
