@@ -67,9 +67,16 @@ abbrev pub block_spots : (bytes r : ℕ) → List ℕ
 block_spots bytes r =
     let p = plan_of bytes in spots_to (size p r) (fill p r) (buffer_size (size p r))
 
--- K, the fillers, N_cb, k0 and E of block r
+-- K, the fillers, K_w, N_cb, k0 and E of block r
 abbrev pub piece_in : Plan → (r : ℕ) → Sending → Piece
 piece_in p r s =
     let k = size p r in
     let places = buffer_length s.m.limit p.c k in
-    record { k = k; fill = fill p r; places = places; start = start k places s.rv; bits = piece_length s.m p.c r }
+    record {
+      k = k;
+      fill = fill p r;
+      buffer = buffer_size k;
+      places = places;
+      start = start k places s.rv;
+      bits = piece_length s.m p.c r;
+    }

@@ -1,5 +1,5 @@
 //! What a code block sends of its circular buffer (36.212 5.1.4.1.2).
-ghost use Rattle.std.specs.Prelude.{◌≡◌, ◌≢◌, ◌≤◌, ◌<◌, IfOk};
+ghost use Rattle.std.specs.Prelude.{◌≡◌, ◌≢◌, ◌≤◌, ◌<◌, IfOk, OnOk};
 ghost use Rattle.std.specs.Result.{result_err};
 ghost use Rattle.model_sender.specs.CircularBuffer.{Fits};
 ghost use Rattle.model_sender.specs.Segmentation.{plan_of};
@@ -15,13 +15,15 @@ use rate_match::{fits_buffer, piece_len, ring_of, start};
 use segmentation::plan;
 use segmentation::plans::Plan;
 
-/// What a code block sends of its circular buffer: K; the number of its fillers; N_cb; k0, where the
-/// redundancy version starts; and E, the bits that are sent.
+/// What a code block sends of its circular buffer: K; the number of its fillers; K_w, the places of the
+/// buffer; N_cb, those that it sends from; k0, where the redundancy version starts; and E, the bits that are
+/// sent.
 #[repr(C)]
 #[derive(Clone, Copy, Debug)]
 pub struct Piece {
     pub k: usize,
     pub fill: usize,
+    pub buffer: usize,
     pub places: usize,
     pub start: usize,
     pub bits: usize,
@@ -29,13 +31,13 @@ pub struct Piece {
 
 /// A transmission of a payload, with everything tested.
 #[derive(Clone, Copy)]
-struct Asked {
-    plan: Plan,
-    sending: Sending,
+pub struct Asked {
+    pub plan: Plan,
+    pub sending: Sending,
 }
 
 /// A transmission of a payload of `bytes` bytes that has a block `r`; or what is refused.
-fn accepted(
+pub fn accepted(
     bytes: usize,
     r: usize,
     transmission: &Transmission,
@@ -47,6 +49,8 @@ fn accepted(
     ensures block { IfOk result (λ asked. r < asked.plan.c) }
     ensures fits { IfOk result (λ asked. Fits asked.sending.m asked.plan) }
     ensures version { IfOk result (λ asked. asked.sending.rv ≤ 3) }
+    ensures some { OnOk result (1 ≤ bytes) }
+    ensures few { OnOk result (bytes ≤ 18722) }
 {
     let plan = plan(bytes)?;
     let buffer = buffer_of(n_ir);
@@ -67,6 +71,7 @@ fn piece_in(plan: &Plan, r: usize, sending: &Sending) -> Piece
     Piece {
         k: ring.k,
         fill: ring.fill,
+        buffer: 96 * ring.rows,
         places: ring.size,
         start: start(ring.k, ring.size, sending.rv),
         bits: piece_len(&sending.m, plan, r),
