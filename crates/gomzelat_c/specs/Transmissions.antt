@@ -1,5 +1,5 @@
 -- What a caller tells of transmissions, and what is sent.
-use Rattle.std.specs.Prelude.{ℕ, ◌==◌, if◌then◌else◌, None, Some, List, map}
+use Rattle.std.specs.Prelude.{ℕ, ◌==◌, if◌then◌else◌, None, Some, List, flat_map, map}
 use Rattle.std.specs.declared.option.Option.{Option}
 use Rattle.lte_bits.specs.Packing.{packed}
 use Rattle.model_sender.specs.Codeword.{codeword}
@@ -23,3 +23,7 @@ transmissions_of limit ts = map (transmission_of limit) ts
 -- the codeword of a payload as bytes
 abbrev pub codeword_bytes : List ℕ → Transmission → (n_ir : ℕ) → List ℕ
 codeword_bytes payload t n_ir = let s = transmission_of (limit_in n_ir) t in packed (codeword payload s.m s.rv)
+
+-- the codewords of transmissions, one after the other, each beginning at a byte
+abbrev pub codewords_bytes : List ℕ → List Transmission → (n_ir : ℕ) → List ℕ
+codewords_bytes payload ts n_ir = flat_map (λ t. codeword_bytes payload t n_ir) ts

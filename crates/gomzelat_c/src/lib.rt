@@ -20,6 +20,7 @@ pub mod receptions;
 pub mod refusal;
 pub mod scrambling;
 pub mod series;
+pub mod several;
 pub mod stages;
 pub mod state;
 pub mod transmission;
