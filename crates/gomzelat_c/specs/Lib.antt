@@ -9,5 +9,6 @@ pub mod Stages
 pub mod State
 pub mod Steps
 pub mod Rounds
-pub mod Scrambled
 pub mod PointsInC
+pub mod Scrambled
+pub mod Selecting

@@ -19,6 +19,7 @@ pub mod receiver;
 pub mod receptions;
 pub mod refusal;
 pub mod scrambling;
+pub mod selecting;
 pub mod series;
 pub mod several;
 pub mod stages;

@@ -1,8 +1,10 @@
 //! The stages between a payload and its codeword, a code block at a time (36.212 5.1.2 to 5.1.4).
 ghost use Rattle.std.specs.Prelude.{◌≡◌, ◌≢◌, ◌≤◌, ◌<◌, IfOk, OnOk, OnErr, [], ◌∷◌, length, nat_le};
 ghost use Rattle.std.specs.Result.{result_err};
-ghost use Rattle.model_sender.specs.CircularBuffer.{buffer_size};
-ghost use Rattle.model_sender.specs.Segmentation.{plan_of, size};
+ghost use Rattle.model_sender.specs.CircularBuffer.{AreStreams, buffer_size};
+ghost use Rattle.model_sender.specs.CodeBlocks.{block};
+ghost use Rattle.model_sender.specs.CodedStreams.{streams};
+ghost use Rattle.model_sender.specs.Segmentation.{fill, plan_of, size};
 ghost use Rattle.gomzelat_c.specs.Buffers.{with_front};
 ghost use Rattle.gomzelat_c.specs.Refusals.{IsDone, IsTold};
 ghost use Rattle.gomzelat_c.specs.declared.refusal.Refusal.TheVariants.{ShortOutput};
@@ -13,6 +15,7 @@ ghost use Rattle.gomzelat_c.specs.Tests.{first_failed, length_test, test};
 use crate::buffers::write_bytes;
 use crate::numbers::{cells_in_a_row, digits_of, numbers_of, spots_of, write_numbers};
 use crate::refusal::{Refusal, accept, told};
+use lte_bits::{NoMemory, Streams};
 use segmentation::plans::Plan;
 use segmentation::{cut, fill, plan, size};
 use std::alloc::Global;
@@ -33,7 +36,7 @@ fn planned(bytes: usize, r: usize) -> Result<Plan, Refusal>
 }
 
 /// Tests whether so many values have room.
-fn has_room(values: usize, room: usize) -> Result<(), Refusal>
+pub fn has_room(values: usize, room: usize) -> Result<(), Refusal>
     ensures refused { result_err result ≡ first_failed (test (nat_le values room) ShortOutput ∷ []) }
     ensures room { OnOk result (values ≤ room) }
 {
@@ -72,6 +75,25 @@ pub extern "C" fn gomzelat_code_block(
     told(write_block(alloc, payload, r, out))
 }
 
+/// Returns the coded streams of block `r` of a payload.
+pub fn coded_block(
+    alloc: Global,
+    payload: &[u8],
+    plan: &Plan,
+    r: usize,
+) -> Result<Streams, NoMemory>
+    requires plan { plan.now ≡ plan_of (length payload.now) }
+    requires some { 1 ≤ length payload.now }
+    requires few { length payload.now ≤ 18722 }
+    requires block { r < plan.now.c }
+    ensures streams { IfOk result (λ s. s
+        ≡ streams (block (plan_of (length payload.now)) payload.now r)) }
+    ensures shape { IfOk result (λ s. AreStreams (size plan.now r) (fill plan.now r) s) }
+{
+    let blocks = cut(alloc, payload, plan)?;
+    encode(alloc, &blocks.as_slice()[r])
+}
+
 fn write_streams(alloc: Global, payload: &[u8], r: usize, out: &mut [u8]) -> Result<(), Refusal>
     ensures answer { IsDone result (first_failed (stage_tests (length payload.now) r
         (stream_places (length payload.now) r) (length out.old))) }
@@ -80,8 +102,7 @@ fn write_streams(alloc: Global, payload: &[u8], r: usize, out: &mut [u8]) -> Res
 {
     let plan = planned(payload.len(), r)?;
     has_room(3 * (size(&plan, r) + 4), out.len())?;
-    let blocks = cut(alloc, payload, &plan)?;
-    let streams = encode(alloc, &blocks.as_slice()[r])?;
+    let streams = coded_block(alloc, payload, &plan, r)?;
     let numbers = numbers_of(alloc, cells_in_a_row(streams)?.as_slice())?;
     write_bytes(out, numbers.as_slice());
     Ok(())
