@@ -12,3 +12,4 @@ pub mod Rounds
 pub mod PointsInC
 pub mod Scrambled
 pub mod Selecting
+pub mod Checks

@@ -5,6 +5,7 @@
 
 mod buffers;
 pub mod channel;
+pub mod checks;
 pub mod codewords;
 pub mod combining;
 pub mod decoding;
