@@ -6,6 +6,7 @@ mod OneBlock
 mod PackedLength
 mod Rooms
 mod OneByOne
+mod OneShape
 mod Transmissions
 mod KeptBlocks
 mod CallByCall

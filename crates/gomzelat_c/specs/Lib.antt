@@ -13,3 +13,4 @@ pub mod PointsInC
 pub mod Scrambled
 pub mod Selecting
 pub mod Checks
+pub mod Codes

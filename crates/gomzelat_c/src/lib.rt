@@ -3,9 +3,11 @@
 //! and each refusal has a number of its own.
 #![tactic(auto)]
 
+mod alone;
 mod buffers;
 pub mod channel;
 pub mod checks;
+pub mod codes;
 pub mod codewords;
 pub mod combining;
 pub mod decoding;
