@@ -11,3 +11,4 @@ mod Transmissions
 mod KeptBlocks
 mod CallByCall
 mod SignalLengths
+mod ToldDone

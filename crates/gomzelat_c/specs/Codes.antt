@@ -19,15 +19,22 @@ use Rattle.gomzelat_c.specs.declared.refusal.Refusal.TheVariants.{BadSize, BadFi
 abbrev pub is_size : ℕ → Bool
 is_size k = is_some (find (λ r. r.0 == k) ROWS)
 
--- how a code block is to be decoded
-abbrev pub shape_tests : Code → (windows limit : ℕ) → List Test
-shape_tests code windows limit =
+-- a code block
+abbrev pub block_tests : Code → List Test
+block_tests code =
     test (is_size code.k) BadSize
     ∷ test (nat_lt code.fill code.k) BadFillers
     ∷ test (nat_le code.check 1) BadCheck
-    ∷ test (is_from 1 64 windows) BadWindows
-    ∷ test (is_from 1 16 limit) BadLimit
     ∷ []
+
+-- in how many windows at most, and with how many iterations at most, it is decoded
+abbrev pub limit_tests : (windows limit : ℕ) → List Test
+limit_tests windows limit =
+    test (is_from 1 64 windows) BadWindows ∷ test (is_from 1 16 limit) BadLimit ∷ []
+
+-- how a code block is to be decoded
+abbrev pub shape_tests : Code → (windows limit : ℕ) → List Test
+shape_tests code windows limit = block_tests code ++ limit_tests windows limit
 
 -- from so many soft values, with room for so many bits
 abbrev pub length_tests : Code → (values room : ℕ) → List Test

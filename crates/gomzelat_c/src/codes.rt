@@ -8,7 +8,8 @@ ghost use Rattle.model_sender.specs.Interleaver.{sizes};
 ghost use Rattle.model_receiver.specs.Decoding.{code_result};
 ghost use Rattle.soft_buffers.specs.Buffers.{streams_of_cells};
 ghost use Rattle.gomzelat_c.specs.Buffers.{with_front};
-ghost use Rattle.gomzelat_c.specs.Codes.{code_tests, decoded_code, is_size, kind_of, length_tests, shape_in, shape_tests};
+ghost use Rattle.gomzelat_c.specs.Codes.{block_tests, code_tests, decoded_code, is_size, kind_of, length_tests};
+ghost use Rattle.gomzelat_c.specs.Codes.{limit_tests, shape_in, shape_tests};
 ghost use Rattle.gomzelat_c.specs.Refusals.{IsDone, IsTold};
 ghost use Rattle.gomzelat_c.specs.State.{entry_of};
 ghost use Rattle.gomzelat_c.specs.Tests.{first_failed};
@@ -67,6 +68,29 @@ fn shape_in(code: &Code, windows: u32, limit: u32) -> Shape
     Shape::new(code.k, code.fill, kind, windows, limit as usize).unwrap()
 }
 
+/// Tests the size of a code block, its fillers and its check.
+fn is_lawful(code: &Code) -> Result<(), Refusal>
+    ensures refused { result_err result ≡ first_failed (block_tests code.now) }
+    ensures size { OnOk result (Contains sizes code.now.k) }
+    ensures fillers { OnOk result (code.now.fill < code.now.k) }
+{
+    accept(is_size(code.k), Refusal::BadSize)?;
+    accept(code.fill < code.k, Refusal::BadFillers)?;
+    accept(code.check <= 1, Refusal::BadCheck)
+}
+
+/// Tests how many windows and iterations there may be.
+fn are_limits(windows: u32, limit: u32) -> Result<(), Refusal>
+    ensures refused { result_err result ≡ first_failed (limit_tests windows limit) }
+    ensures some_windows { OnOk result (1 ≤ windows) }
+    ensures few_windows { OnOk result (windows ≤ 64) }
+    ensures some_iterations { OnOk result (1 ≤ limit) }
+    ensures few_iterations { OnOk result (limit ≤ 16) }
+{
+    accept((1..=64).contains(&windows), Refusal::BadWindows)?;
+    accept((1..=16).contains(&limit), Refusal::BadLimit)
+}
+
 /// Returns the shape of a code block's decoding, or what is refused of it.
 fn shape_of(code: &Code, windows: u32, limit: u32) -> Result<Shape, Refusal>
     ensures refused { result_err result ≡ first_failed (shape_tests code.now windows limit) }
@@ -75,11 +99,8 @@ fn shape_of(code: &Code, windows: u32, limit: u32) -> Result<Shape, Refusal>
     ensures fillers { OnOk result (code.now.fill < code.now.k) }
     ensures some { OnOk result (1 ≤ limit) }
 {
-    accept(is_size(code.k), Refusal::BadSize)?;
-    accept(code.fill < code.k, Refusal::BadFillers)?;
-    accept(code.check <= 1, Refusal::BadCheck)?;
-    accept((1..=64).contains(&windows), Refusal::BadWindows)?;
-    accept((1..=16).contains(&limit), Refusal::BadLimit)?;
+    is_lawful(code)?;
+    are_limits(windows, limit)?;
     Ok(shape_in(code, windows, limit))
 }
 

@@ -17,10 +17,10 @@ write_bytes-requires c =
     let p = c.in_ok-plan.plan in
     let r = c.args.r in
     let s : Streams = c.in_ok-streams.streams in
-    let row : c.as_slice.result.now ≡ s.d0 ++ s.d1 ++ s.d2 = c.as_slice.ensures ∙ c.in_ok-cells_in_a_row.ensures in
+    let row : c.as_slice-2.result.now ≡ s.d0 ++ s.d1 ++ s.d2 = c.as_slice-2.ensures ∙ c.in_ok-cells_in_a_row.ensures in
     omega (
       arith,
-      ap length (c.as_slice-2.ensures ∙ c.in_ok-numbers.ensures ∙ ap (map cell_number) row),
+      ap length (c.as_slice-3.ensures ∙ c.in_ok-numbers.ensures ∙ ap (map cell_number) row),
       streams_long (size p r) (fill p r) s c.in_ok-streams.ensures.shape,
       c.size.ensures.value,
       c.in_ok-has_room.ensures.room,
@@ -30,5 +30,5 @@ pub returns-clause-streams : goal.returns-clause-streams
 returns-clause-streams c =
     c.write_bytes.ensures
     ∙ ap (λ xs. with_front xs c.args.out.now)
-    (c.as_slice-2.ensures ∙ c.in_ok-numbers.ensures
-    ∙ ap (map cell_number) (c.as_slice.ensures ∙ c.in_ok-cells_in_a_row.ensures ∙ ap (λ (s : Streams). s.d0 ++ s.d1 ++ s.d2) c.in_ok-streams.ensures.streams))
+    (c.as_slice-3.ensures ∙ c.in_ok-numbers.ensures
+    ∙ ap (map cell_number) (c.as_slice-2.ensures ∙ c.in_ok-cells_in_a_row.ensures ∙ ap (λ (s : Streams). s.d0 ++ s.d1 ++ s.d2) c.in_ok-streams.ensures.streams))
