@@ -20,8 +20,8 @@
  *   threads forked. The caller owns all buffers.
  * - There are 16 kB of stack for a call; as measured, none takes more than 9 kB. Of malloc's memory, as measured,
  *   gomzelat_receive takes 0.7 MB at most for one transmission of 9,422 bytes in 90,000 bits, and 9 MB for the longest
- *   block in eight transmissions of a million bits; gomzelat_combine 3 MB, gomzelat_noisy 2 MB, and each other call less
- *   than 1.5 MB (bindings/c/costs.c measures them).
+ *   block in eight transmissions of a million bits; for a million bits gomzelat_demap takes 4 MB, gomzelat_combine 3 MB,
+ *   gomzelat_map 2.5 MB and gomzelat_noisy 2 MB; each other call takes less than 1.5 MB (bindings/c/costs.c).
  * - The system is Linux on x86-64, and the processor has what x86-64-v2 names: SSE4.2, SSSE3, POPCNT. Nothing asks it.
  *
  * In later editions structures may grow, at their end alone, and there may be more answers, after these: a program that
