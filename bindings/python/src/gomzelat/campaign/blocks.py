@@ -1,0 +1,75 @@
+"""Transport blocks by their numbers: each comes out the same wherever it is done."""
+
+from __future__ import annotations
+
+from typing import Any
+
+import numpy as np
+import numpy.typing as npt
+
+from ..arrays import Bits, Bytes, Softs, unpack
+from ..channel import noisy, trial_payload
+from ..receiver import Harq
+from ..sender import codeword
+from ..soft import quantise
+from ..values import Channel
+from .curves import Point
+
+#: What a block came to.
+RECORD = np.dtype(
+    [("error", "?"), ("undetected", "?"), ("bit_errors", "u4"), ("transmissions", "u1"), ("iterations", "u4")]
+)
+
+
+def noise_of(point: Point) -> int:
+    """Return the noise of the integer channel that is nearest to a point's E_s/N_0."""
+    return int(min(127, round(point.amp / 10 ** (point.snr / 20))))
+
+
+def _over_integers(coded: Bytes, point: Point, block: int, number: int) -> Softs:
+    told = Channel(point.amp, noise_of(point), point.seed)
+    return noisy(coded, point.curve.g, told, block, number)
+
+
+def _over_awgn(bits: Bits, point: Point, random: np.random.Generator) -> Softs:
+    # With two bits a symbol each bit is received by itself: E_s is twice the amplitude's square, and N_0 twice the
+    # variance of the noise in a coordinate.
+    deviation = point.amp / 10 ** (point.snr / 20)
+    sent = point.amp * (1.0 - 2.0 * bits)
+    return quantise(sent + deviation * random.standard_normal(bits.size))
+
+
+def _received(point: Point, coded: Bytes, block: int, number: int, random: np.random.Generator) -> Softs:
+    if point.channel == "integer":
+        return _over_integers(coded, point, block, number)
+    return _over_awgn(unpack(coded, point.curve.g), point, random)
+
+
+def run_block(point: Point, block: int) -> tuple[bool, bool, int, int, int]:
+    """Return what the block of a number comes to: whether it isn't delivered as it was sent, whether it is delivered
+    as something else, its wrong bits, transmissions and iterations."""
+    curve = point.curve
+    payload = trial_payload(curve.length, point.seed, block)
+    random = np.random.Generator(np.random.Philox(np.random.SeedSequence(point.seed, spawn_key=(block,))))
+    harq = Harq(curve.length, curve.n_ir, curve.windows, curve.limit)
+    for number, transmission in enumerate(curve.transmissions):
+        coded = codeword(payload, transmission, curve.n_ir)
+        harq.add(transmission, _received(point, coded, block, number, random))
+        if harq.decode():
+            break
+    wrong = int(np.unpackbits(payload ^ harq.payload).sum())
+    undetected = harq.delivered and wrong > 0
+    return not harq.delivered or undetected, undetected, wrong, harq.transmissions, int(harq.iterations.sum())
+
+
+def run_blocks(point: Point, first: int, count: int) -> npt.NDArray[Any]:
+    """Return a record for each of `count` blocks from `first` on. The same block at another point of a seed has the
+    same payload, and the same noise but for its strength.
+
+    Examples
+    --------
+    >>> from gomzelat.campaign import Curve, Point
+    >>> run_blocks(Point(Curve("1/3", 100, 2400), snr=9.0), 0, 3)["error"].tolist()
+    [False, False, False]
+    """
+    return np.array([run_block(point, block) for block in range(first, first + count)], RECORD)

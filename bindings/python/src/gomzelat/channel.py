@@ -1,0 +1,99 @@
+"""The channel and the payloads of a trial: whole numbers from a seed, the same on every machine.
+
+What is passed must not be changed by another thread before a call is back: the interpreter's lock is open meanwhile.
+"""
+
+from __future__ import annotations
+
+from operator import index
+from typing import Any
+
+import numpy as np
+
+from . import library
+from .arrays import Bytes, BytesLike, Softs, bytes_of, room
+from .arrays import number as in_c
+from .refused import Answer, Refused
+from .sender import MOST_BYTES
+from .values import Channel
+
+
+def _within(value: Any, bits: int) -> int:
+    whole = index(value)
+    if not 0 <= whole < 2**bits:
+        raise Refused(Answer.OUT_OF_RANGE)
+    return whole
+
+
+def noisy(
+    bits: BytesLike, count: int, channel: Channel, block: int = 0, number: int = 0, *, out: Softs | None = None
+) -> Softs:
+    """Return soft values of sent bits, with noise from a seed, as the program's `channel` and `trial` make them.
+
+    Parameters
+    ----------
+    bits : array of uint8, or bytes
+        The bits that are sent, eight in a byte, the highest first.
+    count : int
+        How many of them.
+    channel : Channel
+        The amplitude, 1 to 127, the noise, 0 to 127, and the seed, 0 to 2^64 - 1.
+    block : int
+        The transport block's number, from 0 to 2^32 - 1.
+    number : int
+        The number of the transmission in its block: 0 to 7.
+    out : array of int8, optional
+        Where they are written: contiguous, at least `count` items.
+
+    Returns
+    -------
+    array of int8
+        A soft value for each bit: the amplitude, or its negative for a bit 1, and a term of noise, clamped to -127
+        to 127. With `out` the front of it.
+
+    Raises
+    ------
+    Refused
+        BAD_BITS, BAD_AMP, BAD_NOISE, BAD_NUMBER, SHORT_OUTPUT, OUT_OF_RANGE.
+
+    Examples
+    --------
+    >>> noisy(bytes(1), 8, Channel(amp=40, noise=20, seed=5)).tolist()
+    [16, 62, 52, 20, 50, 53, 27, 67]
+    """
+    data = bytes_of(bits, "bits")
+    told = library.CChannel(_within(channel.seed, 64), in_c(channel.amp), in_c(channel.noise))
+    place, size = _within(block, 32), in_c(count, 64)
+    # More bits than there are are refused, with no need of room.
+    made = room(out, min(size, 8 * data.size), np.int8, data)
+    words = (library.at(data), data.size, size, told, place, in_c(number), library.at(made), made.size)
+    library.call("noisy", *words)
+    return made[:size]
+
+
+def trial_payload(length: int, seed: int, block: int = 0) -> Bytes:
+    """Return the payload of a block from a seed, as the program's `trial` makes it.
+
+    Parameters
+    ----------
+    length : int
+        Its bytes: 1 to 18,722.
+    seed : int
+        0 to 2^64 - 1.
+    block : int
+        The transport block's number, from 0 to 2^32 - 1.
+
+    Raises
+    ------
+    Refused
+        BAD_LENGTH, OUT_OF_RANGE.
+
+    Examples
+    --------
+    >>> trial_payload(8, seed=1).tobytes().hex()
+    'a5555a9341037952'
+    """
+    # One byte too many is refused as any greater length is.
+    out = np.zeros(min(in_c(length, 64), MOST_BYTES + 1), np.uint8)
+    library.call("trial_payload", _within(seed, 64), _within(block, 32), library.at(out), out.size)
+    return out

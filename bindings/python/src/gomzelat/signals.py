@@ -1,0 +1,181 @@
+"""Between the bits of a codeword and what is sent: scrambling and constellation points (36.211).
+
+What is passed must not be changed by another thread before a call is back: the interpreter's lock is open meanwhile.
+"""
+
+from __future__ import annotations
+
+import ctypes
+import ctypes
+import math
+from typing import Any
+
+import numpy as np
+import numpy.typing as npt
+
+from . import library
+from .arrays import Bytes, BytesLike, Points, Softs, SoftsLike, bytes_of, number, room, softs_of
+from .values import Scrambling
+
+#: What points are multiplied by so that their mean power is 1, by Q_m (36.211 7.1.2 to 7.1.4).
+UNIT_POWER = {2: 1 / math.sqrt(2), 4: 1 / math.sqrt(10), 6: 1 / math.sqrt(42)}
+_MOST_COORDINATE = 4000
+
+
+def scrambling_init(scrambling: Scrambling) -> int:
+    """Return c_init, with which the sequence of a transmission begins (36.211 6.3.1).
+
+    Raises
+    ------
+    Refused
+        BAD_SCRAMBLING.
+
+    Examples
+    --------
+    >>> scrambling_init(Scrambling(rnti=1, q=0, slot=2, cell=3))
+    16899
+    """
+    out = ctypes.c_uint32()
+    library.call("init", scrambling.in_c(), ctypes.byref(out))
+    return int(out.value)
+
+
+def scramble(bits: BytesLike, scrambling: Scrambling, count: int | None = None, *, out: Bytes | None = None) -> Bytes:
+    """Return bits with the sequence of a transmission added, modulo 2 (36.211 6.3.1, 5.3.1). Twice gives them back.
+
+    Parameters
+    ----------
+    bits : array of uint8, or bytes
+        Eight bits in a byte, the highest first.
+    scrambling : Scrambling
+        What the sequence comes from.
+    count : int, optional
+        How many bits there are; else all. Unused low bits of the last byte become 0.
+    out : array of uint8, optional
+        Where they are written, which may be `bits` itself.
+
+    Raises
+    ------
+    Refused
+        BAD_BITS, BAD_SCRAMBLING.
+
+    Examples
+    --------
+    >>> scramble(bytes(4), Scrambling(rnti=0)).tobytes().hex()
+    '021a127a'
+    """
+    data = bytes_of(bits, "bits")
+    size = 8 * data.size if count is None else number(count, 64)
+    made = _copied(data, out)
+    library.call("scramble", library.at(made), made.size, size, scrambling.in_c())
+    return made[: (size + 7) // 8]
+
+
+def descramble(values: SoftsLike, scrambling: Scrambling, *, out: Softs | None = None) -> Softs:
+    """Return soft values of the bits before they were scrambled: negated where the sequence is 1.
+
+    Parameters
+    ----------
+    values : array of int8
+        The soft values of scrambled bits; -128 is taken as -127.
+    scrambling : Scrambling
+        What the sequence comes from.
+    out : array of int8, optional
+        Where they are written, which may be `values` itself.
+
+    Raises
+    ------
+    Refused
+        BAD_SCRAMBLING.
+
+    Examples
+    --------
+    >>> descramble([9] * 8, Scrambling(rnti=0)).tolist()
+    [9, 9, 9, 9, 9, 9, -9, 9]
+    """
+    made = _copied(softs_of(values), out)
+    library.call("descramble", library.at(made), made.size, scrambling.in_c())
+    return made
+
+
+def _copied(data: npt.NDArray[Any], out: npt.NDArray[Any] | None) -> npt.NDArray[Any]:
+    """Returns an array of the caller, or a new one, with the data in front, for a call that works where they stand."""
+    made = room(out, data.size, data.dtype.type)[: data.size]
+    if made.size < data.size:
+        raise ValueError("out is as long as what is read")
+    np.copyto(made, data)
+    return made
+
+
+def map_bits(bits: BytesLike, qm: int, count: int | None = None) -> Points:
+    """Return the constellation points as which bits are sent (36.211 7.1.2 to 7.1.4), Q_m bits each.
+
+    Parameters
+    ----------
+    bits : array of uint8, or bytes
+        Eight bits in a byte, the highest first.
+    qm : int
+        Q_m: 2 (QPSK), 4 (16QAM) or 6 (64QAM).
+    count : int, optional
+        How many bits there are, a multiple of Q_m; else all.
+
+    Returns
+    -------
+    array of complex64
+        Coordinates are odd numbers: -1 and 1, -3 to 3, or -7 to 7. Times `UNIT_POWER[qm]` they are those of the
+        standard.
+
+    Raises
+    ------
+    Refused
+        BAD_QM, BAD_BITS, BAD_POINTS.
+
+    Examples
+    --------
+    >>> map_bits(bytes([0b0000_1011]), 4).tolist()
+    [(1+1j), (-3+3j)]
+    """
+    data = bytes_of(bits, "bits")
+    size = 8 * data.size if count is None else number(count, 64)
+    # More bits than there are are refused, with no need of room.
+    out = np.zeros((min(size, 8 * data.size) // 2, 2), np.int32)
+    library.call("map", library.at(data), data.size, size, number(qm), library.at(out), len(out))
+    return out[: size // qm].astype(np.float32).view(np.complex64).reshape(-1)
+
+
+def demap_points(points: npt.ArrayLike, qm: int, amp: int, *, out: Softs | None = None) -> Softs:
+    """Return the Q_m soft values of each received point.
+
+    A bit's value is by how much the nearest point whose bit is 1 is further than the nearest whose bit is 0, in squared
+    distances, divided by four times the amplitude, rounded toward 0, and clamped to -127 to 127.
+
+    Parameters
+    ----------
+    points : array of complex numbers
+        Those of `map_bits` times the amplitude, and noise. Coordinates are rounded to whole numbers, which are from
+        -4000 to 4000.
+    qm : int
+        Q_m: 2, 4 or 6.
+    amp : int
+        The amplitude: 1 to 127.
+    out : array of int8, optional
+        Where they are written: at least Q_m values for each point.
+
+    Raises
+    ------
+    Refused
+        BAD_QM, BAD_AMP, BAD_POINTS, SHORT_OUTPUT.
+
+    Examples
+    --------
+    >>> demap_points([40 + 40j, -120 + 120j], 4, 40).tolist()
+    [40, 40, 40, 40, -127, 127, -40, -40]
+    """
+    given = np.ascontiguousarray(points, dtype=np.complex128).reshape(-1).view(np.float64)
+    # What isn't a number, or is out of range, is refused by the library.
+    known = np.where(np.isnan(given), np.inf, given)
+    whole = np.clip(np.rint(known), -_MOST_COORDINATE - 1, _MOST_COORDINATE + 1).astype(np.int32)
+    count, order = whole.size // 2, number(qm)
+    made = room(out, count * min(order, max(UNIT_POWER)), np.int8, whole)
+    library.call("demap", library.at(whole), count, order, number(amp), library.at(made), made.size)
+    return made[: count * order]

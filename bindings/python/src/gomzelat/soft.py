@@ -1,0 +1,67 @@
+"""Soft values from log-likelihood ratios.
+
+=================================================  ========================================
+Who                                                A positive soft value says
+=================================================  ========================================
+gomzelat                                           the bit is rather 0
+most papers and IT++: log P(0) / P(1)              the bit is rather 0
+Sionna: log P(1) / P(0)                            the bit is rather 1: turn the sign
+MATLAB's comm.TurboDecoder                         the bit is rather 1: turn the sign
+=================================================  ========================================
+
+Of any other tool a codeword without noise tells: where `receive` doesn't deliver it, turn the sign.
+
+**Amplitude.** A soft value is a whole number from -127 to 127, and the buffer of a transport block saturates at 127
+after each addition, so that values of repeated and retransmitted bits should leave room: a strong value of 20 to 40
+serves one or two transmissions, 10 to 20 serves eight. Much below 8 what is told of a bit is lost to rounding. Only
+the ratio to the noise counts, since the decoder takes the greater of two sums and no logarithm.
+"""
+
+from __future__ import annotations
+
+from typing import Any
+
+import numpy as np
+import numpy.typing as npt
+
+from .arrays import Softs
+
+
+def quantise(llr: npt.ArrayLike, scale: float = 1.0, *, out: Softs | None = None) -> Softs:
+    """Return soft values of log-likelihood ratios: times the scale, rounded to even, and clamped to -127 to 127.
+
+    Parameters
+    ----------
+    llr : array of floats
+        log P(0) / P(1) of each bit, of any shape: above 0 where the bit is rather 0. With tools that have it the other
+        way round give a negative scale.
+    scale : float
+        What a ratio of 1 becomes.
+    out : array of int8, optional
+        Where they are written: of the shape of `llr`.
+
+    Returns
+    -------
+    array of int8
+        Of the shape of `llr`.
+
+    Raises
+    ------
+    ValueError
+        A ratio isn't a number, or the scale isn't finite.
+
+    Examples
+    --------
+    >>> quantise([0.2, -3.4, 100.0, float("inf")], scale=10).tolist()
+    [2, -34, 127, 127]
+    """
+    if not np.isfinite(scale):
+        raise ValueError("the scale is finite")
+    scaled: Any = np.asarray(llr, dtype=np.float64) * scale
+    if np.isnan(scaled).any():
+        raise ValueError("a log-likelihood ratio is a number")
+    made = np.clip(np.rint(scaled), -127, 127)
+    if out is None:
+        return np.asarray(made.astype(np.int8))
+    np.copyto(out, made, casting="unsafe")
+    return out
