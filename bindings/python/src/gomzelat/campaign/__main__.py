@@ -36,7 +36,7 @@ def _arguments() -> argparse.ArgumentParser:
     words.add_argument("--add", nargs="*", default=[], type=Path, metavar="CSV", help="other parts for the picture")
     words.add_argument("--curves", type=Path, metavar="JSON", help="what is measured, as --dump-curves writes it")
     words.add_argument("--dump-curves", type=Path, metavar="JSON", help="write the curves of this run and end")
-    words.add_argument("--snr", type=float, nargs=3, default=(-6, 5, 0.5), metavar=("FROM", "TO", "STEP"), help="E_s/N_0 in dB")
+    words.add_argument("--snr", type=float, nargs=3, default=(-7, 6, 0.5), metavar=("FROM", "TO", "STEP"), help="E_s/N_0 in dB")
     words.add_argument("--errors", type=int, default=100, help="a point ends with so many block errors (100)")
     words.add_argument("--blocks", type=int, default=100_000, help="or after so many blocks (100000)")
     words.add_argument("--floor", type=float, default=1e-3, help="a curve ends below this rate of block errors (0.001)")

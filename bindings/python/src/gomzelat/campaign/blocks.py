@@ -2,15 +2,17 @@
 
 from __future__ import annotations
 
+import math
 from typing import Any
 
 import numpy as np
 import numpy.typing as npt
 
-from ..arrays import Bits, Bytes, Softs, unpack
+from ..arrays import Bytes, Softs, unpack
 from ..channel import noisy, trial_payload
 from ..receiver import Harq
 from ..sender import codeword
+from ..signals import UNIT_POWER, demap_points, map_bits
 from ..soft import quantise
 from ..values import Channel
 from .curves import Point
@@ -27,22 +29,28 @@ def noise_of(point: Point) -> int:
 
 
 def _over_integers(coded: Bytes, point: Point, block: int, number: int) -> Softs:
+    if point.curve.qm != 2:
+        raise ValueError("the channel of whole numbers sends each bit by itself: Q_m is 2")
     told = Channel(point.amp, noise_of(point), point.seed)
     return noisy(coded, point.curve.g, told, block, number)
 
 
-def _over_awgn(bits: Bits, point: Point, random: np.random.Generator) -> Softs:
-    # With two bits a symbol each bit is received by itself: E_s is twice the amplitude's square, and N_0 twice the
-    # variance of the noise in a coordinate.
-    deviation = point.amp / 10 ** (point.snr / 20)
-    sent = point.amp * (1.0 - 2.0 * bits)
-    return quantise(sent + deviation * random.standard_normal(bits.size))
+def _over_awgn(coded: Bytes, point: Point, random: np.random.Generator) -> Softs:
+    """Returns soft values of points with noise: a point's mean power is E_s, and N_0 / 2 the variance in each of its
+    coordinates."""
+    curve, amp = point.curve, point.amp
+    deviation = amp / UNIT_POWER[curve.qm] / math.sqrt(2) / 10 ** (point.snr / 20)
+    noise = deviation * random.standard_normal(2 * (curve.g // curve.qm))
+    if curve.qm == 2:
+        # Each coordinate is a bit by itself.
+        return quantise(amp * (1.0 - 2.0 * unpack(coded, curve.g)) + noise)
+    return demap_points(amp * map_bits(coded, curve.qm, curve.g) + noise.view(np.complex128), curve.qm, amp)
 
 
 def _received(point: Point, coded: Bytes, block: int, number: int, random: np.random.Generator) -> Softs:
     if point.channel == "integer":
         return _over_integers(coded, point, block, number)
-    return _over_awgn(unpack(coded, point.curve.g), point, random)
+    return _over_awgn(coded, point, random)
 
 
 def run_block(point: Point, block: int) -> tuple[bool, bool, int, int, int]:

@@ -53,10 +53,11 @@ def executor(name: str, workers: int | None = None, scheduler: str | None = None
         with client, client.get_executor() as pool:
             yield pool, 2 * max(1, sum(client.ncores().values()))
     elif name == "mpi":
+        from mpi4py import MPI
         from mpi4py.futures import MPIPoolExecutor
 
-        of_mpi: Any = MPIPoolExecutor(workers)
-        with of_mpi as pool:
-            yield pool, 2 * max(1, pool.num_workers)
+        # One process of all submits, and the others work.
+        with MPIPoolExecutor(workers) as pool:
+            yield pool, 2 * max(1, workers or MPI.COMM_WORLD.Get_size() - 1)
     else:
         raise ValueError(f"an executor is one of {', '.join(NAMES)}")
