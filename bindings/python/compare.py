@@ -4,6 +4,8 @@ have to be equal. Ends with 1 where something differs.
     python3 compare.py PROGRAM --cases 100 --seed 1
 """
 
+from __future__ import annotations
+
 import argparse
 import random
 import subprocess
@@ -11,7 +13,9 @@ import sys
 from collections import Counter
 from dataclasses import dataclass, replace
 
-from gomzelat import Channel, Refused, Transmission, codeword, noisy, payload, receive
+import numpy as np
+
+from gomzelat import Answer, Channel, Refused, Transmission, codewords, noisy, receive, trial_payload
 
 
 @dataclass(frozen=True)
@@ -23,18 +27,16 @@ class Case:
     windows: int
     limit: int
 
-    def soft(self) -> tuple[list[bytes], list[bytes]]:
-        """The codewords of all transmissions, and their soft values as bytes."""
-        codewords = [codeword(self.sent, it, self.n_ir) for it in self.transmissions]
-        softs = [
-            noisy(bits, it.g, self.channel, 0, number).tobytes()
-            for number, (bits, it) in enumerate(zip(codewords, self.transmissions))
-        ]
-        return codewords, softs
+    def soft(self) -> tuple[list[bytes], list[np.ndarray]]:
+        """Returns the codewords of all transmissions, and their soft values."""
+        sent = codewords(self.sent, self.transmissions, self.n_ir)
+        pairs = enumerate(zip(sent, self.transmissions))
+        softs = [noisy(bits, it.g, self.channel, 0, number) for number, (bits, it) in pairs]
+        return [it.tobytes() for it in sent], softs
 
 
 def drawn(random: random.Random) -> Case:
-    """A case, of which most have a buffer that fits."""
+    """Returns a case, of which most have a buffer that fits."""
     length = random.choice([1, 2, random.randint(1, 100), random.randint(1, 3000), random.randint(1, 18722)])
     qm, nl = random.choice([2, 4, 6]), random.choice([1, 2])
     rate = random.uniform(0.25, 0.95)
@@ -43,10 +45,9 @@ def drawn(random: random.Random) -> Case:
     versions = [0, *(random.randint(0, 3) for _ in range(count - 1))]
     n_ir = random.choice([0, 0, 60 * length, 20 * length, random.randint(1, 1_000_000)])
     channel = Channel(random.randint(20, 60), random.randint(0, 40), random.getrandbits(64))
-    transmissions = tuple(Transmission(qm, min(g, 1_000_000 // 12 * 12), rv, nl) for rv in versions)
     return Case(
-        payload(length, random.getrandbits(64)),
-        transmissions,
+        trial_payload(length, random.getrandbits(64)).tobytes(),
+        tuple(Transmission(qm, min(g, 1_000_000 // 12 * 12), rv, nl) for rv in versions),
         min(n_ir, 1_000_000),
         channel,
         random.choice([1, 5, 8, 16, 32, 64]),
@@ -60,42 +61,55 @@ def run(program: str, words: list[str], data: bytes) -> tuple[int, bytes, str]:
 
 
 def blocks_of(stream: bytes, count: int, size: int) -> list[bytes]:
-    """The transmissions of the one block of a stream, each of so many bytes."""
+    """Returns the transmissions of the one block of a stream, each of so many bytes."""
     at = 18 + count + 4
     return [stream[at + i * size : at + (i + 1) * size] for i in range(count)]
 
 
-def differences(program: str, case: Case) -> tuple[str, list[str]]:
-    """What the case came to, and what differs."""
-    one, count, length = case.transmissions[0], len(case.transmissions), len(case.sent)
-    words = [f"tb={length}", f"g={one.g}", f"qm={one.qm}", f"nl={one.nl}", f"nir={case.n_ir}"]
+def encoded(program: str, case: Case) -> tuple[int, bytes, str]:
+    """Runs the program's encoder."""
+    one = case.transmissions[0]
+    words = [f"tb={len(case.sent)}", f"g={one.g}", f"qm={one.qm}", f"nl={one.nl}", f"nir={case.n_ir}"]
     words.append("rv=" + ",".join(str(it.rv) for it in case.transmissions))
-    status, hard, report = run(program, ["encode", *words], case.sent)
+    return run(program, ["encode", *words], case.sent)
+
+
+def received(program: str, case: Case, soft: bytes, softs: list[np.ndarray]) -> tuple[str, list[str]]:
+    """Returns what both receivers come to, and what differs."""
+    status, out, report = run(program, ["decode", f"windows={case.windows}", f"limit={case.limit}"], soft)
+    told = receive(
+        len(case.sent), case.transmissions, np.concatenate(softs), case.n_ir, windows=case.windows, limit=case.limit
+    )
+    effort = f"transmissions {told.transmissions} iterations {told.iterations}"
+    line = f"block 0 delivered bytes {len(case.sent)} {effort}" if told.delivered else f"block 0 failed {effort}"
+    found = []
+    if report.splitlines()[0] != line:
+        found.append(f"told {line!r}, and there {report.splitlines()[0]!r}")
+    payload = b"" if told.payload is None else told.payload.tobytes()
+    if out != payload or (status == 0) != told.delivered:
+        found.append("another payload")
+    return "delivered" if told.delivered else "failed", found
+
+
+def differences(program: str, case: Case) -> tuple[str, list[str]]:
+    """Returns what the case came to, and what differs."""
+    one, count = case.transmissions[0], len(case.transmissions)
+    status, hard, report = encoded(program, case)
     try:
-        codewords, softs = case.soft()
+        sent, softs = case.soft()
     except Refused as refused:
         # The program wants a buffer that fits each shorter payload too, which need no more.
-        same = (refused.number, status) == (8, 2)
+        same = (refused.number, status) == (Answer.BAD_BUFFER, 2)
         return "refused", [] if same else [f"refused with {refused.number}, and there {status}"]
     if status != 0:
         return "refused", [f"encode ended with {status}: {report}"]
-    found = []
-    if blocks_of(hard, count, (one.g + 7) // 8) != codewords:
-        found.append("other codewords")
+    found = [] if blocks_of(hard, count, (one.g + 7) // 8) == sent else ["other codewords"]
     words = [f"amp={case.channel.amp}", f"noise={case.channel.noise}", f"seed={case.channel.seed}"]
     _, soft, _ = run(program, ["channel", *words], hard)
-    if blocks_of(soft, count, one.g) != softs:
+    if blocks_of(soft, count, one.g) != [it.tobytes() for it in softs]:
         found.append("other soft values")
-    status, out, report = run(program, ["decode", f"windows={case.windows}", f"limit={case.limit}"], soft)
-    values = memoryview(b"".join(softs)).cast("b")
-    told = receive(length, case.transmissions, values, case.n_ir, case.windows, case.limit)
-    effort = f"transmissions {told.transmissions} iterations {told.iterations}"
-    line = f"block 0 failed {effort}" if told.payload is None else f"block 0 delivered bytes {length} {effort}"
-    if report.splitlines()[0] != line:
-        found.append(f"told {line!r}, and there {report.splitlines()[0]!r}")
-    if out != (told.payload or b"") or (status == 0) != (told.payload is not None):
-        found.append("another payload")
-    return "failed" if told.payload is None else "delivered", found
+    end, more = received(program, case, soft, softs)
+    return end, found + more
 
 
 def main() -> int:

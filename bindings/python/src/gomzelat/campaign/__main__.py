@@ -52,8 +52,8 @@ def _arguments() -> argparse.ArgumentParser:
     return words
 
 
-def _measure(given: argparse.Namespace, points: list[Point]) -> dict[Place, object]:
-    """Measures the points, keeps what is known in the CSV, also where it is interrupted, and returns it."""
+def _measure(given: argparse.Namespace, points: list[Point]) -> None:
+    """Measures the points, and keeps what is known in the CSV, also where it is interrupted."""
     results = read(given.csv)
     known = {place.point: counts for place, counts in results.items() if place.first == given.first}
     stop = Stop(given.errors, given.blocks, given.floor)
@@ -71,7 +71,6 @@ def _measure(given: argparse.Namespace, points: list[Point]) -> dict[Place, obje
                         saved = time.monotonic()
     finally:
         write(given.csv, results)
-    return dict(results)
 
 
 def main() -> int:
@@ -85,15 +84,11 @@ def main() -> int:
     points = [Point(curve, snr, given.channel, given.amp, given.seed) for curve in curves for snr in levels]
     _measure(given, points)
     if given.picture:
-        wanted = {(it.curve, it.channel, it.amp, it.seed) for it in points}
-        parts = [read(given.csv), *map(read, given.add)]
-        totals = summed(parts)
-        draw(
-            {it: counts for it, counts in totals.items() if (it.curve, it.channel, it.amp, it.seed) in wanted},
-            given.picture,
-            given.title,
-            max(given.floor, 1e-6),
-        )
+        totals = summed([read(given.csv), *map(read, given.add)])
+        order = {(curve, given.channel, given.amp, given.seed): number for number, curve in enumerate(curves)}
+        drawn = [it for it in totals if (it.curve, it.channel, it.amp, it.seed) in order]
+        drawn.sort(key=lambda it: order[it.curve, it.channel, it.amp, it.seed])
+        draw({it: totals[it] for it in drawn}, given.picture, given.title, max(given.floor, 1e-6))
     return 0
 
 
