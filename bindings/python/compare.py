@@ -78,10 +78,17 @@ def received(program: str, case: Case, soft: bytes, softs: list[np.ndarray]) -> 
     """Returns what both receivers come to, and what differs."""
     status, out, report = run(program, ["decode", f"windows={case.windows}", f"limit={case.limit}"], soft)
     told = receive(
-        len(case.sent), case.transmissions, np.concatenate(softs), case.n_ir, windows=case.windows, limit=case.limit
+        len(case.sent),
+        case.transmissions,
+        np.concatenate(softs),
+        case.n_ir,
+        windows=case.windows,
+        limit=case.limit,
     )
     effort = f"transmissions {told.transmissions} iterations {told.iterations}"
-    line = f"block 0 delivered bytes {len(case.sent)} {effort}" if told.delivered else f"block 0 failed {effort}"
+    line = (
+        f"block 0 delivered bytes {len(case.sent)} {effort}" if told.delivered else f"block 0 failed {effort}"
+    )
     found = []
     if report.splitlines()[0] != line:
         found.append(f"told {line!r}, and there {report.splitlines()[0]!r}")

@@ -46,7 +46,9 @@ class Link(gr.top_block):
         constellation = digital.constellation_calcdist(POINTS, [], 4, 1)
         noise = analog.noise_source_c(analog.GR_GAUSSIAN, 10 ** (-snr / 20), seed)
         added = blocks.add_cc()
-        sender, receiver = pdu.pdu_to_tagged_stream(gr.types.byte_t, TAG), pdu.tagged_stream_to_pdu(gr.types.float_t, TAG)
+        sender, receiver = pdu.pdu_to_tagged_stream(gr.types.byte_t, TAG), pdu.tagged_stream_to_pdu(
+            gr.types.float_t, TAG
+        )
         self.connect(
             sender,
             blocks.repack_bits_bb(1, 2, TAG, False, gr.GR_MSB_FIRST),
@@ -82,7 +84,9 @@ def main() -> None:
     payloads = [np.random.default_rng(it).bytes(LENGTH) for it in range(given.blocks)]
     link = Link(given.snr)
     link.send(payloads)
-    right = sum(bool(told["delivered"]) and got == sent for sent, (told, got) in zip(payloads, link.sink.arrived))
+    right = sum(
+        bool(told["delivered"]) and got == sent for sent, (told, got) in zip(payloads, link.sink.arrived)
+    )
     print(f"{len(link.sink.arrived)} arrived, of which {right} are delivered as they were sent")
 
 

@@ -26,7 +26,9 @@ class Encoder(gr.basic_block):
         The redundancy versions that are sent.
     """
 
-    def __init__(self, g: int, qm: int = 2, nl: int = 1, n_ir: int = 0, versions: Sequence[int] = (0,)) -> None:
+    def __init__(
+        self, g: int, qm: int = 2, nl: int = 1, n_ir: int = 0, versions: Sequence[int] = (0,)
+    ) -> None:
         gr.basic_block.__init__(self, name="gomzelat encoder", in_sig=None, out_sig=None)
         self._transmissions = [Transmission(qm, g, rv, nl) for rv in versions]
         self._n_ir = n_ir

@@ -58,7 +58,10 @@ def test_payloads_over_qpsk_and_noise(snr, delivered):
 
 def test_an_encoder_sends_each_version():
     arrived = through(Encoder(1000, 4, versions=(0, 2)), [bytes_pdu(it) for it in PAYLOADS[:2]], 4)
-    assert [(told["rv"], told["new"], told["name"]) for told, _ in arrived] == [(0, True, "a"), (2, False, "a")] * 2
+    assert [(told["rv"], told["new"], told["name"]) for told, _ in arrived] == [
+        (0, True, "a"),
+        (2, False, "a"),
+    ] * 2
     for (told, bits), payload in zip(arrived, (PAYLOADS[0], PAYLOADS[0], PAYLOADS[1], PAYLOADS[1])):
         sent = gz.Transmission(4, 1000, told["rv"])
         assert list(bits) == gz.codeword(payload, sent, bits=True).tolist()
@@ -80,25 +83,43 @@ def test_floats_have_the_sign_that_the_scale_says():
     bits = gz.codeword(PAYLOADS[0], gz.Transmission(2, 1600), bits=True)
     for sign in (1, -1):
         values = (sign * (1.0 - 2.0 * bits)).tolist()
-        [(told, got)] = through(Decoder(100, 1600, scale=sign * 30), [pdu(pmt.init_f32vector(1600, values))], 1)
+        [(told, got)] = through(
+            Decoder(100, 1600, scale=sign * 30), [pdu(pmt.init_f32vector(1600, values))], 1
+        )
         assert told["delivered"] and got == PAYLOADS[0]
 
 
 def test_what_is_bad_is_dropped():
     good = bytes_pdu(PAYLOADS[0])
-    for bad in (bytes_pdu(b""), bytes_pdu(bytes(18723)), pdu(pmt.init_f32vector(1, [0.0])), pmt.intern("no pair")):
+    for bad in (
+        bytes_pdu(b""),
+        bytes_pdu(bytes(18723)),
+        pdu(pmt.init_f32vector(1, [0.0])),
+        pmt.intern("no pair"),
+    ):
         assert len(through(Encoder(1600), [bad, good], 1)) == 1
     floats = pdu(pmt.init_f32vector(1600, [30.0] * 1600))
     few, wrong = pdu(pmt.init_f32vector(2, [0.0] * 2)), pdu(pmt.init_u8vector(1600, [0] * 1600))
     late = pdu(pmt.init_f32vector(1600, [30.0] * 1600), rv=4)
-    for bad in (few, wrong, late, pmt.intern("no pair"), pdu(pmt.init_f32vector(1600, [float("nan")] * 1600))):
+    for bad in (
+        few,
+        wrong,
+        late,
+        pmt.intern("no pair"),
+        pdu(pmt.init_f32vector(1600, [float("nan")] * 1600)),
+    ):
         assert len(through(Decoder(100, 1600), [bad, floats], 1)) == 1
 
 
 @pytest.mark.skipif(not shutil.which("grcc"), reason="there is no grcc")
 def test_the_companions_flow_graph_runs(tmp_path):
     paths = [str(HERE), str(Path(gz.__file__).resolve().parent.parent), os.environ.get("PYTHONPATH", "")]
-    words = {**os.environ, "GRC_BLOCKS_PATH": str(HERE / "grc"), "PYTHONPATH": os.pathsep.join(paths), "HOME": str(tmp_path)}
+    words = {
+        **os.environ,
+        "GRC_BLOCKS_PATH": str(HERE / "grc"),
+        "PYTHONPATH": os.pathsep.join(paths),
+        "HOME": str(tmp_path),
+    }
     example = HERE / "examples" / "qpsk_over_noise.grc"
     subprocess.run(["grcc", "-o", str(tmp_path), str(example)], env=words, check=True, capture_output=True)
     made = [sys.executable, "-u", str(tmp_path / "qpsk_over_noise_flow.py"), "--snr", "6"]

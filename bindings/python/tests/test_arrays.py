@@ -49,7 +49,9 @@ def test_what_is_no_bytes(bad, good):
         gz.codeword(bad, good)
 
 
-@pytest.mark.parametrize("bad", [bytes(132), np.zeros(132), np.zeros(132, np.uint8), [128] * 132, [-129] * 132, "0" * 132])
+@pytest.mark.parametrize(
+    "bad", [bytes(132), np.zeros(132), np.zeros(132, np.uint8), [128] * 132, [-129] * 132, "0" * 132]
+)
 def test_what_is_no_soft_values(bad, good):
     for call in (lambda: gz.receive(2, [good], bad), lambda: gz.Harq(2).add(good, bad)):
         with pytest.raises(TypeError):
@@ -82,7 +84,11 @@ def test_what_cannot_be_written_to(good):
 
 
 def test_what_is_no_number(good):
-    for call in (lambda: gz.plan(2.0), lambda: gz.codeword(SENT, gz.Transmission("2", 132, 0)), lambda: gz.plan(None)):
+    for call in (
+        lambda: gz.plan(2.0),
+        lambda: gz.codeword(SENT, gz.Transmission("2", 132, 0)),
+        lambda: gz.plan(None),
+    ):
         with pytest.raises(TypeError):
             call()
 

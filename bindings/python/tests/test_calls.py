@@ -9,7 +9,40 @@ from conftest import CODEWORD, SENT, strong
 import gomzelat as gz
 
 # The columns of the sub-block interleaver (36.212 table 5.1.4-1).
-COLUMNS = [0, 16, 8, 24, 4, 20, 12, 28, 2, 18, 10, 26, 6, 22, 14, 30, 1, 17, 9, 25, 5, 21, 13, 29, 3, 19, 11, 27, 7, 23, 15, 31]
+COLUMNS = [
+    0,
+    16,
+    8,
+    24,
+    4,
+    20,
+    12,
+    28,
+    2,
+    18,
+    10,
+    26,
+    6,
+    22,
+    14,
+    30,
+    1,
+    17,
+    9,
+    25,
+    5,
+    21,
+    13,
+    29,
+    3,
+    19,
+    11,
+    27,
+    7,
+    23,
+    15,
+    31,
+]
 
 
 def remainder(polynomial: int, bits: list[int]) -> int:
@@ -86,7 +119,9 @@ def test_a_code_block_by_itself_is_decoded():
     payload = gz.trial_payload(100, 1)
     d = gz.streams(payload, 0)
     told = gz.decode_block(832, strong(d, 30), fill=8, check=gz.Check.CRC24A)
-    assert told.passed and told.bits.tolist() == gz.code_block(payload, 0).tolist() and 1 <= told.iterations <= 2
+    assert (
+        told.passed and told.bits.tolist() == gz.code_block(payload, 0).tolist() and 1 <= told.iterations <= 2
+    )
     payload = gz.trial_payload(800, 1)
     told = gz.decode_block(gz.plan(800).size(1), strong(gz.streams(payload, 1), 30), check=gz.Check.CRC24B)
     assert told.passed and told.bits.tolist() == gz.code_block(payload, 1).tolist()
@@ -105,7 +140,10 @@ def test_noise_and_payloads_are_the_worked_ones():
 
 def test_threads_decode_at_once(good):
     values, found = strong(gz.unpack(CODEWORD, 132)), []
-    threads = [threading.Thread(target=lambda: found.append(gz.receive(2, [good], values).delivered)) for _ in range(8)]
+    threads = [
+        threading.Thread(target=lambda: found.append(gz.receive(2, [good], values).delivered))
+        for _ in range(8)
+    ]
     for it in threads:
         it.start()
     for it in threads:

@@ -89,7 +89,9 @@ def test_mpi_counts_the_same(tmp_path):
     if not shutil.which("mpiexec"):
         pytest.skip("there is no mpiexec")
     here, there = tmp_path / "here.csv", tmp_path / "mpi.csv"
-    subprocess.run([*command("--csv", here, "--executor", "here"), *map(str, RUN)], env=environment(), check=True)
+    subprocess.run(
+        [*command("--csv", here, "--executor", "here"), *map(str, RUN)], env=environment(), check=True
+    )
     words = ["mpiexec", "--oversubscribe", "-n", "3", sys.executable, "-m", "mpi4py.futures", *command()[1:]]
     as_root = {"OMPI_ALLOW_RUN_AS_ROOT": "1", "OMPI_ALLOW_RUN_AS_ROOT_CONFIRM": "1"}
     more = ["--csv", str(there), "--executor", "mpi", *map(str, RUN)]
@@ -143,14 +145,21 @@ def test_noise_decides(channel):
 
 def test_the_wilson_interval_is_the_books():
     # Newcombe 1998, Statistics in Medicine 17, table I, method 3.
-    for errors, blocks, wanted in ((81, 263, (0.2553, 0.3662)), (15, 148, (0.0624, 0.1605)), (0, 20, (0, 0.1611)), (1, 29, (0.0061, 0.1718))):
+    for errors, blocks, wanted in (
+        (81, 263, (0.2553, 0.3662)),
+        (15, 148, (0.0624, 0.1605)),
+        (0, 20, (0, 0.1611)),
+        (1, 29, (0.0061, 0.1718)),
+    ):
         assert wilson(errors, blocks) == pytest.approx(wanted, abs=6e-5)
 
 
 @pytest.mark.parametrize("qm, g", [(2, 1600), (4, 1600), (6, 1602)])
 def test_the_noise_has_the_strength_that_is_told(qm, g):
     curve = Curve("rate 1/2", 100, g, qm)
-    below, above = (counted(run_blocks(Point(curve, curve.shannon_limit() + it), 0, 20)) for it in (-0.2, 4.5))
+    below, above = (
+        counted(run_blocks(Point(curve, curve.shannon_limit() + it), 0, 20)) for it in (-0.2, 4.5)
+    )
     assert (below.errors, above.errors) == (20, 0)
 
 
@@ -173,12 +182,21 @@ def test_the_command_measures_draws_and_goes_on(tmp_path):
 
 
 def test_errors_that_no_check_told_are_drawn_apart(tmp_path):
-    results = {Point(HALF, snr): Counts(100, 20 - it, 5 - it, 50, 100, 300) for it, snr in enumerate((0.0, 1.0))}
+    results = {
+        Point(HALF, snr): Counts(100, 20 - it, 5 - it, 50, 100, 300) for it, snr in enumerate((0.0, 1.0))
+    }
     draw(results, tmp_path / "a.svg")
     assert "1/2, undetected" in (tmp_path / "a.svg").read_text(encoding="utf-8")
 
 
-@pytest.mark.parametrize("bad", [Point(Curve("", 0, 1600), 0.0), Point(Curve("", 100, 1601), 0.0), Point(HALF, 0.0, amp=0, channel="integer")])
+@pytest.mark.parametrize(
+    "bad",
+    [
+        Point(Curve("", 0, 1600), 0.0),
+        Point(Curve("", 100, 1601), 0.0),
+        Point(HALF, 0.0, amp=0, channel="integer"),
+    ],
+)
 def test_what_is_refused_arrives_from_another_process(bad):
     with executor("processes", 1) as (pool, _), pytest.raises(gz.Refused):
         measured(pool, points=[bad])

@@ -114,7 +114,13 @@ def test_of_a_channel():
 
 
 def test_of_scrambling():
-    for bad in ({"rnti": 65536}, {"rnti": -1}, {"rnti": 0, "q": 2}, {"rnti": 0, "slot": 20}, {"rnti": 0, "cell": 504}):
+    for bad in (
+        {"rnti": 65536},
+        {"rnti": -1},
+        {"rnti": 0, "q": 2},
+        {"rnti": 0, "slot": 20},
+        {"rnti": 0, "cell": 504},
+    ):
         told = gz.Scrambling(**bad)
         refuses(Answer.BAD_SCRAMBLING, gz.scrambling_init, told)
         refuses(Answer.BAD_SCRAMBLING, gz.scramble, b"\0", told)

@@ -22,12 +22,18 @@ def point(bits: list[int]) -> complex:
 
     def level(of: list[int]) -> int:
         sign = [1 - 2 * it for it in of]
-        return [sign[0], 0, 0][0] if len(of) == 1 else sign[0] * (2 - sign[1] if len(of) == 2 else 4 - sign[1] * (2 - sign[2]))
+        return (
+            [sign[0], 0, 0][0]
+            if len(of) == 1
+            else sign[0] * (2 - sign[1] if len(of) == 2 else 4 - sign[1] * (2 - sign[2]))
+        )
 
     return complex(level(bits[0::2]), level(bits[1::2]))
 
 
-@pytest.mark.parametrize("told, init", [(gz.Scrambling(0), 0), (MOST, 1073738743), (gz.Scrambling(77, 0, 5, 9), 1262601)])
+@pytest.mark.parametrize(
+    "told, init", [(gz.Scrambling(0), 0), (MOST, 1073738743), (gz.Scrambling(77, 0, 5, 9), 1262601)]
+)
 def test_scrambling_is_the_standards(told, init):
     assert gz.scrambling_init(told) == init
     bits = np.random.default_rng(1).integers(0, 2, 203).astype(np.uint8)
@@ -60,7 +66,11 @@ def test_points_are_the_standards(qm):
     points = gz.map_bits(gz.pack(bits), qm, bits.size)
     assert points.dtype == np.complex64
     assert points.tolist() == [point(it) for it in bits.reshape(-1, qm).tolist()]
-    every = gz.map_bits(gz.pack(np.unpackbits(np.arange(2**qm, dtype=np.uint8)[:, None], axis=1)[:, 8 - qm :].reshape(-1)), qm, qm * 2**qm)
+    every = gz.map_bits(
+        gz.pack(np.unpackbits(np.arange(2**qm, dtype=np.uint8)[:, None], axis=1)[:, 8 - qm :].reshape(-1)),
+        qm,
+        qm * 2**qm,
+    )
     assert np.mean(np.abs(every * gz.UNIT_POWER[qm]) ** 2) == pytest.approx(1)
 
 
@@ -72,7 +82,8 @@ def test_soft_values_are_distances(qm):
     far = np.abs(received[:, None] - amp * np.array([point(it) for it in labels])) ** 2
     bits = np.array(labels)
     wanted = [
-        [(far[s, bits[:, i] == 1].min() - far[s, bits[:, i] == 0].min()) / (4 * amp) for i in range(qm)] for s in range(40)
+        [(far[s, bits[:, i] == 1].min() - far[s, bits[:, i] == 0].min()) / (4 * amp) for i in range(qm)]
+        for s in range(40)
     ]
     found = gz.demap_points(received, qm, amp)
     assert found.reshape(40, qm).tolist() == np.clip(np.trunc(np.round(wanted, 6)), -127, 127).tolist()

@@ -27,7 +27,11 @@ def test_each_size_and_each_corner_has_its_case():
     assert [gz.plan(it.length).k_plus for it in every[:188]] == sizes()
     plans = [gz.plan(it.length) for it in corners()]
     sent = [told for it in corners() for told in it.transmissions]
-    assert {it.qm for it in sent} == {2, 4, 6} and {it.nl for it in sent} == {1, 2} and {it.rv for it in sent} == {0, 1, 2, 3}
+    assert (
+        {it.qm for it in sent} == {2, 4, 6}
+        and {it.nl for it in sent} == {1, 2}
+        and {it.rv for it in sent} == {0, 1, 2, 3}
+    )
     assert any(it.c_minus and it.f for it in plans) and any(it.c_minus and not it.f for it in plans)
     told = [gz.piece(it.length, 0, it.transmissions[0], it.n_ir) for it in corners()]
     assert any(it.places < it.buffer for it in told) and any(it.bits > it.places for it in told)
@@ -53,7 +57,9 @@ def test_files_say_what_the_calls_say(suite):
 
 def test_some_are_delivered_late_and_some_are_lost(suite):
     outcomes = [it["outcome"] for it in suite[1]["cases"]]
-    assert any(it["delivered"] and it["transmissions"] > 1 for it in outcomes) and not all(it["delivered"] for it in outcomes)
+    assert any(it["delivered"] and it["transmissions"] > 1 for it in outcomes) and not all(
+        it["delivered"] for it in outcomes
+    )
 
 
 def test_it_is_the_same_each_time(suite, tmp_path):

@@ -12,8 +12,9 @@ meanwhile.
 from .arrays import pack, unpack
 from .block import decode_block
 from .channel import noisy, trial_payload
+from .harq import Harq
 from .origin import origin
-from .receiver import Harq, receive, sizes
+from .receiver import receive, sizes
 from .refused import Answer, Refused
 from .sender import MOST_BITS, MOST_BYTES, codeword, codewords, plan
 from .signals import UNIT_POWER, demap_points, descramble, map_bits, scramble, scrambling_init

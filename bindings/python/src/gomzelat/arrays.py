@@ -24,12 +24,22 @@ def bytes_of(data: Any, name: str) -> Bytes:
     """Returns bytes as an array, which isn't copied where they are contiguous already."""
     if isinstance(data, (bytes, bytearray)):
         return np.frombuffer(data, np.uint8)
-    return _of(data, np.dtype(np.uint8), name, "bytes: an array of uint8, or what has the buffer protocol with such items")
+    return _of(
+        data,
+        np.dtype(np.uint8),
+        name,
+        "bytes: an array of uint8, or what has the buffer protocol with such items",
+    )
 
 
 def softs_of(data: Any, name: str = "values") -> Softs:
     """Returns soft values as an array, which isn't copied where they are contiguous already."""
-    return _of(data, np.dtype(np.int8), name, "soft values: an array of int8 (see quantise), or numbers from -128 to 127")
+    return _of(
+        data,
+        np.dtype(np.int8),
+        name,
+        "soft values: an array of int8 (see quantise), or numbers from -128 to 127",
+    )
 
 
 def bits_of(data: Any, name: str = "bits") -> Bits:
@@ -43,7 +53,9 @@ def bits_of(data: Any, name: str = "bits") -> Bits:
 
 def _of(data: Any, kind: np.dtype[Any], name: str, wanted: str) -> npt.NDArray[Any]:
     given = np.asarray(data)
-    listed = isinstance(data, Sequence) and not isinstance(data, (bytes, bytearray, memoryview, np.ndarray, str))
+    listed = isinstance(data, Sequence) and not isinstance(
+        data, (bytes, bytearray, memoryview, np.ndarray, str)
+    )
     if listed and (given.size == 0 or given.dtype.kind in "iu"):
         limits = np.iinfo(kind)
         if given.size and (given.min() < limits.min or given.max() > limits.max):
@@ -54,7 +66,9 @@ def _of(data: Any, kind: np.dtype[Any], name: str, wanted: str) -> npt.NDArray[A
     return np.ascontiguousarray(given).reshape(-1)
 
 
-def room(out: npt.NDArray[_Scalar] | None, count: int, kind: type[_Scalar], *inputs: npt.NDArray[Any]) -> npt.NDArray[_Scalar]:
+def room(
+    out: npt.NDArray[_Scalar] | None, count: int, kind: type[_Scalar], *inputs: npt.NDArray[Any]
+) -> npt.NDArray[_Scalar]:
     """Returns the array that a call writes to: a new one of so many items, or the caller's, which has to be contiguous
     and apart from what the call reads."""
     if out is None:

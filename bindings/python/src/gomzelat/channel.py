@@ -26,7 +26,13 @@ def _within(value: Any, bits: int) -> int:
 
 
 def noisy(
-    bits: BytesLike, count: int, channel: Channel, block: int = 0, number: int = 0, *, out: Softs | None = None
+    bits: BytesLike,
+    count: int,
+    channel: Channel,
+    block: int = 0,
+    number: int = 0,
+    *,
+    out: Softs | None = None,
 ) -> Softs:
     """Return soft values of sent bits, with noise from a seed, as the program's `channel` and `trial` make them.
 

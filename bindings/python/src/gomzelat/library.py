@@ -72,7 +72,9 @@ def path() -> Path:
     found = next((it for it in places if it.exists()), None)
     if found is None:
         tried = ", ".join(map(str, places))
-        raise OSError(f"there is no library at {tried}: run bindings/build, or name the file in GOMZELAT_LIBRARY")
+        raise OSError(
+            f"there is no library at {tried}: run bindings/build, or name the file in GOMZELAT_LIBRARY"
+        )
     return found
 
 

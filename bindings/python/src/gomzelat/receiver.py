@@ -1,4 +1,4 @@
-"""The receiver: transmissions all at once (`receive`), or one after the other (`Harq`).
+"""The receiver of transmissions all at once.
 
 What is passed must not be changed by another thread before a call is back: the interpreter's lock is open meanwhile.
 """
@@ -7,18 +7,17 @@ from __future__ import annotations
 
 import ctypes
 from collections.abc import Sequence
-from typing import Any
 
 import numpy as np
-import numpy.typing as npt
 
 from . import library
-from .arrays import Bits, Bytes, Softs, SoftsLike, buffer_size, number, softs_of, unpack  # noqa: F401
-from .sender import MOST_BYTES, codeword, plan  # noqa: F401
+from .arrays import SoftsLike, buffer_size, number, softs_of
+from .sender import MOST_BYTES
 from .values import Outcome, Sizes, Transmission
 
 
-def _in_c(n_ir: int, windows: int, limit: int) -> ctypes.Structure:
+def in_c(n_ir: int, windows: int, limit: int) -> ctypes.Structure:
+    """Returns how a receiver decodes, as C takes it."""
     return library.CReceiver(buffer_size(n_ir), number(windows), number(limit))
 
 
@@ -58,6 +57,7 @@ def receive(
 
     Examples
     --------
+    >>> from gomzelat import unpack
     >>> sent = Transmission(qm=2, g=132, rv=0)
     >>> bits = unpack(bytes.fromhex("3494861b120470c379901015042d498890"), 132)
     >>> outcome = receive(2, [sent], np.where(bits == 0, 40, -40).astype(np.int8))
@@ -72,7 +72,7 @@ def receive(
     told = library.COutcome()
     library.call(
         "receive",
-        *(size, sent, len(sent), _in_c(n_ir, windows, limit), library.at(softs), softs.size),
+        *(size, sent, len(sent), in_c(n_ir, windows, limit), library.at(softs), softs.size),
         *(library.at(payload), payload.size, ctypes.byref(told)),
     )
     return Outcome(payload if told.delivered else None, told.transmissions, told.iterations)
@@ -94,129 +94,3 @@ def sizes(length: int) -> Sizes:
     out = library.CSizes()
     library.call("sizes", number(length, 64), ctypes.byref(out))
     return Sizes(out.cells, out.blocks, out.bits)
-
-
-class Harq:
-    """The reception of one transport block, transmission after transmission.
-
-    `add` and `decode` after each transmission, until `decode` returns True, come to what `receive` gives of all these
-    transmissions at once. All that is known between calls stands in the arrays below, which may be read, saved, copied
-    and changed; an object is copied and pickled whole.
-
-    Parameters
-    ----------
-    length, n_ir, windows, limit
-        As for `receive`. Only the length is tested at once; the others with the first call that takes them.
-
-    Attributes
-    ----------
-    cells : array of int8
-        The soft cells, code block after code block those of d0, of d1 and of d2, each K + 4.
-    bits : array of uint8
-        Each bit 0 or 1 that the code blocks were last decided to be, one code block after the other, also of those
-        that failed.
-    payload : array of uint8
-        The bytes that these bits carry, whether or not the checks hold.
-    delivered : bool
-        Whether the checks of all code blocks and of the transport block held at the last `decode`.
-    transmissions : int
-        How many were added.
-
-    Raises
-    ------
-    Refused
-        BAD_LENGTH.
-
-    Examples
-    --------
-    >>> first, second = Transmission(qm=2, g=60, rv=0), Transmission(qm=2, g=60, rv=2)
-    >>> harq = Harq(2)
-    >>> for sent in (first, second):
-    ...     bits = codeword(b"\\0\\1", sent, bits=True)
-    ...     harq.add(sent, np.where(bits == 0, 20, -20).astype(np.int8))
-    ...     if harq.decode():
-    ...         break
-    >>> harq.delivered, harq.payload.tolist(), harq.passed.tolist()
-    (True, [0, 1], [True])
-    """
-
-    def __init__(self, length: int, n_ir: int = 0, windows: int = 8, limit: int = 8) -> None:
-        kept = sizes(length)
-        self.length, self.n_ir, self.windows, self.limit = length, n_ir, windows, limit
-        self.delivered = False
-        self.transmissions = 0
-        self._cells: Softs = np.zeros(kept.cells, np.int8)
-        self._bits: Bits = np.zeros(kept.bits, np.uint8)
-        self._payload: Bytes = np.zeros(length, np.uint8)
-        self._blocks: npt.NDArray[Any] = np.zeros(kept.blocks, library.result_type())
-
-    @property
-    def cells(self) -> Softs:
-        """The soft cells."""
-        return self._cells
-
-    @property
-    def bits(self) -> Bits:
-        """The decided bits of all code blocks."""
-        return self._bits
-
-    @property
-    def payload(self) -> Bytes:
-        """The bytes that the decided bits carry."""
-        return self._payload
-
-    def add(self, transmission: Transmission, values: SoftsLike) -> None:
-        """Add the soft values of one transmission to the cells, each sum clamped to -127 to 127.
-
-        Parameters
-        ----------
-        transmission : Transmission
-            Its numbers.
-        values : array of int8
-            A soft value for each of its G bits.
-
-        Raises
-        ------
-        Refused
-            BAD_QM, BAD_NL, BAD_G, BAD_VERSION, BAD_BUFFER, BAD_VALUES. The cells are as they were.
-        """
-        softs, told = softs_of(values), transmission.in_c()
-        library.call(
-            "combine",
-            *(self.length, told, buffer_size(self.n_ir), library.at(softs), softs.size),
-            *(library.at(self._cells), self._cells.size),
-        )
-        self.transmissions += 1
-
-    def decode(self) -> bool:
-        """Decode the code blocks that haven't passed, and return whether the transport block is delivered.
-
-        Raises
-        ------
-        Refused
-            BAD_BUFFER, BAD_WINDOWS, BAD_LIMIT. All arrays are as they were.
-        """
-        delivered = ctypes.c_uint32()
-        library.call(
-            "decode",
-            *(self.length, _in_c(self.n_ir, self.windows, self.limit), library.at(self._cells), self._cells.size),
-            *(library.at(self._blocks), self._blocks.size, library.at(self._bits), self._bits.size),
-            *(library.at(self._payload), self._payload.size, ctypes.byref(delivered)),
-        )
-        self.delivered = bool(delivered.value)
-        return self.delivered
-
-    @property
-    def passed(self) -> npt.NDArray[np.bool_]:
-        """Whether the check of each code block held at the last `decode`."""
-        return np.asarray(self._blocks["passed"] != 0)
-
-    @property
-    def iterations(self) -> npt.NDArray[np.uint64]:
-        """The iterations that the last decoding of each code block took."""
-        return np.asarray(self._blocks["iterations"])
-
-    def code_blocks(self) -> list[Bits]:
-        """Return the decided bits of each code block, as views of `bits`."""
-        cut = plan(self.length)
-        return np.split(self._bits, np.cumsum([cut.size(r) for r in range(cut.c - 1)], dtype=np.intp))

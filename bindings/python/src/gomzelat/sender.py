@@ -42,7 +42,12 @@ def plan(length: int) -> Plan:
 
 
 def codeword(
-    payload: BytesLike, transmission: Transmission, n_ir: int = 0, *, bits: bool = False, out: Bytes | None = None
+    payload: BytesLike,
+    transmission: Transmission,
+    n_ir: int = 0,
+    *,
+    bits: bool = False,
+    out: Bytes | None = None,
 ) -> Bytes:
     """Return the codeword of a transmission: its G bits (36.212 5.1.5).
 
@@ -79,7 +84,9 @@ def codeword(
         raise TypeError("bits and out are not taken together")
     count = min(told.g, MOST_BITS)
     made = room(out, (count + 7) // 8, np.uint8, data)
-    library.call("codeword", library.at(data), data.size, told, buffer_size(n_ir), library.at(made), made.size)
+    library.call(
+        "codeword", library.at(data), data.size, told, buffer_size(n_ir), library.at(made), made.size
+    )
     return unpack(made, count) if bits else made[: (count + 7) // 8]
 
 

@@ -40,7 +40,9 @@ def scrambling_init(scrambling: Scrambling) -> int:
     return int(out.value)
 
 
-def scramble(bits: BytesLike, scrambling: Scrambling, count: int | None = None, *, out: Bytes | None = None) -> Bytes:
+def scramble(
+    bits: BytesLike, scrambling: Scrambling, count: int | None = None, *, out: Bytes | None = None
+) -> Bytes:
     """Return bits with the sequence of a transmission added, modulo 2 (36.211 6.3.1, 5.3.1). Twice gives them back.
 
     Parameters

@@ -28,26 +28,53 @@ SAVED_EVERY = 10.0
 
 def _arguments() -> argparse.ArgumentParser:
     words = argparse.ArgumentParser(
-        prog="python3 -m gomzelat.campaign", description=__doc__, formatter_class=argparse.RawDescriptionHelpFormatter
+        prog="python3 -m gomzelat.campaign",
+        description=__doc__,
+        formatter_class=argparse.RawDescriptionHelpFormatter,
     )
-    words.add_argument("--csv", required=True, type=Path, help="where results are kept; a later run goes on from them")
+    words.add_argument(
+        "--csv", required=True, type=Path, help="where results are kept; a later run goes on from them"
+    )
     words.add_argument("--picture", type=Path, help="where a picture is drawn: .svg, .png, .pdf")
     words.add_argument("--title", default="", help="what stands above the picture")
-    words.add_argument("--add", nargs="*", default=[], type=Path, metavar="CSV", help="other parts for the picture")
-    words.add_argument("--curves", type=Path, metavar="JSON", help="what is measured, as --dump-curves writes it")
-    words.add_argument("--dump-curves", type=Path, metavar="JSON", help="write the curves of this run and end")
-    words.add_argument("--snr", type=float, nargs=3, default=(-7, 6, 0.5), metavar=("FROM", "TO", "STEP"), help="E_s/N_0 in dB")
+    words.add_argument(
+        "--add", nargs="*", default=[], type=Path, metavar="CSV", help="other parts for the picture"
+    )
+    words.add_argument(
+        "--curves", type=Path, metavar="JSON", help="what is measured, as --dump-curves writes it"
+    )
+    words.add_argument(
+        "--dump-curves", type=Path, metavar="JSON", help="write the curves of this run and end"
+    )
+    words.add_argument(
+        "--snr",
+        type=float,
+        nargs=3,
+        default=(-7, 6, 0.5),
+        metavar=("FROM", "TO", "STEP"),
+        help="E_s/N_0 in dB",
+    )
     words.add_argument("--errors", type=int, default=100, help="a point ends with so many block errors (100)")
     words.add_argument("--blocks", type=int, default=100_000, help="or after so many blocks (100000)")
-    words.add_argument("--floor", type=float, default=1e-3, help="a curve ends below this rate of block errors (0.001)")
+    words.add_argument(
+        "--floor", type=float, default=1e-3, help="a curve ends below this rate of block errors (0.001)"
+    )
     words.add_argument("--first", type=int, default=0, help="the number of the first block (0)")
-    words.add_argument("--channel", choices=("awgn", "integer"), default="awgn", help="numpy's noise, or whole numbers")
+    words.add_argument(
+        "--channel", choices=("awgn", "integer"), default="awgn", help="numpy's noise, or whole numbers"
+    )
     words.add_argument("--amp", type=int, default=20, help="the soft value of a bit without noise (20)")
     words.add_argument("--seed", type=int, default=1)
-    words.add_argument("--executor", choices=NAMES, default="processes", help="what runs the blocks (processes)")
+    words.add_argument(
+        "--executor", choices=NAMES, default="processes", help="what runs the blocks (processes)"
+    )
     words.add_argument("--workers", type=int, help="how many processes (as many as there are processors)")
-    words.add_argument("--scheduler", metavar="ADDRESS", help="dask's scheduler; else a cluster of this machine")
-    words.add_argument("--chunk", type=int, default=50, help="blocks of one call (50); results don't depend on it")
+    words.add_argument(
+        "--scheduler", metavar="ADDRESS", help="dask's scheduler; else a cluster of this machine"
+    )
+    words.add_argument(
+        "--chunk", type=int, default=50, help="blocks of one call (50); results don't depend on it"
+    )
     words.add_argument("--quiet", action="store_true", help="no progress bar")
     return words
 
@@ -64,7 +91,9 @@ def _measure(given: argparse.Namespace, points: list[Point]) -> None:
             with tqdm(total=len(points), unit="point", disable=given.quiet) as bar:
                 for it in campaign.run(points):
                     results[Place(it.point, given.first)] = it.counts
-                    bar.set_postfix_str(f"{it.point.curve.name} {it.point.snr:g} dB {it.counts.errors}/{it.counts.blocks}")
+                    bar.set_postfix_str(
+                        f"{it.point.curve.name} {it.point.snr:g} dB {it.counts.errors}/{it.counts.blocks}"
+                    )
                     bar.update(it.is_done)
                     if time.monotonic() - saved > SAVED_EVERY:
                         write(given.csv, results)

@@ -10,7 +10,7 @@ import numpy.typing as npt
 
 from ..arrays import Bytes, Softs, unpack
 from ..channel import noisy, trial_payload
-from ..receiver import Harq
+from ..harq import Harq
 from ..sender import codeword
 from ..signals import UNIT_POWER, demap_points, map_bits
 from ..soft import quantise

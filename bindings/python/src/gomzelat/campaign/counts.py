@@ -54,5 +54,9 @@ def wilson(errors: int, blocks: int, sigmas: float = 1.959964) -> tuple[float, f
         return 0.0, 1.0
     rate, square = errors / blocks, sigmas * sigmas
     middle = (rate + square / (2 * blocks)) / (1 + square / blocks)
-    half = sigmas * math.sqrt(rate * (1 - rate) / blocks + square / (4 * blocks * blocks)) / (1 + square / blocks)
+    half = (
+        sigmas
+        * math.sqrt(rate * (1 - rate) / blocks + square / (4 * blocks * blocks))
+        / (1 + square / blocks)
+    )
     return max(0.0, middle - half), min(1.0, middle + half)

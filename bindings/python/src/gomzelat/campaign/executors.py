@@ -26,7 +26,9 @@ class Here(Executor):
 
 
 @contextmanager
-def executor(name: str, workers: int | None = None, scheduler: str | None = None) -> Iterator[tuple[Executor, int]]:
+def executor(
+    name: str, workers: int | None = None, scheduler: str | None = None
+) -> Iterator[tuple[Executor, int]]:
     """Give the executor of a name, and how many calls keep it busy.
 
     Parameters
@@ -48,7 +50,9 @@ def executor(name: str, workers: int | None = None, scheduler: str | None = None
     elif name == "dask":
         from distributed import Client
 
-        local = {} if scheduler else {"n_workers": workers, "threads_per_worker": 1, "dashboard_address": None}
+        local = (
+            {} if scheduler else {"n_workers": workers, "threads_per_worker": 1, "dashboard_address": None}
+        )
         client: Any = Client(scheduler, **local)  # type: ignore[no-untyped-call]
         with client, client.get_executor() as pool:
             yield pool, 2 * max(1, sum(client.ncores().values()))

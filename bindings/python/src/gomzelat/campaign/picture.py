@@ -26,7 +26,9 @@ def _draw(axes: Any, curve: Curve, at: list[tuple[float, Counts]], style: dict[s
     bounds = np.array([wilson(counts.errors, counts.blocks) for _, counts in at])
     seen = rates > 0
     axes.semilogy(np.array(snr)[seen], rates[seen], marker=".", label=curve.name, **style)
-    axes.fill_between(snr, np.maximum(bounds[:, 0], 1e-9), bounds[:, 1], color=style["color"], alpha=0.15, linewidth=0)
+    axes.fill_between(
+        snr, np.maximum(bounds[:, 0], 1e-9), bounds[:, 1], color=style["color"], alpha=0.15, linewidth=0
+    )
     undetected = np.array([counts.undetected / counts.blocks for _, counts in at])
     if undetected.any():
         found = undetected > 0
@@ -65,5 +67,7 @@ def draw(results: Mapping[Point, Counts], file: str | Path, title: str = "", flo
         axes.set(xlabel="$E_s/N_0$ [dB]", ylabel="block error rate", title=title, ylim=(floor / 2, 1.2))
         axes.grid(True, which="both", alpha=0.25)
         axes.legend(title="dotted: Shannon limit", loc="center left", bbox_to_anchor=(1.01, 0.5))
-        figure.savefig(file, bbox_inches="tight", metadata={"Date": None} if str(file).endswith(".svg") else None)
+        figure.savefig(
+            file, bbox_inches="tight", metadata={"Date": None} if str(file).endswith(".svg") else None
+        )
         pyplot.close(figure)

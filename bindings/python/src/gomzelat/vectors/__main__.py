@@ -21,10 +21,16 @@ from .suite import write_suite
 
 def main() -> int:
     words = argparse.ArgumentParser(
-        prog="python3 -m gomzelat.vectors", description=__doc__, formatter_class=argparse.RawDescriptionHelpFormatter
+        prog="python3 -m gomzelat.vectors",
+        description=__doc__,
+        formatter_class=argparse.RawDescriptionHelpFormatter,
     )
-    words.add_argument("folder", type=Path, help="where the suite is written; it is made where it isn't there")
-    words.add_argument("--only", default="*", metavar="PATTERN", help="the cases with such names, as 'limited*'")
+    words.add_argument(
+        "folder", type=Path, help="where the suite is written; it is made where it isn't there"
+    )
+    words.add_argument(
+        "--only", default="*", metavar="PATTERN", help="the cases with such names, as 'limited*'"
+    )
     words.add_argument("--quiet", action="store_true", help="no progress bar")
     given = words.parse_args()
     given.folder.mkdir(parents=True, exist_ok=True)

@@ -64,7 +64,12 @@ def corners() -> list[Case]:
     two = _first("two sizes")
     return [
         Case("fillers_least", "one byte, with fillers", 1, (Transmission(2, 120, 0),)),
-        Case("fillers_most", "as many fillers as a single code block has", _first("most fillers"), _all_versions(2, 4608)),
+        Case(
+            "fillers_most",
+            "as many fillers as a single code block has",
+            _first("most fillers"),
+            _all_versions(2, 4608),
+        ),
         Case("two_sizes", "code blocks of two sizes", two, (Transmission(4, 24 * two, 0),)),
         Case(
             "two_sizes_fillers",
@@ -72,19 +77,61 @@ def corners() -> list[Case]:
             _first("two sizes and fillers"),
             (Transmission(2, 24 * _first("two sizes and fillers"), 0),),
         ),
-        Case("two_blocks_fillers", "fillers in the first of two", _first("two blocks and fillers"), _all_versions(6, 18000)),
-        Case("thirteen_blocks", "many code blocks, limited", 9422, (Transmission(6, 82800, 0),), 77328, Channel(40, 4, 4)),
+        Case(
+            "two_blocks_fillers",
+            "fillers in the first of two",
+            _first("two blocks and fillers"),
+            _all_versions(6, 18000),
+        ),
+        Case(
+            "thirteen_blocks",
+            "many code blocks, limited",
+            9422,
+            (Transmission(6, 82800, 0),),
+            77328,
+            Channel(40, 4, 4),
+        ),
         Case("versions", "each redundancy version", 100, _all_versions(2, 1000), channel=loud),
         Case("limited", "a limited buffer, each redundancy version", 100, _all_versions(2, 1600), 1500, loud),
         Case("limited_two", "a limited buffer of two code blocks", 1000, _all_versions(4, 12000), 12800),
         Case("layers", "two layers", 100, (Transmission(4, 1600, 0, 2), Transmission(4, 1600, 2, 2))),
-        Case("layers_unequal", "two layers, code blocks that send unlike many", 1000, (Transmission(6, 12012, 0, 2),)),
+        Case(
+            "layers_unequal",
+            "two layers, code blocks that send unlike many",
+            1000,
+            (Transmission(6, 12012, 0, 2),),
+        ),
         *(Case(f"order_{qm}", f"Q_m = {qm}", 150, (Transmission(qm, 2400, 0),)) for qm in (2, 4, 6)),
-        Case("wrap", "more bits than the buffer has: they go round it", 10, (Transmission(2, 2000, 3),), channel=loud),
-        Case("wrap_limited", "round a limited buffer, from each version", 10, _all_versions(2, 600), 200, loud),
-        Case("high_rate", "little more than the systematic bits", 100, (Transmission(2, 880, 0),), channel=quiet),
-        Case("mixed", "transmissions of unlike lengths and orders", 60, (Transmission(6, 540, 0), Transmission(2, 300, 2))),
-        Case("lost", "more noise than the receiver can mend", 100, (Transmission(2, 1000, 0),), channel=Channel(5, 100, 5)),
+        Case(
+            "wrap",
+            "more bits than the buffer has: they go round it",
+            10,
+            (Transmission(2, 2000, 3),),
+            channel=loud,
+        ),
+        Case(
+            "wrap_limited", "round a limited buffer, from each version", 10, _all_versions(2, 600), 200, loud
+        ),
+        Case(
+            "high_rate",
+            "little more than the systematic bits",
+            100,
+            (Transmission(2, 880, 0),),
+            channel=quiet,
+        ),
+        Case(
+            "mixed",
+            "transmissions of unlike lengths and orders",
+            60,
+            (Transmission(6, 540, 0), Transmission(2, 300, 2)),
+        ),
+        Case(
+            "lost",
+            "more noise than the receiver can mend",
+            100,
+            (Transmission(2, 1000, 0),),
+            channel=Channel(5, 100, 5),
+        ),
     ]
 
 

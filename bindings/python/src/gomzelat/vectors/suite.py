@@ -47,7 +47,12 @@ def _block(folder: Path, case: Case, payload: Bytes, r: int) -> dict[str, Any]:
 
 def _outcome(case: Case, payload: Bytes, softs: list[Softs]) -> dict[str, Any]:
     told = receive(
-        case.length, case.transmissions, np.concatenate(softs), case.n_ir, windows=case.windows, limit=case.limit
+        case.length,
+        case.transmissions,
+        np.concatenate(softs),
+        case.n_ir,
+        windows=case.windows,
+        limit=case.limit,
     )
     if told.payload is not None and not np.array_equal(told.payload, payload):
         raise AssertionError(f"{case.name} is delivered as something else")
@@ -60,10 +65,18 @@ def write_case(folder: Path, case: Case) -> dict[str, Any]:
     place.mkdir(parents=True, exist_ok=True)
     payload = trial_payload(case.length, case.channel.seed)
     sent = [codeword(payload, it, case.n_ir) for it in case.transmissions]
-    softs = [noisy(bits, it.g, case.channel, 0, i) for i, (bits, it) in enumerate(zip(sent, case.transmissions))]
+    softs = [
+        noisy(bits, it.g, case.channel, 0, i) for i, (bits, it) in enumerate(zip(sent, case.transmissions))
+    ]
     cut = plan(case.length)
     return {
-        **{"name": case.name, "what": case.what, "folder": case.name, "bytes": case.length, "plan": asdict(cut)},
+        **{
+            "name": case.name,
+            "what": case.what,
+            "folder": case.name,
+            "bytes": case.length,
+            "plan": asdict(cut),
+        },
         "n_ir": case.n_ir,
         "transmissions": [asdict(it) for it in case.transmissions],
         "payload": write(place / "payload.hex", payload, 2),
