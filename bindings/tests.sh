@@ -149,7 +149,3 @@ packed() {
 of_rust() {
     cd "$top/bindings/rust" && GOMZELAT_LIB=$out CARGO_TARGET_DIR=$out/cargo cargo test --offline --locked
 }
-
-of_python() {
-    cd "$top/bindings/python" && PYTHONDONTWRITEBYTECODE=1 GOMZELAT_LIBRARY=$out/libgomzelat.so "$@"
-}
