@@ -156,6 +156,10 @@ def test_soft_values_of_ratios():
     assert gz.quantise(np.array([[1.0, -2.0]]), -10).tolist() == [[-10, 20]]
     out = np.zeros(2, np.int8)
     assert gz.quantise([1, 2], 3, out=out) is out and out.tolist() == [3, 6]
+    with pytest.raises(TypeError):
+        gz.quantise([1, 2], out=np.zeros(2, np.uint8))
+    with pytest.raises(ValueError):
+        gz.quantise([1, 2], out=np.zeros(3, np.int8))
     for bad, scale in (([np.nan], 1), ([1.0], np.nan), ([1.0], np.inf)):
         with pytest.raises(ValueError):
             gz.quantise(bad, scale)

@@ -63,5 +63,7 @@ def quantise(llr: npt.ArrayLike, scale: float = 1.0, *, out: Softs | None = None
     made = np.clip(np.rint(scaled), -127, 127)
     if out is None:
         return np.asarray(made.astype(np.int8))
+    if out.dtype != np.int8:
+        raise TypeError("out is an array of int8")
     np.copyto(out, made, casting="unsafe")
     return out
