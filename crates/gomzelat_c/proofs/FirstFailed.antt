@@ -42,3 +42,10 @@ fourth true true true false p q r s u ts h k l is = is
 fourth true true false d p q r s u ts h k l is = cc
 fourth true false c d p q r s u ts h k l is = cc
 fourth false b c d p q r s u ts h k l is = cc
+
+-- one test holds, and the second doesn't
+pub second : (a b : Bool) (p s u : Refusal) (ts : List Test) → a ≡ true → first_failed (test b s ∷ []) ≡ Some u
+    → first_failed (test a p ∷ test b s ∷ ts) ≡ Some u
+second true true p s u ts h is = cc
+second true false p s u ts h is = is
+second false b p s u ts h is = cc
