@@ -42,10 +42,10 @@ function callsOf(x) {
       const told = x.gomzelat_spots(BigInt(bytes), BigInt(r), out, BigInt(n));
       return { told, values: new Uint32Array(view(out, 4 * n).slice().buffer) };
     }),
-    piece: (bytes, r, t, n_ir) => lent([40], (p) => {
+    piece: (bytes, r, t, n_ir) => lent([48], (p) => {
       const told = x.gomzelat_piece(BigInt(bytes), BigInt(r), ...sent(t), n_ir, p);
-      const [k, fill, places, start, bits] = words(p, 5);
-      return { told, k, fill, places, start, bits };
+      const [k, fill, buffer, places, start, bits] = words(p, 6);
+      return { told, k, fill, buffer, places, start, bits };
     }),
     noisy: (bytes, count, c, number) => lent([bytes.length, count], (p, out) => {
       put(p, bytes);

@@ -7,18 +7,18 @@ const $ = (id) => document.getElementById(id);
 // ---- What is refused, in words, and the field that it is told beside.
 
 const REFUSED = {
-  1: ["payload", `A payload has 1 to ${MOST_BYTES.toLocaleString("en")} bytes.`],
-  3: ["qm", "Q_m is 2, 4 or 6."],
-  4: ["nl", "N_L is 1 or 2."],
-  5: ["g", "G is 1 to 1,000,000, and a multiple of N_L × Q_m."],
-  6: ["rvs", "A redundancy version is 0 to 3."],
-  7: ["nir", "N_IR is too small: for each code block it has to hold all of the first stream."],
-  2: ["rvs", "One to eight transmissions are sent."],
-  8: ["windows", "There are 1 to 64 windows."],
-  9: ["limit", "There are 1 to 16 iterations."],
-  12: ["amp", "The amplitude is 1 to 127."],
-  13: ["noise", "The noise is 0 to 127."],
-  16: ["payload", "Memory ran out."],
+  1: ["payload", "Memory ran out."],
+  2: ["payload", `A payload has 1 to ${MOST_BYTES.toLocaleString("en")} bytes.`],
+  4: ["qm", "Q_m is 2, 4 or 6."],
+  5: ["nl", "N_L is 1 or 2."],
+  6: ["g", "G is 1 to 1,000,000, and a multiple of N_L × Q_m."],
+  7: ["rvs", "A redundancy version is 0 to 3."],
+  8: ["nir", "N_IR is too small: for each code block it has to hold all of the first stream."],
+  3: ["rvs", "One to eight transmissions are sent."],
+  10: ["windows", "There are 1 to 64 windows."],
+  11: ["limit", "There are 1 to 16 iterations."],
+  17: ["amp", "The amplitude is 1 to 127."],
+  18: ["noise", "The noise is 0 to 127."],
 };
 
 class Refused extends Error {
@@ -200,8 +200,8 @@ function show_word(t, word, plan, r, before, bits) {
 
 function show_reception(calls, payload, t, n_ir) {
   const rvs = $("rvs").value.trim().split(/[\s,]+/).filter((it) => it);
-  if (rvs.some((it) => !/^[0-3]$/.test(it))) throw new Refused("rvs", REFUSED[6][1]);
-  if (rvs.length < 1 || rvs.length > 8) throw new Refused("rvs", REFUSED[2][1]);
+  if (rvs.some((it) => !/^[0-3]$/.test(it))) throw new Refused("rvs", REFUSED[7][1]);
+  if (rvs.length < 1 || rvs.length > 8) throw new Refused("rvs", REFUSED[3][1]);
   const channel = { amp: number_in("amp", 1, 127, "The amplitude"), noise: number_in("noise", 0, 127, "The noise"),
     seed: number_in("seed", 0, Number.MAX_SAFE_INTEGER, "The seed") };
   const receiver = { n_ir, windows: number_in("windows", 1, 64, "The greatest number of windows"),
