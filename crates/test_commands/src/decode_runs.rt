@@ -1,8 +1,8 @@
 //! Runs of `decode` and `batch` over memory.
 use std::test::Fail;
 use test_runs::{
-    END, HARD, LENGTH_2, SOFT, SOFT_TWICE, expect_chain, expect_run, failing_values, joined,
-    run_of, small_blocks, sound,
+    END, HARD, LENGTH_2, SOFT, SOFT_TWICE, expect_run, failing_values, joined, run_of,
+    small_blocks, sound,
 };
 use turbo_run::Status;
 
@@ -71,20 +71,6 @@ fn failed_blocks_add_a_line_alone(rt: HostRuntime) -> Result<(), Fail> {
     for decoder in DECODERS {
         let line = format!(in rt.alloc(); "{decoder} limit=3")?;
         expect_run(rt.alloc(), line.as_str(), &input, failed)?;
-    }
-    Ok(())
-}
-
-// The few parity bits say nothing of any one bit alone. So each is decided 0, and the checks of zeros hold.
-#[test]
-fn a_reception_of_little_but_parity_may_decode_to_zeros(rt: HostRuntime) -> Result<(), Fail> {
-    let channel = "channel amp=40 noise=0 seed=1";
-    let report = format!(in rt.alloc(); "{DELIVERED}end blocks 1 delivered 1 failed 0\n")?;
-    for (g, rv) in [(2, 2), (32, 2), (8, 3)] {
-        let encode = format!(in rt.alloc(); "encode tb=2 g={g} qm=2 rv={rv}")?;
-        let lines = [encode.as_str(), channel, "decode"];
-        let zeros = ([0u8, 0].as_slice(), report.as_str());
-        expect_chain(rt.alloc(), &lines, &[0xA5, 0x55], zeros)?;
     }
     Ok(())
 }
