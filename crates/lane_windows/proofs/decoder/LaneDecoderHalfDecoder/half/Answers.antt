@@ -14,6 +14,8 @@ still n len new slice items ok es el en =
 pub invariant_of-result : goal.invariant_of-result
 invariant_of-result g c =
     let n = g.row.N in let d = c.args.self in let half = c.decode_half in let b = d.borders in
+    let now = still n d.left_before_last.len half.new.left c.as_mut_slice-5.result.now d.left_before_last.items d.left_before_last.ok.0 c.as_mut_slice-5.ensures.value half.auto.left d.all_windows_earlier in
+    let last = d.all_windows in
     record {
       room = omega (arith, d.room, half.ensures.room);
       border_room = record {
@@ -25,8 +27,8 @@ invariant_of-result g c =
       all_places = ap length half.ensures.cells
           ∙ length-map-range_with_len (λ i. renewed d.views.views.streams.now d.views.views.shape c.args.h (start_of d.banks c.as_mut_slice-5.result.now)
           (position_of d.views.views.shape.k c.args.h i)) 0 d.views.views.shape.k;
-      all_windows = still n d.left_before_last.len half.new.left c.as_mut_slice-5.result.now d.left_before_last.items d.left_before_last.ok.0 c.as_mut_slice-5.ensures.value half.auto.left d.all_windows_earlier;
-      all_windows_earlier = d.all_windows;
+      all_windows = omega (arith, now, last);
+      all_windows_earlier = omega (arith, now, last);
     }
 
 pub returns-clause-before : goal.returns-clause-before
