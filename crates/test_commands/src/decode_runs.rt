@@ -1,8 +1,8 @@
 //! Runs of `decode` and `batch` over memory.
 use std::test::Fail;
 use test_runs::{
-    END, HARD, LENGTH_2, SOFT, SOFT_TWICE, expect_run, failing_values, joined, run_of,
-    small_blocks, sound,
+    END, HARD, LENGTH_2, SOFT, SOFT_TWICE, expect_chain, expect_run, failing_values, joined,
+    run_of, small_blocks, sound,
 };
 use turbo_run::Status;
 
@@ -71,6 +71,23 @@ fn failed_blocks_add_a_line_alone(rt: HostRuntime) -> Result<(), Fail> {
     for decoder in DECODERS {
         let line = format!(in rt.alloc(); "{decoder} limit=3")?;
         expect_run(rt.alloc(), line.as_str(), &input, failed)?;
+    }
+    Ok(())
+}
+
+// The few parity bits say nothing of any one bit alone. So each is decided 0, and the checks of zeros hold.
+#[test]
+fn a_reception_of_little_but_parity_may_decode_to_zeros(rt: HostRuntime) -> Result<(), Fail> {
+    let report = format!(in rt.alloc(); "{DELIVERED}end blocks 1 delivered 1 failed 0\n")?;
+    let zeros = ([0u8, 0].as_slice(), report.as_str());
+    let senders = [
+        "encode tb=2 g=2 qm=2 rv=2",
+        "encode tb=2 g=32 qm=2 rv=2",
+        "encode tb=2 g=8 qm=2 rv=3",
+    ];
+    for sender in senders {
+        let lines = [sender, "channel amp=40 noise=0 seed=1", "decode"];
+        expect_chain(rt.alloc(), &lines, &[0xA5, 0x55], zeros)?;
     }
     Ok(())
 }

@@ -49,7 +49,7 @@ fn size_40_in_four_windows(rt: HostRuntime) -> Result<(), Fail> {
     assert_eq!(rt; row, [13, 3, 33, 23]);
     let place = order.place(40, 21);
     assert_eq!(rt; (place, shares[2].get_at(1, place)), (33, 33));
-    shares[2].set_at(1, place, 99);
+    shares[2].set(1, 99);
     assert!(rt; are_numbers(&join(shares), 40, 33, 99));
     Ok(())
 }

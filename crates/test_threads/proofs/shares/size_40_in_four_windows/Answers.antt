@@ -11,7 +11,7 @@ use Rattle.cell_shares.specs.Shares.{name_of, share_label, share_values, share_p
 use Rattle.cell_shares.proofs.Labels.{cells-long, still-all}
 use Rattle.test_threads.proofs.Forties.{four, ten, place_is}
 use Rattle.test_threads.proofs.shares.size_40_in_four_windows.Goals as goal
-use Rattle.test_threads.proofs.shares.size_40_in_four_windows.Goals.{After-split-shares, After-set_at}
+use Rattle.test_threads.proofs.shares.size_40_in_four_windows.Goals.{After-split-shares, After-set}
 
 pub new-requires-clause-divides : goal.new-requires-clause-divides
 new-requires-clause-divides g c = subst (λ (n : ℕ). 4 ∣ n) (sym c.in_ok-numbers.ensures) (dvd_of_mod-eq-zero 4 {n = 40} (omega arith))
@@ -75,25 +75,22 @@ get_at-requires-clause-place g c = c.place-place.ensures.place ∙ at_21 g (goal
 pub index_mut-requires : goal.index_mut-requires
 index_mut-requires g c = let n = fours g (goal.at.index_mut-requires g c).After-split-shares in omega (arith, n)
 
-pub set_at-requires-clause-cell : goal.set_at-requires-clause-cell
-set_at-requires-clause-cell g c = tens g (goal.at.set_at-requires-clause-cell g c).After-split-shares 2 c.index_mut.result.now (omega arith) c.index_mut.ensures.value
-
-pub set_at-requires-clause-place : goal.set_at-requires-clause-place
-set_at-requires-clause-place g c = c.place-place.ensures.place ∙ at_21 g (goal.at.set_at-requires-clause-place g c).After-split-shares c.index_mut.result.now c.index_mut.ensures.value
+pub set-requires : goal.set-requires
+set-requires g c = tens g (goal.at.set-requires g c).After-split-shares 2 c.index_mut.result.now (omega arith) c.index_mut.ensures.value
 
 -- the shares after the write
-kept : (g : _) (c : After-set_at g) → AreAllOf (name_of c.in_ok-new.field-0) (Interleaved c.expect.result) (slice_set c.split-shares.result.items 2 c.set_at.new.self)
+kept : (g : _) (c : After-set g) → AreAllOf (name_of c.in_ok-new.field-0) (Interleaved c.expect.result) (slice_set c.split-shares.result.items 2 c.set.new.self)
 kept g c =
-    let shares = c.split-shares.result.items in let s = c.set_at.new.self in let old = c.index_mut.result.now in
-    let name = c.set_at.ensures.name in let order = c.set_at.ensures.order in let number = c.set_at.ensures.number in
+    let shares = c.split-shares.result.items in let s = c.set.new.self in let old = c.index_mut.result.now in
+    let name = c.set.ensures.name in let order = c.set.ensures.order in let number = c.set.ensures.number in
     let label : share_label s ≡ share_label old = λ i. (name i, (order i, number i)) in
     still-all (name_of c.in_ok-new.field-0) (Interleaved c.expect.result) shares c.split-shares.ensures.shares _
     (map-set_same share_label shares 2 s old (label ∙ ap share_label c.index_mut.ensures.value))
 
 pub join-requires : goal.join-requires
-join-requires g c = record { shares = (_, _, kept g (goal.at.join-requires g c).After-set_at) }
+join-requires g c = record { shares = (_, _, kept g (goal.at.join-requires g c).After-set) }
 
 pub are_numbers-requires : goal.are_numbers-requires
 are_numbers-requires g c =
     let here = goal.at.are_numbers-requires g c in
-    sym (cells-long c.join.result ∙ (ap (λ (n : Name). n.count) (c.join.ensures.name _ _ (kept g here.After-set_at)) ∙ many g here.After-split-shares))
+    sym (cells-long c.join.result ∙ (ap (λ (n : Name). n.count) (c.join.ensures.name _ _ (kept g here.After-set)) ∙ many g here.After-split-shares))
