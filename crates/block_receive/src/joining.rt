@@ -11,7 +11,7 @@ use segmentation::uncut;
 use std::alloc::Global;
 use window_decode::CodeResult;
 
-/// The blocks of results.
+/// Returns the blocks of results.
 fn blocks_of(alloc: Global, results: Vec<CodeResult>) -> Result<Vec<Block>, NoMemory>
     ensures { IfOk result (λ blocks. blocks.items ≡ map (λ x. x.block) results.items) }
 {
@@ -22,7 +22,7 @@ fn blocks_of(alloc: Global, results: Vec<CodeResult>) -> Result<Vec<Block>, NoMe
     Ok(blocks)
 }
 
-/// The payload that results carry, and whether the check of the transport block holds.
+/// Returns the payload that results carry, and whether the check of the transport block holds.
 pub fn join(alloc: Global, results: Vec<CodeResult>, plan: &Plan) -> Result<Uncut, NoMemory>
     requires { AreBlocksOf plan.now (map (λ x. x.block) results.items) }
     ensures payload { IfOk result (λ u. u.payload ≡ payload_of plan.now results.items) }

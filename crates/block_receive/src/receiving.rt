@@ -21,9 +21,9 @@ use soft_buffers::HarqBuffers;
 use std::alloc::Global;
 use window_decode::Shape;
 
-/// What the transmissions of a transport block come to, where `decode` decodes its code blocks. The
-/// buffer of `sends` fits the plan, and `softs` has the G values of each transmission, one transmission
-/// after the other.
+/// Decodes a transport block from its transmissions, where `decode` decodes its code blocks. The buffer of
+/// `sends` fits the plan, and `softs` has the G values of each transmission, one transmission after the
+/// other.
 pub fn receive<F: Fn(Global, &SoftStreams, &Shape) -> Decoded>(
     alloc: Global,
     decode: &F,
@@ -70,10 +70,10 @@ pub fn receive<F: Fn(Global, &SoftStreams, &Shape) -> Decoded>(
     })
 }
 
-/// What the transmissions of a transport block come to, decoded on one thread. A code block is decoded in
-/// at most `windows` windows, 1 to 64, and with at most `limit` iterations, 1 to 16; 8, 16 or 32 windows
-/// run in lock step. The buffer of `sends` fits the plan, and `softs` has the G values of each transmission,
-/// one transmission after the other.
+/// Decodes a transport block from its transmissions, on one thread. A code block is decoded in at most
+/// `windows` windows, 1 to 64, and with at most `limit` iterations, 1 to 16; 8, 16 or 32 windows run in lock
+/// step. The buffer of `sends` fits the plan, and `softs` has the G values of each transmission, one
+/// transmission after the other.
 pub fn receive_alone(
     alloc: Global,
     plan: &Plan,

@@ -9,14 +9,14 @@ use qpp_table::win;
 use segmentation::{fill, size};
 use window_decode::{CheckKind, Shape};
 
-/// The check that each of `c` code blocks carries (36.212 5.1.2).
+/// Returns the check that each of `c` code blocks carries (36.212 5.1.2).
 fn check_kind(c: usize) -> CheckKind
     ensures { result ≡ check_kind c }
 {
     if c == 1 { CheckKind::A } else { CheckKind::B }
 }
 
-/// The shape in which block `r`, below C, is decoded.
+/// Returns the shape in which block `r`, below C, is decoded.
 pub fn block_shape(task: &Task, r: usize) -> Shape
     requires { r < task.now.plan.c }
     ensures value { result ≡ block_shape task.now.plan (effort_in task.now) r }

@@ -20,9 +20,9 @@ use std::thread::Threads;
 use window_decode::Shape;
 use window_workers::{Gate, decode_block_shared};
 
-/// What the transmissions of a transport block come to, decoded by 1 to 16 workers, which enter `gate`
-/// before each window. A code block is decoded in at most `windows` windows, 1 to 64, and with at most
-/// `limit` iterations, 1 to 16. The buffer of `sends` fits the plan, and `softs` has the G values of each
+/// Decodes a transport block from its transmissions by 1 to 16 workers, which enter `gate` before each
+/// window. A code block is decoded in at most `windows` windows, 1 to 64, and with at most `limit`
+/// iterations, 1 to 16. The buffer of `sends` fits the plan, and `softs` has the G values of each
 /// transmission, one transmission after the other. It waits for its workers.
 pub fn receive_shared<R: Threads + Wait + Sync, G: Gate + Sync>(
     rt: &R,

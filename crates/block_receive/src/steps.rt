@@ -24,7 +24,7 @@ pub struct Carried {
     pub delivered: bool,
 }
 
-/// What is held after a try: the results that passed; but none where all did, since the check of the
+/// Returns what is held after a try: the results that passed; but none where all did, since the check of the
 /// transport block failed then.
 fn held_of(alloc: Global, last: Vec<CodeResult>) -> Result<Vec<Option<CodeResult>>, NoMemory>
     ensures { IfOk result (λ held. held.items ≡ held_after last.items) }
@@ -36,8 +36,8 @@ fn held_of(alloc: Global, last: Vec<CodeResult>) -> Result<Vec<Option<CodeResult
     }
 }
 
-/// The results of a try from soft cells, decoded on one thread, where `last` are those of the try before: a
-/// block of each block's size and fillers, of which those that passed are kept, unless all did.
+/// Returns the results of a try from soft cells, decoded on one thread, where `last` are those of the try
+/// before: a block of each block's size and fillers, of which those that passed are kept, unless all did.
 pub fn try_alone(
     alloc: Global,
     task: &Task,
@@ -59,7 +59,7 @@ pub fn try_alone(
     try_blocks(alloc, &decode, task, buffers, held)
 }
 
-/// What the results of a try carry.
+/// Returns what the results of a try carry.
 pub fn carried_by(alloc: Global, results: Vec<CodeResult>, plan: &Plan) -> Result<Carried, NoMemory>
     requires { AreBlocksOf plan.now (map (λ x. x.block) results.items) }
     ensures payload { IfOk result (λ c. c.payload ≡ payload_of plan.now results.items) }

@@ -39,7 +39,7 @@ fn decode_at<F: Fn(Global, &SoftStreams, &Shape) -> Decoded>(
     decode(alloc, &streams, &block_shape(task, r))
 }
 
-/// The results of a try: block r has the one that stands at r in `held`, where one does, and else is
+/// Returns the results of a try: block r has the one that stands at r in `held`, where one does, and else is
 /// decoded. An empty list holds none.
 pub fn try_blocks<F: Fn(Global, &SoftStreams, &Shape) -> Decoded>(
     alloc: Global,
@@ -84,14 +84,14 @@ pub fn hold_passed(
     Ok(held)
 }
 
-/// Whether the check of each code block holds.
+/// Returns whether the check of each code block holds.
 pub fn all_passed(results: &[CodeResult]) -> bool
     ensures { result ≡ all_passed results.now }
 {
     results.iter().all(|block| block.passed)
 }
 
-/// The iterations of all blocks, of which each took at most 16.
+/// Returns the iterations of all blocks, of which each took at most 16.
 pub fn total_iterations(results: &[CodeResult]) -> usize
     requires count { length results.now ≤ 25 }
     requires few { All (λ x. x.iterations ≤ 16) results.now }

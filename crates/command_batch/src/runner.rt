@@ -19,13 +19,13 @@ pub trait Runner: Drop {
     // How many pipes it has.
     ghost pipes: { Self → ℕ };
 
-    /// How many pipes it has.
+    /// Returns how many jobs it runs at once.
     fn pipes(&self) -> usize
         ensures value { result ≡ pipes self.now }
         ensures some { 1 ≤ result }
         ensures few { result ≤ 8 };
 
-    /// An answer of each of 1 to 16 jobs, in their order.
+    /// Returns an answer of each of 1 to 16 jobs, in their order.
     fn run(&self, alloc: Global, jobs: &[BlockJob]) -> Outcomes
         requires able { able self.now }
         requires some { 1 ≤ length jobs.now }

@@ -32,7 +32,7 @@ pub struct Decoding<'a, F: Fn(Global, &Task, usize, &Sends, &[Soft]) -> Received
 }
 
 impl<'a, F: Fn(Global, &Task, usize, &Sends, &[Soft]) -> Received> Decoding<'a, F> {
-    /// What the transmissions of a block come to.
+    /// Returns what the transmissions of a block come to.
     fn outcome(
         &self,
         alloc: Global,
@@ -57,7 +57,7 @@ impl<'a, F: Fn(Global, &Task, usize, &Sends, &[Soft]) -> Received> Decoding<'a, 
     }
 }
 
-/// What the outcome of the block with this number adds.
+/// Returns what the outcome of the block with this number adds.
 pub fn handled(alloc: Global, number: usize, outcome: TbOutcome) -> Result<Handled, NoMemory>
     ensures { IfOk result (λ x. handled_of x ≡ handled number outcome) }
 {

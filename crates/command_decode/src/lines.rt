@@ -16,7 +16,7 @@ fn push_counts(line: &mut Vec<u8>, transmissions: usize, iterations: usize) -> R
     end_line(line)
 }
 
-/// The line of a block, which says what came of it.
+/// Returns the line of a block, which says what came of it.
 pub fn block_line(alloc: Global, number: usize, outcome: &TbOutcome) -> Result<Vec<u8>, NoMemory>
     ensures { IfOk result (λ line. line.items ≡ block_line number outcome.now) }
 {
@@ -46,7 +46,7 @@ pub fn block_line(alloc: Global, number: usize, outcome: &TbOutcome) -> Result<V
     Ok(line)
 }
 
-/// The last line, after so many blocks of which so many failed.
+/// Returns the last line, after so many blocks of which so many failed.
 pub fn last_line(alloc: Global, blocks: usize, failed: usize) -> Result<Vec<u8>, NoMemory>
     requires { failed ≤ blocks }
     ensures { IfOk result (λ line. line.items ≡ last_line blocks failed) }

@@ -8,7 +8,7 @@ use lte_bits::{Bit, List, NoMemory, unpack};
 use rate_match::Match;
 use std::alloc::Global;
 
-/// The bits of a transmission, without the unused ones of its last byte.
+/// Returns the bits of a transmission, without the unused ones of its last byte.
 pub fn bits_in(alloc: Global, m: &Match, bytes: &[u8]) -> Result<List<Bit>, NoMemory>
     requires { IsTransmission kind.Hard m.now.g bytes.now }
     ensures { IfOk result (λ bits. bits ≡ bits_in m.now bytes.now) }

@@ -27,11 +27,11 @@ pub struct Place {
 pub trait Converter: Drop {
     ghost conversion: { Self → Conversion };
 
-    /// Which streams it takes.
+    /// Returns which streams it takes.
     fn want(&self) -> Want
         ensures { result ≡ (conversion self.now).want };
 
-    /// Its header, for that of the stream that is read.
+    /// Returns its header, for that of the stream that is read.
     fn header(&self, header: &Header) -> Header
         ensures { header_of result ≡ (conversion self.now).header (header_of header.now) };
 
@@ -51,7 +51,7 @@ pub trait Converter: Drop {
             (header_of header.now) place.block place.number m.now bytes.now) };
 }
 
-/// The bytes of a transmission, and those after it.
+/// Returns the bytes of a transmission, and those after it.
 fn divided<'a>(kind: Kind, m: &Match, bytes: &'a [u8]) -> (&'a [u8], &'a [u8])
     requires { transmission_size kind m.now.g ≤ length bytes.now }
     ensures own { result.0.now ≡ take (transmission_size kind m.now.g) bytes.now }
@@ -66,7 +66,7 @@ fn divided<'a>(kind: Kind, m: &Match, bytes: &'a [u8]) -> (&'a [u8], &'a [u8])
 pub struct Converted<C: Converter>(pub C);
 
 impl<C: Converter> Converted<C> {
-    /// The text of a block.
+    /// Returns the text of a block.
     fn text(
         &self,
         alloc: Global,

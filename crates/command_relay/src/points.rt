@@ -22,7 +22,7 @@ pub struct Points {
 }
 
 impl Points {
-    /// The soft values that are received of the bits of a transmission.
+    /// Returns the soft values that are received of the bits of a transmission.
     fn softs(
         &self,
         alloc: Global,

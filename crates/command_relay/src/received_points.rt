@@ -6,7 +6,7 @@ ghost use Rattle.qam_points.specs.Reception.{received_points, term_at};
 
 use qam_points::Point;
 
-/// A coordinate sent with an amplitude, and a term on it.
+/// Returns a coordinate sent with an amplitude, and a term on it.
 #[inline]
 fn coordinate(amp: u8, level: i32, term: i16) -> i32
     requires amp { amp ≤ 127 }
@@ -17,7 +17,7 @@ fn coordinate(amp: u8, level: i32, term: i16) -> i32
     i32::from(amp) * level + i32::from(term)
 }
 
-/// What is received of the point that is sent in symbol `s`.
+/// Returns what is received of the point that is sent in symbol `s`.
 #[inline]
 fn received(sent: Point, amp: u8, terms: &[i16], s: usize) -> Point
     requires amp { amp ≤ 127 }

@@ -55,7 +55,8 @@ impl Trial {
         Ok(())
     }
 
-    /// The soft values that are received of all transmissions of a block, one transmission after the other.
+    /// Returns the soft values that are received of all transmissions of a block, one transmission after the
+    /// other.
     fn softs(&self, alloc: Global, block: usize, sent: &[u8]) -> Result<Vec<Soft>, NoMemory>
         requires block { block < 4096 }
         requires sent { sent.now ≡ payload (trial_of self.now) block }
@@ -73,7 +74,7 @@ impl Trial {
         Ok(values)
     }
 
-    /// What the reception of a block comes to, whose payload is `sent`.
+    /// Returns what the reception of a block comes to, whose payload is `sent`.
     pub fn outcome(&self, alloc: Global, block: usize, sent: &[u8]) -> Result<TbOutcome, NoMemory>
         requires block { block < 4096 }
         requires sent { sent.now ≡ payload (trial_of self.now) block }

@@ -16,7 +16,7 @@ pub struct Counts {
 }
 
 impl Counts {
-    /// Those of nothing.
+    /// Returns the counts of no block.
     pub fn new() -> Self
         ensures { result ≡ none_counted }
     {
@@ -29,7 +29,7 @@ impl Counts {
         }
     }
 
-    /// Those of one block whose payload was `sent`.
+    /// Returns the counts of one block whose payload was `sent`.
     fn of(sent: &[u8], outcome: &TbOutcome) -> Self
         ensures value { result ≡ counts_of sent.now outcome.now }
         ensures few { AreFew 1 result }
@@ -59,7 +59,7 @@ impl Counts {
         }
     }
 
-    /// With those of a block more, after fewer than 4,096.
+    /// Adds the counts of one block more, after fewer than 4,096.
     pub fn with(self, blocks: usize, sent: &[u8], outcome: &TbOutcome) -> Self
         requires few { blocks < 4096 }
         requires counts { AreFew blocks self }

@@ -14,7 +14,7 @@ use run_loop::{SinkName, Status, end_line, push_number};
 use soft_channel::payload;
 use std::alloc::Global;
 
-/// What is counted over all blocks.
+/// Returns what is counted over all blocks.
 fn counted(alloc: Global, trial: &Trial) -> Result<Counts, NoMemory>
     ensures { IfOk result (λ c. c ≡ counted (trial_of trial.now) trial.now.blocks) }
 {
@@ -27,7 +27,7 @@ fn counted(alloc: Global, trial: &Trial) -> Result<Counts, NoMemory>
     Ok(sums)
 }
 
-/// The report's one line.
+/// Returns the report's one line.
 fn trial_line(alloc: Global, blocks: usize, sums: &Counts) -> Result<Vec<u8>, NoMemory>
     ensures { IfOk result (λ line. line.items ≡ trial_line blocks sums.now) }
 {
@@ -42,7 +42,7 @@ fn trial_line(alloc: Global, blocks: usize, sums: &Counts) -> Result<Vec<u8>, No
     Ok(line)
 }
 
-/// The line of all blocks, and whether one of them failed.
+/// Returns the line of all blocks, and whether one of them failed.
 fn summed(alloc: Global, trial: &Trial) -> Result<(Vec<u8>, bool), NoMemory>
     ensures { IfOk result (λ made. IsTold (trial_of trial.now) made.0.items made.1) }
 {

@@ -26,7 +26,7 @@ pub fn write_softs(buffer: &mut [i8], softs: &[Soft])
     }
 }
 
-/// The soft values of numbers, where -128 is taken as -127.
+/// Returns the soft values of numbers, where -128 is taken as -127.
 pub fn softs_of(alloc: Global, numbers: &[i8]) -> Result<List<Soft>, NoMemory>
     ensures { IfOk result (λ softs. softs ≡ map (clamped 127) numbers.now) }
 {
@@ -37,7 +37,7 @@ pub fn softs_of(alloc: Global, numbers: &[i8]) -> Result<List<Soft>, NoMemory>
     Ok(List::from_vec(softs))
 }
 
-/// The first bits of bytes, of which those after them are left alone.
+/// Returns the first bits of bytes, of which those after them are left alone.
 pub fn bits_of(alloc: Global, count: usize, bytes: &[u8]) -> Result<List<Bit>, NoMemory>
     requires { byte_count count ≤ length bytes.now }
     ensures { IfOk result (λ bits. bits ≡ take count (unpacked bytes.now)) }

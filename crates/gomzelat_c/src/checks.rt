@@ -52,7 +52,7 @@ pub extern "C" fn gomzelat_crc24a(alloc: Global, bits: &[u8], out: &mut [u8]) ->
     told(write_check(alloc, CheckKind::A, bits, out))
 }
 
-/// The same by CRC24B, for a code block's bits where there are several blocks.
+/// Writes the same by CRC24B, for a code block's bits where there are several blocks.
 #[unsafe(no_mangle)]
 pub extern "C" fn gomzelat_crc24b(alloc: Global, bits: &[u8], out: &mut [u8]) -> u32
     ensures answer { IsTold result (first_failed (check_tests (length out.old))) }

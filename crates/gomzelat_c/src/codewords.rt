@@ -20,8 +20,8 @@ use rate_match::{codeword, fits_buffer};
 use segmentation::plan;
 use std::alloc::Global;
 
-/// The transmission of a payload of `bytes` bytes, whose codeword is to be written to a buffer of `room`
-/// bytes; or what is refused.
+/// Returns the transmission of a payload of `bytes` bytes, whose codeword is to be written to a buffer of
+/// `room` bytes; or what is refused.
 fn accepted(
     bytes: usize,
     transmission: &Transmission,
@@ -44,7 +44,7 @@ fn accepted(
     Ok(sending)
 }
 
-/// The codeword as bytes, the highest bit first.
+/// Returns the codeword as bytes, the highest bit first.
 fn packed_codeword(alloc: Global, payload: &[u8], sending: &Sending) -> Result<List<u8>, NoMemory>
     requires some { 1 ≤ length payload.now }
     requires few { length payload.now ≤ MOST_BYTES }

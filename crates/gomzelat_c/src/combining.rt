@@ -30,7 +30,7 @@ struct Job {
     sending: Sending,
 }
 
-/// The job of combining so many soft values of a transmission with so many soft cells of a payload of
+/// Returns the job of combining so many soft values of a transmission with so many soft cells of a payload of
 /// `bytes` bytes; or what is refused.
 fn accepted(
     bytes: usize,
@@ -58,7 +58,7 @@ fn accepted(
     Ok(Job { plan, sending })
 }
 
-/// The soft cells with a transmission more.
+/// Returns the soft cells with a transmission more.
 fn cells_with(alloc: Global, job: &Job, values: &[i8], cells: &[i8]) -> Result<List<Soft>, NoMemory>
     requires fits { FitsIn job.now.sending.m.limit job.now.plan.c job.now.plan.k_plus }
     requires version { job.now.sending.rv ≤ 3 }

@@ -39,7 +39,7 @@ pub struct Rooms {
     pub payload: usize,
 }
 
-/// The task of decoding a payload of `bytes` bytes; or what is refused.
+/// Returns the task of decoding a payload of `bytes` bytes; or what is refused.
 fn accepted(bytes: usize, receiver: &Receiver, rooms: &Rooms) -> Result<Task, Refusal>
     ensures refused { result_err result ≡ first_failed (decode_tests bytes receiver.now rooms.now) }
     ensures plan { IfOk result (λ task. task.plan ≡ plan_of bytes) }
@@ -70,7 +70,7 @@ fn accepted(bytes: usize, receiver: &Receiver, rooms: &Rooms) -> Result<Task, Re
     })
 }
 
-/// The results of a try from soft cells, after those of the try before.
+/// Returns the results of a try from soft cells, after those of the try before.
 fn results_of(
     alloc: Global,
     task: &Task,
@@ -100,7 +100,7 @@ struct Left {
     delivered: u32,
 }
 
-/// What the results of a try leave.
+/// Returns what the results of a try leave.
 fn left_by(alloc: Global, results: Vec<CodeResult>, task: &Task) -> Result<Left, NoMemory>
     requires { AreBlocksOf task.now.plan (map (λ x. x.block) results.items) }
     ensures entries { IfOk result (λ left. left.entries ≡ map entry_of results.items) }

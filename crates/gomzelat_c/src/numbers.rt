@@ -11,7 +11,7 @@ use model_sender::Spot;
 use rate_match::spot;
 use std::alloc::Global;
 
-/// Each bit as 0 or 1.
+/// Returns each bit as 0 or 1.
 pub fn digits_of(alloc: Global, bits: &[Bit]) -> Result<List<u8>, NoMemory>
     ensures { IfOk result (λ digits. digits ≡ map digit bits.now) }
 {
@@ -22,7 +22,7 @@ pub fn digits_of(alloc: Global, bits: &[Bit]) -> Result<List<u8>, NoMemory>
     Ok(List::from_vec(digits))
 }
 
-/// 0, 1, or 2 at a NULL.
+/// Returns 0, 1, or 2 at a NULL.
 fn number_of(cell: Cell) -> u8
     ensures { result ≡ cell_number cell }
 {
@@ -33,7 +33,7 @@ fn number_of(cell: Cell) -> u8
     }
 }
 
-/// Each cell as a number.
+/// Returns each cell as a number.
 pub fn numbers_of(alloc: Global, cells: &[Cell]) -> Result<List<u8>, NoMemory>
     ensures { IfOk result (λ numbers. numbers ≡ map cell_number cells.now) }
 {
@@ -44,7 +44,7 @@ pub fn numbers_of(alloc: Global, cells: &[Cell]) -> Result<List<u8>, NoMemory>
     Ok(List::from_vec(numbers))
 }
 
-/// The cells of three streams, one after the other.
+/// Returns the cells of three streams, one after the other.
 pub fn cells_in_a_row(streams: Streams) -> Result<List<Cell>, NoMemory>
     ensures { IfOk result (λ cells. cells ≡ streams.d0 ++ streams.d1 ++ streams.d2) }
 {
@@ -54,7 +54,7 @@ pub fn cells_in_a_row(streams: Streams) -> Result<List<Cell>, NoMemory>
     Ok(List::from_vec(cells))
 }
 
-/// A spot as a number: 65,536 times its stream and its index, or 2^32 - 1 at a NULL.
+/// Returns a spot as a number: 65,536 times its stream and its index, or 2^32 - 1 at a NULL.
 fn number_of_spot(spot: Option<Spot>) -> u32
     requires { spot_number spot ≤ 4294967295 }
     ensures { result ≡ spot_number spot }
@@ -65,7 +65,7 @@ fn number_of_spot(spot: Option<Spot>) -> u32
     }
 }
 
-/// The spots of the circular buffer of a block of `k` bits, whose first `fill` are fillers.
+/// Returns the spots of the circular buffer of a block of `k` bits, whose first `fill` are fillers.
 pub fn spots_of(alloc: Global, k: usize, fill: usize) -> Result<List<u32>, NoMemory>
     requires size { Contains sizes k }
     requires fills { fill < k }

@@ -20,8 +20,8 @@ pub struct Plan {
     pub f: usize,
 }
 
-/// Leaves in `plan` how a payload of `bytes` bytes is cut. Answers 0, or 2 where there are no bytes or
-/// more than 18,722, and then nothing is changed.
+/// Writes to `plan` how a payload of `bytes` bytes is cut. Answers 0, or 2 where there are no bytes or more
+/// than 18,722, and then nothing is changed.
 #[unsafe(no_mangle)]
 pub extern "C" fn gomzelat_plan(bytes: usize, plan: &mut Plan) -> u32
     ensures answer { result ≡ told (first_failed (length_test bytes ∷ [])) }

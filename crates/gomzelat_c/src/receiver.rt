@@ -26,7 +26,7 @@ pub struct Outcome {
 }
 
 impl Outcome {
-    /// What is told of an outcome.
+    /// Returns what C is told of an outcome.
     pub fn of(outcome: &TbOutcome) -> Outcome
         ensures { result ≡ summary outcome.now }
     {

@@ -33,8 +33,8 @@ struct Job {
     effort: Effort,
 }
 
-/// The effort of a receiver for transmissions of so many bits, from so many soft values and with room for so
-/// many bytes; or what is refused.
+/// Returns the effort of a receiver for transmissions of so many bits, from so many soft values and with room
+/// for so many bytes; or what is refused.
 fn effort(
     plan: &Plan,
     bits: usize,
@@ -65,8 +65,8 @@ fn effort(
     })
 }
 
-/// The job of receiving a payload of `bytes` bytes from so many soft values, with room for so many bytes;
-/// or what is refused.
+/// Returns the job of receiving a payload of `bytes` bytes from so many soft values, with room for so many
+/// bytes; or what is refused.
 fn accepted(
     bytes: usize,
     transmissions: &[Transmission],
@@ -100,7 +100,7 @@ fn accepted(
     })
 }
 
-/// What the transmissions of a job come to, from their soft values.
+/// Returns what the transmissions of a job come to, from their soft values.
 fn outcome_of(alloc: Global, job: &Job, values: &[i8]) -> Result<TbOutcome, NoMemory>
     requires fits { FitsIn (common job.now.sends).limit job.now.plan.c job.now.plan.k_plus }
     requires values { length values.now ≡ value_count job.now.sends }

@@ -65,7 +65,7 @@ pub enum Refusal {
 }
 
 impl Refusal {
-    /// Its number, from 1 on.
+    /// Returns its number, from 1 on.
     pub fn number(self) -> u32
         ensures { result ≡ number_of self }
     {
@@ -99,7 +99,7 @@ impl Refusal {
     }
 }
 
-/// The number of what is refused, or 0.
+/// Returns the number of what is refused, or 0.
 pub fn told(done: Result<(), Refusal>) -> u32
     ensures { result ≡ told (result_err done) }
 {

@@ -41,7 +41,7 @@ fn init_of(scrambling: &Scrambling) -> Result<Init, Refusal>
     Ok(Init::new(rnti, scrambling.q as u8, scrambling.slot as u8, cell).unwrap())
 }
 
-/// Leaves in `init` the number c_init that the sequence of a transmission begins with. Answers 0, or a
+/// Writes to `init` the number c_init that the sequence of a transmission begins with. Answers 0, or a
 /// `Refusal`'s number, and then nothing is changed.
 #[unsafe(no_mangle)]
 pub extern "C" fn gomzelat_init(scrambling: Scrambling, init: &mut u32) -> u32

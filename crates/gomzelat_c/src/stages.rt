@@ -21,7 +21,7 @@ use segmentation::{cut, fill, plan, size};
 use std::alloc::Global;
 use turbo_encode::encode;
 
-/// The plan of a payload of `bytes` bytes, which has a block `r`; or what is refused.
+/// Returns the plan of a payload of `bytes` bytes, which has a block `r`; or what is refused.
 fn planned(bytes: usize, r: usize) -> Result<Plan, Refusal>
     ensures refused { result_err result ≡ first_failed (length_test bytes ∷ block_test bytes r ∷ []) }
     ensures plan { IfOk result (λ plan. plan ≡ plan_of bytes) }

@@ -34,7 +34,7 @@ pub struct Sizes {
     pub bits: usize,
 }
 
-/// The bits of all code blocks, at most 153,600.
+/// Returns the bits of all code blocks, at most 153,600.
 pub fn bit_count(plan: &Plan) -> usize
     ensures { result ≡ bit_count plan.now }
 {
@@ -45,8 +45,8 @@ pub fn bit_count(plan: &Plan) -> usize
     count
 }
 
-/// Leaves in `sizes` how much is kept of a payload of `bytes` bytes. Answers 0, or 2 where there are no
-/// bytes or more than 18,722, and then nothing is changed.
+/// Writes to `sizes` how much is kept of a payload of `bytes` bytes. Answers 0, or 2 where there are no bytes
+/// or more than 18,722, and then nothing is changed.
 #[unsafe(no_mangle)]
 pub extern "C" fn gomzelat_sizes(bytes: usize, sizes: &mut Sizes) -> u32
     ensures answer { result ≡ told (first_failed (length_test bytes ∷ [])) }
@@ -66,14 +66,14 @@ pub extern "C" fn gomzelat_sizes(bytes: usize, sizes: &mut Sizes) -> u32
     }
 }
 
-/// The bit that a byte tells: any but 0 is a bit 1.
+/// Returns the bit that a byte tells: any but 0 is a bit 1.
 fn bit(byte: u8) -> Bit
     ensures { result ≡ bit_of byte }
 {
     if byte == 0 { Bit::Zero } else { Bit::One }
 }
 
-/// The bits that bytes tell.
+/// Returns the bits that bytes tell.
 pub fn bits_of(alloc: Global, bytes: &[u8]) -> Result<List<Bit>, NoMemory>
     ensures { IfOk result (λ bits. bits ≡ map bit_of bytes.now) }
 {
@@ -84,7 +84,7 @@ pub fn bits_of(alloc: Global, bytes: &[u8]) -> Result<List<Bit>, NoMemory>
     Ok(List::from_vec(bits))
 }
 
-/// The results that entries and bits tell.
+/// Returns the results that entries and bits tell.
 pub fn kept(
     alloc: Global,
     plan: &Plan,
@@ -113,7 +113,7 @@ pub fn kept(
     Ok(results)
 }
 
-/// The entry of a result.
+/// Returns the entry of a result.
 pub fn entry(of: &CodeResult) -> CodeBlock
     ensures { result ≡ entry_of of.now }
 {
@@ -123,7 +123,7 @@ pub fn entry(of: &CodeResult) -> CodeBlock
     }
 }
 
-/// The entries of results.
+/// Returns the entries of results.
 pub fn entries_of(alloc: Global, results: &[CodeResult]) -> Result<List<CodeBlock>, NoMemory>
     ensures { IfOk result (λ entries. entries ≡ map entry_of results.now) }
 {
@@ -144,7 +144,7 @@ fn push_digits(digits: &mut Vec<u8>, bits: &[Bit]) -> Result<(), NoMemory>
     Ok(())
 }
 
-/// The bits of results, as digits.
+/// Returns the bits of results, as digits.
 pub fn digits_of(alloc: Global, results: &[CodeResult]) -> Result<List<u8>, NoMemory>
     ensures { IfOk result (λ digits. digits ≡ digits_of results.now) }
 {

@@ -20,7 +20,7 @@ pub struct Transmission {
     pub rv: u32,
 }
 
-/// The soft buffer of N_IR soft values, where 0 stands for a full one.
+/// Returns the soft buffer of N_IR soft values, where 0 stands for a full one.
 pub fn buffer_of(n_ir: u32) -> Buffer
     ensures { limit_of result ≡ limit_in n_ir }
 {
@@ -31,7 +31,7 @@ pub fn buffer_of(n_ir: u32) -> Buffer
     }
 }
 
-/// The number, or 255 where it is greater: neither Q_m nor N_L is.
+/// Returns the number, or 255 where it is greater: neither Q_m nor N_L is.
 fn in_a_byte(n: u32) -> u8
     ensures { result ≡ min n 255 }
 {
@@ -39,8 +39,8 @@ fn in_a_byte(n: u32) -> u8
 }
 
 impl Transmission {
-    /// The transmission with a soft buffer, or what is refused of it. It is passed by value, since what a
-    /// caller's memory holds may change between two readings.
+    /// Returns the transmission with a soft buffer, or what is refused of it. It is passed by value, since
+    /// what a caller's memory holds may change between two readings.
     pub fn sending(self, buffer: Buffer) -> Result<Sending, Refusal>
         ensures refused { result_err result ≡ first_failed (transmission_tests self) }
         ensures sending { IfOk result (λ sending. sending ≡ transmission_of (limit_of buffer) self) }
@@ -54,7 +54,7 @@ impl Transmission {
     }
 }
 
-/// One to eight transmissions with one soft buffer, or what is refused of them. Each is read once.
+/// Returns one to eight transmissions with one soft buffer, or what is refused of them. Each is read once.
 pub fn sends_of(transmissions: &[Transmission], buffer: Buffer) -> Result<Sends, Refusal>
     requires some { 1 ≤ length transmissions.now }
     requires few { length transmissions.now ≤ 8 }

@@ -6,14 +6,14 @@ ghost use Rattle.command_words.specs.Texts.{texts_of};
 use std::alloc::{AllocError, Global};
 use std::env::Args;
 
-/// The words after the program's name, in their order.
+/// Returns the words after the program's name, in their order.
 pub fn words_after_name(alloc: Global, arguments: Args) -> Result<Vec<String>, AllocError>
     ensures { IfOk result (λ words. words.items ≡ drop 1 (into_iter_items arguments)) }
 {
     arguments.skip(1).collect(alloc)
 }
 
-/// The words, lent to a run.
+/// Returns the words, lent to a run.
 pub fn lent(alloc: Global, words: &[String]) -> Result<Vec<&str>, AllocError>
     ensures { IfOk result (λ lent. texts_of lent.items ≡ map string_bytes words.now) }
 {

@@ -17,15 +17,15 @@ use std::sync::Wait;
 use std::thread::Threads;
 use turbo_run::{Status, run};
 
-/// The exit status of a run that ended so.
+/// Returns the exit status of a run that ended so.
 fn exit(status: Status) -> ExitCode
     ensures { exit_status result ≡ exit_of status }
 {
     ExitCode::from(status.exit())
 }
 
-/// How a run ends whose arguments couldn't be read: since memory ran out, or since one is no text. It is then
-/// a run without words.
+/// Returns how a run ends whose arguments couldn't be read: since memory ran out, or since one is no text. It
+/// is then a run without words.
 fn unread(error: &io::Error) -> Status
     ensures { exit_of result ≡ exit_unread (error_kind error.now) }
 {

@@ -32,7 +32,7 @@ fn push_codeword(
     Ok(())
 }
 
-/// The length word and the transmissions of a payload.
+/// Returns the length word and the transmissions of a payload.
 #[tactic(auto, using(rate_match::proofs::EachSending::fits_at, rate_match::proofs::EachSending::version_at))]
 fn block_text(alloc: Global, payload: &[u8], header: &Header) -> Result<Vec<u8>, NoMemory>
     requires some { 1 ≤ length payload.now }
@@ -48,7 +48,7 @@ fn block_text(alloc: Global, payload: &[u8], header: &Header) -> Result<Vec<u8>,
     Ok(text)
 }
 
-/// The block of a payload, which is known whole once so many bytes have come.
+/// Returns the block of a payload, which is known whole once so many bytes have come.
 pub fn block(alloc: Global, payload: &[u8], header: &Header, wants: usize) -> Result<Part, NoMemory>
     requires some { 1 ≤ length payload.now }
     requires few { length payload.now ≤ header.now.tb }

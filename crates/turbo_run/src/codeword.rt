@@ -22,7 +22,7 @@ pub struct Codeword {
     pub ghost version: { rv ≤ 3 },
 }
 
-/// The codeword as bytes.
+/// Returns the codeword as bytes.
 #[tactic(auto, using(crate::proofs::FullBuffer::fits_full))]
 fn codeword_text(alloc: Global, payload: &[u8], m: &Match, rv: u8) -> Result<List<u8>, NoMemory>
     requires some { 1 ≤ length payload.now }
@@ -35,7 +35,7 @@ fn codeword_text(alloc: Global, payload: &[u8], m: &Match, rv: u8) -> Result<Lis
     pack(alloc, bits.as_slice())
 }
 
-/// `end bits G`.
+/// Returns the line `end bits G`.
 fn bits_line(alloc: Global, m: &Match) -> Result<Vec<u8>, NoMemory>
     ensures { IfOk result (λ line. line.items ≡ bits_line m.now) }
 {
@@ -45,7 +45,7 @@ fn bits_line(alloc: Global, m: &Match) -> Result<Vec<u8>, NoMemory>
     Ok(line)
 }
 
-/// The block of a payload, and the end: all memory is allocated before anything is written.
+/// Returns the block of a payload, and the end: all memory is allocated before anything is written.
 fn coded(alloc: Global, payload: &[u8], m: &Match, rv: u8) -> Result<Round, NoMemory>
     requires some { 1 ≤ length payload.now }
     requires few { length payload.now ≤ MOST_BYTES }
@@ -72,7 +72,7 @@ fn coded(alloc: Global, payload: &[u8], m: &Match, rv: u8) -> Result<Round, NoMe
     })
 }
 
-/// A transport block whose length is refused at a byte.
+/// Returns a transport block whose length is refused at a byte.
 fn bad_length(place: u64) -> Status
     ensures { result ≡ Status.BadStream 4 place }
 {

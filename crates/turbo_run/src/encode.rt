@@ -30,7 +30,7 @@ pub struct EncodeRounds {
     ghost most: { more + count ≡ 4096 },
 }
 
-/// The end after so many blocks.
+/// Returns the end after so many blocks.
 fn end(alloc: Global, count: usize) -> Result<Stop, NoMemory>
     ensures { IfOk result (IsEnd count) }
 {
@@ -43,7 +43,7 @@ fn end(alloc: Global, count: usize) -> Result<Stop, NoMemory>
     })
 }
 
-/// A round of one block.
+/// Returns a round of one block.
 fn of_block(
     alloc: Global,
     header: &Header,
@@ -60,7 +60,7 @@ fn of_block(
     Ok(Round { parts, stop })
 }
 
-/// The last round, of what is left after so many blocks.
+/// Returns the last round, of what is left after so many blocks.
 fn last(alloc: Global, header: &Header, count: usize, payload: &[u8]) -> Result<Round, NoMemory>
     requires few { length payload.now ≤ header.now.tb }
     requires count { 0 < length payload.now → count < 4096 }
@@ -73,7 +73,7 @@ fn last(alloc: Global, header: &Header, count: usize, payload: &[u8]) -> Result<
     of_block(alloc, header, payload, payload.len() + 1, stop)
 }
 
-/// The round after the last block that may come: a byte more is refused, and it is read without
+/// Returns the round after the last block that may come: a byte more is refused, and it is read without
 /// memory of its own.
 fn after_all_blocks<S: Source>(
     alloc: Global,
