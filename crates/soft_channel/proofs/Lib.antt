@@ -1,3 +1,4 @@
 mod Drawing
 pub mod Lengths
+mod Pieces
 mod Quotients

@@ -1,6 +1,7 @@
 //! Noise on sent bits, and payloads of trials, both from a seed.
 #![tactic(auto)]
 
+mod blocks;
 pub mod noise;
 pub mod payloads;
 mod terms;

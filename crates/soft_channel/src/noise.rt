@@ -1,12 +1,13 @@
 //! Soft values of sent bits, and the noise on them by itself.
-ghost use Rattle.std.specs.Prelude.{◌≡◌, ◌≤◌, All, IfOk};
+ghost use Rattle.std.specs.Prelude.{◌≡◌, ◌≤◌, ◌++◌, All, IfOk, OnOk, length, map, pos, slice_index_or};
+ghost use Rattle.std.specs.List.{range_with_len};
 ghost use Rattle.lte_bits.specs.Softs.{IsWithin};
-ghost use Rattle.soft_channel.specs.Noise.{noise_terms, noisy};
+ghost use Rattle.lte_bits.specs.declared.bit.Bit.TheVariants.{Zero};
+ghost use Rattle.soft_channel.specs.Noise.{noise_terms, noisy, received};
 
-use crate::terms::{received, term};
-use crate::words::{Purpose, generator};
+use crate::blocks::{terms_of, write_received};
+use crate::words::{BLOCK, Purpose, generator, next_words};
 use lte_bits::{Bit, List, NoMemory, Soft};
-use rand_core::utils::NextWord;
 use std::alloc::Global;
 
 /// The first `count` terms, at most 1,000,000, of the noise on transmission `tx`, 0 to 7, of a block, both
@@ -29,10 +30,32 @@ pub fn noise_terms(
 {
     let mut words = generator(Purpose::Noise, seed, block, tx);
     let mut terms = Vec::with_capacity(alloc, count)?;
-    for _ in 0..count {
-        terms.push(term(noise, words.next_word()))?;
+    for _ in 0..count / BLOCK {
+        terms.extend_from_slice(&terms_of(noise, &next_words(&mut words)))?;
     }
+    terms.extend_from_slice(&terms_of(noise, &next_words(&mut words))[..count % BLOCK])?;
     Ok(List::from_vec(terms))
+}
+
+/// Appends the soft value of each bit with the term of its place.
+fn push_received(
+    values: &mut Vec<Soft>,
+    amp: u8,
+    bits: &[Bit],
+    terms: &[i16; BLOCK],
+) -> Result<(), NoMemory>
+    requires amp { amp ≤ 127 }
+    requires few { length bits.now ≤ BLOCK }
+    requires terms { All (IsWithin 437) terms.now }
+    ensures { OnOk result (values.new.items ≡ values.old.items
+        ++ map (λ k. received amp (slice_index_or bits.now k Zero) (slice_index_or terms.now k (pos 0)))
+        (range_with_len 0 (length bits.now))) }
+{
+    let mut block = [Soft::ZERO; BLOCK];
+    let block = &mut block[..bits.len()];
+    write_received(block, amp, bits, terms);
+    values.extend_from_slice(block)?;
+    Ok(())
 }
 
 /// The soft values of the bits of transmission `tx`, 0 to 7, of a block, both counted from 0: `amp`, 1 to
@@ -54,8 +77,20 @@ pub fn noisy(
 {
     let mut words = generator(Purpose::Noise, seed, block, tx);
     let mut values = Vec::with_capacity(alloc, bits.len())?;
-    for bit in bits {
-        values.push(received(amp, *bit, term(noise, words.next_word())))?;
+    let (blocks, last) = bits.as_chunks::<BLOCK>();
+    for block in blocks {
+        push_received(
+            &mut values,
+            amp,
+            block,
+            &terms_of(noise, &next_words(&mut words)),
+        )?;
     }
+    push_received(
+        &mut values,
+        amp,
+        last,
+        &terms_of(noise, &next_words(&mut words)),
+    )?;
     Ok(List::from_vec(values))
 }

@@ -1,16 +1,20 @@
 //! Payloads of trials.
-ghost use Rattle.std.specs.Prelude.{◌≡◌, ◌≤◌, ◌%◌, IfOk};
+ghost use Rattle.std.specs.Prelude.{◌≡◌, ◌≤◌, ◌%◌, IfOk, map};
 ghost use Rattle.soft_channel.specs.TrialPayload.{trial_payload};
 
-use crate::words::{Purpose, generator};
+use crate::words::{BLOCK, Purpose, generator, next_words};
 use lte_bits::{List, NoMemory};
-use rand_core::utils::NextWord;
 use std::alloc::Global;
 
-fn lowest_byte(word: u32) -> u8
-    ensures { result ≡ word % 256 }
+/// The lowest byte of each word.
+fn lowest_bytes(words: &[u32; BLOCK]) -> [u8; BLOCK]
+    ensures { result ≡ map (λ word. word % 256) words.now }
 {
-    (word % 256) as u8
+    let mut bytes = [0; BLOCK];
+    for (i, word) in words.iter().enumerate() {
+        bytes[i] = (word % 256) as u8;
+    }
+    bytes
 }
 
 /// The payload of a trial's block, counted from 0: `length` bytes, 1 to 18,722, from the seed.
@@ -20,8 +24,9 @@ pub fn payload(alloc: Global, length: usize, seed: u64, block: u32) -> Result<Li
 {
     let mut words = generator(Purpose::Payload, seed, block, 0);
     let mut bytes = Vec::with_capacity(alloc, length)?;
-    for _ in 0..length {
-        bytes.push(lowest_byte(words.next_word()))?;
+    for _ in 0..length / BLOCK {
+        bytes.extend_from_slice(&lowest_bytes(&next_words(&mut words)))?;
     }
+    bytes.extend_from_slice(&lowest_bytes(&next_words(&mut words))[..length % BLOCK])?;
     Ok(List::from_vec(bytes))
 }

@@ -1,11 +1,16 @@
 //! Words from a seed, for each purpose of their own.
-ghost use Rattle.std.specs.Prelude.{◌≡◌};
-ghost use Rattle.rand_chacha.specs.ChaCha.{of_seed};
+ghost use Rattle.std.specs.Prelude.{◌≡◌, ◌+◌, ◌<◌, ◌^◌, map};
+ghost use Rattle.std.specs.List.{range_with_len};
+ghost use Rattle.rand_chacha.specs.ChaCha.{of_seed, word_at};
 ghost use Rattle.soft_channel.specs.Words.{key, purpose_byte};
 
 use byteorder::{BigEndian, ByteOrder};
 use rand_chacha::ChaCha8Rng;
 use rand_core::SeedableRng;
+use rand_core::utils::NextWord;
+
+/// How many words are drawn at a time: the generator makes as many at once.
+pub const BLOCK: usize = 64;
 
 /// What words are drawn for.
 #[derive(Clone, Copy)]
@@ -47,4 +52,18 @@ pub fn generator(purpose: Purpose, seed: u64, block: u32, tx: u8) -> ChaCha8Rng
     })) }
 {
     ChaCha8Rng::from_seed(key(purpose, seed, block, tx))
+}
+
+/// Draws the next words of a generator.
+pub fn next_words(generator: &mut ChaCha8Rng) -> [u32; BLOCK]
+    requires { generator.old.word_pos + BLOCK < 2 ^ 68 }
+    ensures words { result ≡ map (λ k. word_at 4 generator.old.key generator.old.stream (generator.old.word_pos + k))
+        (range_with_len 0 BLOCK) }
+    ensures after { generator.new ≡ record generator.old { word_pos = generator.old.word_pos + BLOCK } }
+{
+    let mut words = [0; BLOCK];
+    for word in words.iter_mut() {
+        *word = generator.next_word();
+    }
+    words
 }
