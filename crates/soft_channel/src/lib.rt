@@ -1,7 +1,7 @@
 //! Noise on sent bits, and payloads of trials, both from a seed.
 #![tactic(auto)]
 
-mod blocks;
+mod chunks;
 pub mod noise;
 pub mod payloads;
 mod terms;

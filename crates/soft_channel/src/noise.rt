@@ -1,12 +1,10 @@
 //! Soft values of sent bits, and the noise on them by itself.
-ghost use Rattle.std.specs.Prelude.{◌≡◌, ◌≤◌, ◌++◌, All, IfOk, OnOk, length, map, pos, slice_index_or};
-ghost use Rattle.std.specs.List.{range_with_len};
+ghost use Rattle.std.specs.Prelude.{◌≡◌, ◌≤◌, All, IfOk};
 ghost use Rattle.lte_bits.specs.Softs.{IsWithin};
-ghost use Rattle.lte_bits.specs.declared.bit.Bit.TheVariants.{Zero};
-ghost use Rattle.soft_channel.specs.Noise.{noise_terms, noisy, received};
+ghost use Rattle.soft_channel.specs.Noise.{noise_terms, noisy};
 
-use crate::blocks::{terms_of, write_received};
-use crate::words::{BLOCK, Purpose, generator, next_words};
+use crate::chunks::{received_values, terms_of};
+use crate::words::{CHUNK, Purpose, generator, next_words};
 use lte_bits::{Bit, List, NoMemory, Soft};
 use std::alloc::Global;
 
@@ -30,32 +28,11 @@ pub fn noise_terms(
 {
     let mut words = generator(Purpose::Noise, seed, block, tx);
     let mut terms = Vec::with_capacity(alloc, count)?;
-    for _ in 0..count / BLOCK {
+    for _ in 0..count / CHUNK {
         terms.extend_from_slice(&terms_of(noise, &next_words(&mut words)))?;
     }
-    terms.extend_from_slice(&terms_of(noise, &next_words(&mut words))[..count % BLOCK])?;
+    terms.extend_from_slice(&terms_of(noise, &next_words(&mut words))[..count % CHUNK])?;
     Ok(List::from_vec(terms))
-}
-
-/// Appends the soft value of each bit with the term of its place.
-fn push_received(
-    values: &mut Vec<Soft>,
-    amp: u8,
-    bits: &[Bit],
-    terms: &[i16; BLOCK],
-) -> Result<(), NoMemory>
-    requires amp { amp ≤ 127 }
-    requires few { length bits.now ≤ BLOCK }
-    requires terms { All (IsWithin 437) terms.now }
-    ensures { OnOk result (values.new.items ≡ values.old.items
-        ++ map (λ k. received amp (slice_index_or bits.now k Zero) (slice_index_or terms.now k (pos 0)))
-        (range_with_len 0 (length bits.now))) }
-{
-    let mut block = [Soft::ZERO; BLOCK];
-    let block = &mut block[..bits.len()];
-    write_received(block, amp, bits, terms);
-    values.extend_from_slice(block)?;
-    Ok(())
 }
 
 /// The soft values of the bits of transmission `tx`, 0 to 7, of a block, both counted from 0: `amp`, 1 to
@@ -77,20 +54,12 @@ pub fn noisy(
 {
     let mut words = generator(Purpose::Noise, seed, block, tx);
     let mut values = Vec::with_capacity(alloc, bits.len())?;
-    let (blocks, last) = bits.as_chunks::<BLOCK>();
-    for block in blocks {
-        push_received(
-            &mut values,
-            amp,
-            block,
-            &terms_of(noise, &next_words(&mut words)),
-        )?;
+    let (whole, last) = bits.as_chunks::<CHUNK>();
+    for chunk in whole {
+        let terms = terms_of(noise, &next_words(&mut words));
+        values.extend_from_slice(&received_values(amp, chunk, &terms))?;
     }
-    push_received(
-        &mut values,
-        amp,
-        last,
-        &terms_of(noise, &next_words(&mut words)),
-    )?;
+    let terms = terms_of(noise, &next_words(&mut words));
+    values.extend_from_slice(&received_values(amp, last, &terms)[..last.len()])?;
     Ok(List::from_vec(values))
 }

@@ -2,15 +2,15 @@
 ghost use Rattle.std.specs.Prelude.{◌≡◌, ◌≤◌, ◌%◌, IfOk, map};
 ghost use Rattle.soft_channel.specs.TrialPayload.{trial_payload};
 
-use crate::words::{BLOCK, Purpose, generator, next_words};
+use crate::words::{CHUNK, Purpose, generator, next_words};
 use lte_bits::{List, NoMemory};
 use std::alloc::Global;
 
 /// The lowest byte of each word.
-fn lowest_bytes(words: &[u32; BLOCK]) -> [u8; BLOCK]
+fn lowest_bytes(words: &[u32; CHUNK]) -> [u8; CHUNK]
     ensures { result ≡ map (λ word. word % 256) words.now }
 {
-    let mut bytes = [0; BLOCK];
+    let mut bytes = [0; CHUNK];
     for (i, word) in words.iter().enumerate() {
         bytes[i] = (word % 256) as u8;
     }
@@ -24,9 +24,9 @@ pub fn payload(alloc: Global, length: usize, seed: u64, block: u32) -> Result<Li
 {
     let mut words = generator(Purpose::Payload, seed, block, 0);
     let mut bytes = Vec::with_capacity(alloc, length)?;
-    for _ in 0..length / BLOCK {
+    for _ in 0..length / CHUNK {
         bytes.extend_from_slice(&lowest_bytes(&next_words(&mut words)))?;
     }
-    bytes.extend_from_slice(&lowest_bytes(&next_words(&mut words))[..length % BLOCK])?;
+    bytes.extend_from_slice(&lowest_bytes(&next_words(&mut words))[..length % CHUNK])?;
     Ok(List::from_vec(bytes))
 }

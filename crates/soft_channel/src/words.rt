@@ -10,7 +10,7 @@ use rand_core::SeedableRng;
 use rand_core::utils::NextWord;
 
 /// How many words are drawn at a time: the generator makes as many at once.
-pub const BLOCK: usize = 64;
+pub const CHUNK: usize = 64;
 
 /// What words are drawn for.
 #[derive(Clone, Copy)]
@@ -55,13 +55,13 @@ pub fn generator(purpose: Purpose, seed: u64, block: u32, tx: u8) -> ChaCha8Rng
 }
 
 /// Draws the next words of a generator.
-pub fn next_words(generator: &mut ChaCha8Rng) -> [u32; BLOCK]
-    requires { generator.old.word_pos + BLOCK < 2 ^ 68 }
+pub fn next_words(generator: &mut ChaCha8Rng) -> [u32; CHUNK]
+    requires { generator.old.word_pos + CHUNK < 2 ^ 68 }
     ensures words { result ≡ map (λ k. word_at 4 generator.old.key generator.old.stream (generator.old.word_pos + k))
-        (range_with_len 0 BLOCK) }
-    ensures after { generator.new ≡ record generator.old { word_pos = generator.old.word_pos + BLOCK } }
+        (range_with_len 0 CHUNK) }
+    ensures after { generator.new ≡ record generator.old { word_pos = generator.old.word_pos + CHUNK } }
 {
-    let mut words = [0; BLOCK];
+    let mut words = [0; CHUNK];
     for word in words.iter_mut() {
         *word = generator.next_word();
     }

@@ -6,7 +6,7 @@ use Rattle.lte_bits.specs.Softs.{IsWithin}
 use Rattle.soft_channel.specs.Noise.{Transmission, noise_draw, noise_term, noise_terms, term}
 use Rattle.soft_channel.specs.Words.{word}
 use Rattle.soft_channel.proofs.Drawing.{none_drawn, more_drawn, words_drawn, place_drawn}
-use Rattle.soft_channel.proofs.Pieces.{block_mapped, block_more}
+use Rattle.soft_channel.proofs.Pieces.{chunk_mapped, chunk_more}
 use Rattle.soft_channel.proofs.noise.noise_terms.Goals as goal
 
 more_near : (old new terms : List ℤ) → new ≡ old ++ terms → All (IsWithin 437) old → All (IsWithin 437) terms → All (IsWithin 437) new
@@ -29,9 +29,9 @@ loop-preserved c =
     let d = noise_draw t in
     let i : ℕ = 64 * c.loop.counter in
     let words = words_drawn d i 64 c.loop.words c.next_words.result c.loop.invariant.0 c.next_words.ensures.words in
-    let terms = block_mapped (term c.args.noise) (λ (k : ℕ). word d (i + k)) 64 c.next_words.result c.terms_of.result words c.terms_of.ensures.value in (
+    let terms = chunk_mapped (term c.args.noise) (λ (k : ℕ). word d (i + k)) 64 c.next_words.result c.terms_of.result words c.terms_of.ensures.value in (
       more_drawn d i 64 _ c.loop.words c.next_words.new.generator c.loop.invariant.0 c.next_words.ensures.after (omega arith),
-      block_more (noise_term c.args.noise t) (λ (k : ℕ). noise_term c.args.noise t (i + k)) c.loop.terms.items c.extend_from_slice.new.self.items i 64 _ c.loop.invariant.1
+      chunk_more (noise_term c.args.noise t) (λ (k : ℕ). noise_term c.args.noise t (i + k)) c.loop.terms.items c.extend_from_slice.new.self.items i 64 _ c.loop.invariant.1
           (c.in_ok-extend_from_slice.ensures.items ∙ ap (λ (ys : List ℤ). c.loop.terms.items ++ ys) terms) (omega arith) (λ k h. refl),
       more_near c.loop.terms.items c.extend_from_slice.new.self.items c.terms_of.result c.in_ok-extend_from_slice.ensures.items c.loop.invariant.2 c.terms_of.ensures.range,
     )
@@ -51,9 +51,9 @@ returns-clause-value c =
     let n : ℕ = c.args.count % 64 in
     let g : (ℕ → ℤ) = λ (k : ℕ). noise_term c.args.noise t (i + k) in
     let words = words_drawn d i 64 c.loop.words c.next_words-2.result c.loop.invariant.0 c.next_words-2.ensures.words in
-    let terms = block_mapped (term c.args.noise) (λ (k : ℕ). word d (i + k)) 64 c.next_words-2.result c.terms_of-2.result words c.terms_of-2.ensures.value in
+    let terms = chunk_mapped (term c.args.noise) (λ (k : ℕ). word d (i + k)) 64 c.next_words-2.result c.terms_of-2.result words c.terms_of-2.ensures.value in
     c.from_vec.ensures
-    ∙ block_more (noise_term c.args.noise t) g c.loop.terms.items c.extend_from_slice-2.new.self.items i n c.args.count c.loop.invariant.1
+    ∙ chunk_more (noise_term c.args.noise t) g c.loop.terms.items c.extend_from_slice-2.new.self.items i n c.args.count c.loop.invariant.1
     (c.in_ok-extend_from_slice-2.ensures.items ∙ ap (λ (ys : List ℤ). c.loop.terms.items ++ ys) (ap (take n) terms ∙ take-map-range_with_len g 0 64 n (omega arith)))
     (omega (arith, c.loop-test.false, c.loop.auto.counter-end)) (λ k h. refl)
 

@@ -1,7 +1,7 @@
 use Rattle.std.proofs.Common.{◌≡◌, ℕ, ◌<◌, length, get_or, pos}
 use Rattle.lte_bits.specs.Softs.{IsWithin}
 use Rattle.soft_channel.specs.Noise.{term}
-use Rattle.soft_channel.proofs.blocks.terms_of.Given as goal
+use Rattle.soft_channel.proofs.chunks.terms_of.Given as goal
 
 abbrev pub invariant-loop-i : goal.invariant-loop-i
 invariant-loop-i l =

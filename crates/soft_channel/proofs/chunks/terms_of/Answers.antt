@@ -1,10 +1,11 @@
-use Rattle.std.proofs.Common.{◌≡◌, ◌≢◌, ◌<◌, ℕ, ℤ, pos, length, get_or-set_other, get_or-set_same, below_more, ◌∙◌, sym, arith}
-use Rattle.std.proofs.lemmas.List.{length-set, length-map, ext_get_or, get_or-map}
+use Rattle.std.proofs.Common.{◌≢◌, ◌<◌, ℕ, pos, length, get_or-set_other, get_or-set_same, below_more, ◌∙◌, arith}
+use Rattle.std.proofs.lemmas.List.{length-set}
 use Rattle.std.proofs.lemmas.List.Elements.{All-from_get_or}
 use Rattle.lte_bits.specs.Softs.{IsWithin}
 use Rattle.soft_channel.specs.Noise.{term}
+use Rattle.soft_channel.proofs.Pieces.{mapped}
 use Rattle.soft_channel.proofs.Quotients.{cast}
-use Rattle.soft_channel.proofs.blocks.terms_of.Goals as goal
+use Rattle.soft_channel.proofs.chunks.terms_of.Goals as goal
 
 pub loop-i-preserved : goal.loop-i-preserved
 loop-i-preserved c =
@@ -23,10 +24,8 @@ loop-i-preserved c =
 
 pub returns-clause-value : goal.returns-clause-value
 returns-clause-value c =
-    let words = c.args.words.now in
-    let long : length words ≡ 64 = omega (arith, c.loop-i.auto) in
-    ext_get_or (pos 0) _ _ (c.loop-i.invariant.0 ∙ sym (length-map {B = ℤ} words (term c.args.noise) ∙ long))
-    (λ k h. c.loop-i.invariant.1 k (omega (arith, c.loop-i.invariant.0)) ∙ sym (get_or-map (term c.args.noise) words k 0 (pos 0) (omega (arith, c.loop-i.invariant.0))))
+    mapped (term c.args.noise) c.args.words.now c.loop-i.terms 64 0 (pos 0) (omega (arith, c.loop-i.auto)) c.loop-i.invariant.0
+    (λ k h. c.loop-i.invariant.1 k (omega arith))
 
 pub returns-clause-range : goal.returns-clause-range
 returns-clause-range c =
