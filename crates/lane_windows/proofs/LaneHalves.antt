@@ -14,8 +14,9 @@ use Rattle.serial_decode.specs.Runs.{start_of, window_from}
 use Rattle.serial_decode.specs.Views.{AreWhole, by_position}
 use Rattle.serial_decode.proofs.HalfSteps.{same-by_range}
 use Rattle.serial_decode.proofs.StripParts.{position-inside}
-use Rattle.lock_step.specs.Lanes.{column, border_at}
-use Rattle.lane_windows.specs.Lanes.{values_of_window, cells_of_window, window_of_rows, HaveRun}
+use Rattle.window_rows.specs.Rows.{column, values_of_window}
+use Rattle.lock_step.specs.Lanes.{border_at}
+use Rattle.lane_windows.specs.Lanes.{cells_of_window, window_of_rows, HaveRun}
 use Rattle.lane_windows.specs.Halves.{AreRowsOf, HaveRunHalf}
 
 -- the values of a window, of all values by position

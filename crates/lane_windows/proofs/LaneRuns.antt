@@ -7,14 +7,15 @@ use lib.LanesLaws.{length-zip2}
 use Rattle.model_receiver.specs.Borders.{Border, at}
 use Rattle.model_receiver.specs.Paths.{Window}
 use Rattle.model_receiver.specs.Windows.{Extrinsic, zero_cell, cell_at, values, new_cells, forward_left, backward_left}
-use Rattle.lock_step.specs.Lanes.{column, border_at, window_at, decided_cells}
+use Rattle.window_rows.specs.Rows.{column, number_in, values_of_window}
+use Rattle.lock_step.specs.Lanes.{border_at, window_at, decided_cells}
 use Rattle.std.specs.Prelude.{slice_index}
-use Rattle.lane_windows.specs.Banks.{number_in, cell_of, cell_in, cells_by_place, AreBanks}
-use Rattle.lane_windows.specs.Crossings.{bank_at, IsTable}
-use Rattle.lane_windows.specs.Lanes.{cells_of_window, values_of_window, window_of, window_of_rows, HaveRun}
-use Rattle.lane_windows.proofs.BankCells.{length-by_place}
-use Rattle.lane_windows.proofs.BankRows.{width-of_view, length-of_view, cell-in_view, cell-of_rows}
-use Rattle.lane_windows.proofs.Columns.{at-column, length-column}
+use Rattle.lane_banks.specs.Banks.{cell_of, cell_in, cells_by_place, AreBanks}
+use Rattle.lane_banks.specs.Crossings.{bank_at, IsTable}
+use Rattle.lane_windows.specs.Lanes.{cells_of_window, window_of, window_of_rows, HaveRun}
+use Rattle.lane_banks.proofs.BankCells.{length-by_place}
+use Rattle.lane_banks.proofs.BankRows.{width-of_view, length-of_view, cell-in_view, cell-of_rows}
+use Rattle.window_rows.proofs.Columns.{at-column, length-column}
 
 module _ (w : ℕ) (place : ℕ → ℕ) (cells : List Extrinsic) (t : ℕ) where
   length-of_window : length (cells_of_window w place cells t) ≡ w

@@ -5,7 +5,8 @@ use Rattle.model_receiver.specs.Borders.{Border}
 use Rattle.model_receiver.specs.Windows.{Extrinsic, new_cells, forward_left, backward_left}
 use Rattle.model_receiver.specs.HalfIteration.{Shape, window_width, positions, order, systematic_at, parity_at}
 use Rattle.serial_decode.specs.Runs.{window_from}
-use Rattle.lock_step.specs.Lanes.{column, border_at, AreWithin}
+use Rattle.window_rows.specs.Rows.{column, AreWithin}
+use Rattle.lock_step.specs.Lanes.{border_at}
 use Rattle.lane_windows.specs.Lanes.{cells_of_window}
 
 -- the soft values of half h by rows

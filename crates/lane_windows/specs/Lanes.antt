@@ -1,16 +1,13 @@
 -- Windows whose cells are in banks.
 use Rattle.std.specs.Prelude.{◌≡◌, ℕ, ◌*◌, ◌<◌, ℤ, List, length, map}
 use Rattle.std.specs.List.{range_with_len}
-use Rattle.model_receiver.specs.Borders.{Border, at}
+use Rattle.model_receiver.specs.Borders.{Border}
 use Rattle.model_receiver.specs.Paths.{Window}
 use Rattle.model_receiver.specs.Windows.{Extrinsic, window_between, cell_at, new_cells, forward_left, backward_left}
-use Rattle.lock_step.specs.Lanes.{border_at, column}
+use Rattle.window_rows.specs.Rows.{column, values_of_window}
+use Rattle.lock_step.specs.Lanes.{border_at}
 
--- the values of window t, of values by position
-abbrev pub values_of_window : ℕ → List ℤ → ℕ → List ℤ
-values_of_window w values t = map (at values) (range_with_len (t * w) w)
-
--- its cells, of the cells by place
+-- the cells of window t, of the cells by place
 abbrev pub cells_of_window : ℕ → (ℕ → ℕ) → List Extrinsic → ℕ → List Extrinsic
 cells_of_window w place cells t = map (λ i. cell_at cells (place i)) (range_with_len (t * w) w)
 

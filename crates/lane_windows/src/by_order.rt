@@ -1,19 +1,34 @@
-//! Windows in lock step over banks of cells, by an order of the places.
-ghost use Rattle.std.specs.Prelude.{◌≡◌, ℕ, ◌*◌, ◌/◌, ◌<◌, ◌≤◌, length};
+//! Windows in lock step over banks of cells, by an order of the places. The engine decodes by `LaneViews::run`,
+//! which has soft values in rows and crossings once for a code block; this is the plain form of the same
+//! decoding, from values by position, which callers and tests use.
+ghost use Rattle.std.specs.Prelude.{◌≡◌, ℕ, ◌*◌, ◌/◌, ◌<◌, ◌≤◌, length, take};
 ghost use Rattle.model_receiver.specs.Windows.{new_cells, forward_left, backward_left};
 ghost use Rattle.cell_shares.specs.Orders.{place_in, IsOrderOf};
-ghost use Rattle.lock_step.specs.Lanes.{border_at, AreWithin, IsLaneCount};
+ghost use Rattle.window_rows.specs.Rows.{column, values_of_window, AreWithin, IsLaneCount};
+ghost use Rattle.lock_step.specs.Lanes.{border_at};
 ghost use Rattle.lane_windows.specs.Lanes.{cells_of_window, window_of, HaveRun};
 
-use crate::banks::Banks;
 use crate::crossed::{run_crossed, run_straight};
-use crate::crossings::Crossings;
-use crate::places::follow;
-use crate::rows::lay_front;
-use crate::work::{Engine, LaneWork};
+use crate::order_work::LaneWork;
+use crate::work::Engine;
 use cell_shares::Order;
+use lane_banks::banks::Banks;
+use lane_banks::crossings::Crossings;
+use lane_banks::steps::follow;
 use lte_bits::Soft;
 use window_decode::Border;
+use window_rows::rows::lay_out;
+
+/// Leaves the rows of N*W values by position, in the first `width` rows, which is W.
+fn lay_front<const N: usize>(values: &[Soft], rows: &mut [[i16; N]], width: usize)
+    requires long { N * width ≡ length values.now }
+    requires room { width ≤ length rows.old }
+    ensures columns { (t : ℕ) → t < N
+        → column t (take width rows.new) ≡ values_of_window width values.now t }
+    ensures within { AreWithin N 127 (take width rows.new) }
+{
+    lay_out(values, &mut rows[..width]);
+}
 
 /// Decodes N windows whose positions are at the places of an order.
 fn run_in_order<const N: usize>(

@@ -1,12 +1,12 @@
 //! Windows in lock step over banks of cells: straight, or crossed by a table.
 ghost use Rattle.std.specs.Prelude.{◌≡◌, ℕ, ◌*◌, ◌/◌, ◌≤◌, length};
-ghost use Rattle.lock_step.specs.Lanes.{AreWithin};
+ghost use Rattle.window_rows.specs.Rows.{AreWithin};
 ghost use Rattle.lane_windows.specs.Lanes.{HaveRun};
-ghost use Rattle.lane_windows.specs.Crossings.{IsTable, AreApart};
+ghost use Rattle.lane_banks.specs.Crossings.{IsTable, AreApart};
 
-use crate::banks::Banks;
-use crate::crossings::Crossings;
 use crate::work::Engine;
+use lane_banks::banks::Banks;
+use lane_banks::crossings::Crossings;
 use lock_step::{LaneWork as Kernel, run_rows};
 use window_decode::Border;
 

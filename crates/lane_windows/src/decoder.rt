@@ -3,11 +3,11 @@ ghost use Rattle.std.specs.Prelude.{◌≡◌, ◌≤◌, IfOk, length};
 ghost use Rattle.model_receiver.specs.HalfIteration.{window_width};
 ghost use Rattle.lane_windows.specs.Borders.{HaveWindows};
 
-use crate::banks::Banks;
 use crate::borders::Borders;
 use crate::halves::decode_half;
 use crate::lane_views::LaneViews;
 use crate::work::Engine;
+use lane_banks::banks::Banks;
 use lte_bits::{Bit, NoMemory, SoftStreams};
 use serial_decode::block::HalfDecoder;
 use serial_decode::left::BordersLeft;
@@ -34,7 +34,7 @@ pub struct LaneDecoder<'a, const N: usize> {
 impl<'a, const N: usize> LaneDecoder<'a, N> {
     ghost use Rattle.model_receiver.specs.HalfIteration.{opening};
     ghost use Rattle.serial_decode.specs.Views.{AreStreams};
-    ghost use Rattle.lock_step.specs.Lanes.{IsLaneCount};
+    ghost use Rattle.window_rows.specs.Rows.{IsLaneCount};
     ghost use Rattle.lane_windows.specs.Progress.{before_of};
 
     /// A code block of N windows before its first half.

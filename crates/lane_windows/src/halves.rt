@@ -3,10 +3,10 @@ ghost use Rattle.std.specs.Prelude.{◌≡◌, ◌≤◌, length};
 ghost use Rattle.model_receiver.specs.HalfIteration.{window_width, after};
 ghost use Rattle.serial_decode.specs.Runs.{start_of};
 
-use crate::banks::Banks;
 use crate::borders::{leave, take_left};
 use crate::lane_views::LaneViews;
 use crate::work::Engine;
+use lane_banks::banks::Banks;
 use serial_decode::left::BordersLeft;
 use window_decode::Border;
 

@@ -2,15 +2,15 @@
 ghost use Rattle.std.specs.Prelude.{◌≡◌, ◌≤◌, length};
 ghost use Rattle.model_sender.specs.Interleaver.{place};
 ghost use Rattle.model_receiver.specs.HalfIteration.{window_width};
-ghost use Rattle.lane_windows.specs.Crossings.{AreApart, IsTable};
+ghost use Rattle.lane_banks.specs.Crossings.{AreApart, IsTable};
 ghost use Rattle.lane_windows.specs.Halves.{AreRowsOf};
 
-use crate::banks::Banks;
 use crate::crossed::{run_crossed, run_straight};
-use crate::crossings::Crossings;
-use crate::places::crossings_of;
 use crate::soft_rows::SoftRows;
 use crate::work::Engine;
+use lane_banks::banks::Banks;
+use lane_banks::crossings::Crossings;
+use lane_banks::places::crossings_of;
 use lte_bits::{NoMemory, SoftStreams};
 use serial_decode::views::Views;
 use std::alloc::Global;
@@ -39,7 +39,7 @@ pub struct LaneViews<'a, const N: usize> {
 impl<'a, const N: usize> LaneViews<'a, N> {
     ghost use Rattle.std.specs.Prelude.{IfOk};
     ghost use Rattle.serial_decode.specs.Views.{AreStreams};
-    ghost use Rattle.lock_step.specs.Lanes.{IsLaneCount};
+    ghost use Rattle.window_rows.specs.Rows.{IsLaneCount};
     ghost use Rattle.lane_windows.specs.Halves.{HaveRunHalf};
 
     /// The views of a code block of N windows. The streams have length K + 4, and the shape's fillers.

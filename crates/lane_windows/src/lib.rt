@@ -4,35 +4,26 @@
 
 ghost use Rattle.std.specs.Prelude.{◌≡◌, ◌+◌, IfOk, length};
 ghost use Rattle.model_receiver.specs.Decoding.{code_result};
-ghost use Rattle.lock_step.specs.Lanes.{IsLaneCount};
+ghost use Rattle.window_rows.specs.Rows.{IsLaneCount};
 
-pub mod banks;
 pub mod borders;
 pub mod by_order;
-pub mod cells;
 pub mod crossed;
-pub mod crossings;
 pub mod decoder;
 pub mod halves;
 pub mod lane_views;
-pub mod places;
-pub mod rows;
-mod shuffles;
+pub mod order_work;
 pub mod soft_rows;
-pub mod steps;
 pub mod work;
-pub mod zeros;
 
-pub use banks::Banks;
 pub use by_order::run_lock_step;
-pub use cell_shares::Order;
 use decoder::LaneDecoder;
+pub use lane_banks::{Banks, Order, crossbar};
 use lte_bits::{NoMemory, SoftStreams};
+pub use order_work::LaneWork;
 use serial_decode::block::decode_halves;
 use std::alloc::Global;
-pub use steps::crossbar;
 use window_decode::{CodeResult, Shape};
-pub use work::LaneWork;
 
 /// Decodes a code block in N windows at once: the result of the first iteration whose check holds, or else of
 /// the last that the shape allows. N is 8, 16 or 32, and the windows of the shape. The streams have length

@@ -1,13 +1,13 @@
 //! The soft values of a code block by rows.
 ghost use Rattle.std.specs.Prelude.{◌≡◌, IfOk};
-ghost use Rattle.lock_step.specs.Lanes.{IsLaneCount};
+ghost use Rattle.window_rows.specs.Rows.{IsLaneCount};
 ghost use Rattle.lane_windows.specs.Halves.{AreRowsOf};
 
-use crate::rows::lay_out;
-use crate::zeros::zero_rows;
 use lte_bits::NoMemory;
 use serial_decode::views::Views;
 use std::alloc::Global;
+use window_rows::rows::lay_out;
+use window_rows::zeros::zero_rows;
 
 /// The systematic and the parity values that the halves of one order read: row j has in lane t those of
 /// position j of window t.

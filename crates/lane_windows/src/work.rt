@@ -1,12 +1,10 @@
 //! Room for windows in lock step.
 ghost use Rattle.std.specs.Prelude.{◌≡◌, ◌≤◌, IfOk, length};
-ghost use Rattle.lock_step.specs.Lanes.{IsLaneCount};
+ghost use Rattle.window_rows.specs.Rows.{IsLaneCount};
 
-use crate::crossings::Crossings;
 use lock_step::LaneWork as Kernel;
 use lte_bits::NoMemory;
 use std::alloc::Global;
-use std::marker::Model;
 
 /// Room for the metrics of N windows, and for their cells in the order of the windows.
 #[derive(Drop)]
@@ -34,55 +32,5 @@ impl<const N: usize> Engine<N> {
             values,
             sums,
         })
-    }
-}
-
-/// Room for N windows of up to some width: also for their soft values by rows, and the banks of each step.
-#[derive(Drop)]
-pub struct LaneWork<const N: usize> {
-    pub(crate) engine: Engine<N>,
-    pub(crate) systematic: Vec<[i16; N]>,
-    pub(crate) parity: Vec<[i16; N]>,
-    pub(crate) crossings: Crossings<N>,
-}
-
-impl<const N: usize> Model for LaneWork<N> {
-    ghost use Rattle.std.specs.Prelude.{◌≡◌, ℕ, length};
-
-    ghost Value = { ℕ };
-
-    ghost view = { λ w. w.engine.kernel };
-
-    ghost invariant = { λ w. (length w.systematic.items ≡ w.engine.kernel)
-        × (length w.parity.items ≡ w.engine.kernel)
-        × (length w.crossings.rows.items ≡ w.engine.kernel)
-        × (length w.crossings.banks.items ≡ w.engine.kernel) };
-}
-
-impl<const N: usize> LaneWork<N> {
-    /// Room for windows of up to `width` positions; `width` is 8 to 768, and N is 8, 16 or 32.
-    pub fn new(alloc: Global, width: usize) -> Result<LaneWork<N>, NoMemory>
-        requires lanes { IsLaneCount N }
-        requires least { 8 ≤ width }
-        requires most { width ≤ 768 }
-        ensures { IfOk result (λ work. work ≡ width) }
-    {
-        let engine = Engine::<N>::new(alloc, width)?;
-        let systematic = vec![in alloc; [0i16; N]; width]?;
-        let parity = vec![in alloc; [0i16; N]; width]?;
-        let crossings = Crossings::<N>::new(alloc, width)?;
-        Ok(LaneWork {
-            engine,
-            systematic,
-            parity,
-            crossings,
-        })
-    }
-
-    /// The greatest width for which there is room.
-    pub fn room(&self) -> usize
-        ensures { result ≡ self.now }
-    {
-        self.engine.kernel.room()
     }
 }

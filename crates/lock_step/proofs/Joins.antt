@@ -6,7 +6,7 @@ use Rattle.lte_bits.specs.declared.bit.Bit.TheVariants.{Zero, One}
 use Rattle.model_sender.specs.ConstituentCoder.{State}
 use Rattle.model_receiver.specs.Borders.{number_for, at}
 use Rattle.window_decode.specs.Recursions.{joined, through}
-use Rattle.lock_step.specs.Lanes.{row_at, column}
+use Rattle.window_rows.specs.Rows.{row_at, column}
 use Rattle.lock_step.proofs.StateRows.{s0, s1, s2, s3, s4, s5, s6, s7, number-column}
 
 max-assoc : (x y z : ℤ) → int_max (int_max x y) z ≡ int_max x (int_max y z)

@@ -10,7 +10,7 @@ use Rattle.model_receiver.specs.Borders.{state, number_for, at}
 use Rattle.window_decode.proofs.Within.{within-same}
 use Rattle.window_decode.proofs.EightStates.{by_eight}
 use Rattle.window_decode.proofs.LaneKernel.{relative-numbers}
-use Rattle.lock_step.specs.Lanes.{row_at, column}
+use Rattle.window_rows.specs.Rows.{row_at, column}
 use Rattle.lock_step.specs.Vectors.{IsVector, AreRelative}
 use Rattle.lock_step.proofs.Vectors.{vector_from, vector_passed, vector-still}
 use Rattle.window_decode.proofs.LaneNumbers.{passed}

@@ -6,7 +6,7 @@ use Rattle.model_sender.specs.ConstituentCoder.{State, zero_state}
 use Rattle.model_receiver.specs.Borders.{number_for, relative, at}
 use Rattle.window_decode.specs.Recursions.{step_gain, forward, backward}
 use Rattle.window_decode.proofs.EightStates.{same_eight}
-use Rattle.lock_step.specs.Lanes.{row_at, column}
+use Rattle.window_rows.specs.Rows.{row_at, column}
 use Rattle.lock_step.proofs.StateRows.{s0, s1, s2, s3, s4, s5, s6, s7, number-column}
 
 -- lane t of r is the greater of two sums, less the base

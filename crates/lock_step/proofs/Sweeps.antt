@@ -17,7 +17,8 @@ use Rattle.window_decode.specs.Metrics.{IsForwardRow, IsBackwardRow, IsForward, 
 use Rattle.window_decode.proofs.JoinedPaths.{forward-left, backward-left}
 use Rattle.window_decode.proofs.Within.{within-same, within-sum, within-more}
 use Rattle.window_decode.proofs.WindowSteps.{Earns}
-use Rattle.lock_step.specs.Lanes.{row_at, column, border_at, lane_window, decided_cells, AreWithin, AreSoft}
+use Rattle.window_rows.specs.Rows.{row_at, column, AreWithin}
+use Rattle.lock_step.specs.Lanes.{border_at, lane_window, decided_cells, AreSoft}
 use Rattle.lock_step.specs.Vectors.{IsSmall, AreMetrics, AreBorders, lane_gain, metrics_at, cell_of}
 use Rattle.lock_step.proofs.StateRows.{at-column}
 use Rattle.lock_step.proofs.Cells.{same_cell}

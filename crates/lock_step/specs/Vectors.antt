@@ -9,7 +9,8 @@ use Rattle.model_receiver.specs.Borders.{IsBorder}
 use Rattle.model_receiver.specs.Paths.{Gain, gain}
 use Rattle.model_receiver.specs.Windows.{Extrinsic}
 use Rattle.window_decode.specs.Metrics.{IsForwardRow}
-use Rattle.lock_step.specs.Lanes.{row_at, column, lane_window}
+use Rattle.window_rows.specs.Rows.{row_at, column}
+use Rattle.lock_step.specs.Lanes.{lane_window}
 
 -- the numbers of n lanes are from -b to b
 abbrev pub IsSmall : (n b : ℕ) → List ℤ → Type 0

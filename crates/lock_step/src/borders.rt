@@ -1,7 +1,8 @@
 //! The borders of N windows, and their metrics lane by lane.
 ghost use Rattle.std.specs.Prelude.{◌≡◌, ◌<◌, ℕ, length};
 ghost use Rattle.model_receiver.specs.Borders.{IsBorder, at};
-ghost use Rattle.lock_step.specs.Lanes.{column, border_at};
+ghost use Rattle.window_rows.specs.Rows.{column};
+ghost use Rattle.lock_step.specs.Lanes.{border_at};
 ghost use Rattle.lock_step.specs.Vectors.{AreMetrics, AreBorders};
 
 use window_decode::Border;

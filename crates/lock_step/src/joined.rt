@@ -4,7 +4,7 @@ ghost use Rattle.lte_bits.specs.declared.bit.Bit.TheVariants.{Zero, One};
 ghost use Rattle.model_receiver.specs.Borders.{at};
 ghost use Rattle.model_receiver.specs.Windows.{scaled};
 ghost use Rattle.window_decode.specs.Recursions.{through};
-ghost use Rattle.lock_step.specs.Lanes.{column};
+ghost use Rattle.window_rows.specs.Rows.{column};
 ghost use Rattle.lock_step.specs.Vectors.{IsSmall, IsVector, AreRelative, better_by};
 
 use crate::lanes::{self, better, difference, larger, loaded, scaled, store};

@@ -3,7 +3,7 @@ ghost use Rattle.std.specs.Prelude.{◌≡◌, ◌<◌, ℕ, ◌+ℤ◌, ◌-ℤ
 ghost use Rattle.std.specs.Int.{int_max};
 ghost use Rattle.model_receiver.specs.Borders.{at, number_for, relative};
 ghost use Rattle.window_decode.specs.Recursions.{step_gain, forward, backward};
-ghost use Rattle.lock_step.specs.Lanes.{column};
+ghost use Rattle.window_rows.specs.Rows.{column};
 ghost use Rattle.lock_step.specs.Vectors.{IsSmall, IsVector, AreMetrics, AreRelative};
 
 use crate::lanes::{add, better, difference, greater, loaded, store};

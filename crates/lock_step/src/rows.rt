@@ -5,8 +5,9 @@ ghost use Rattle.model_receiver.specs.Borders.{at, number_for, relative};
 ghost use Rattle.model_receiver.specs.Windows.{new_cells, forward_left, backward_left};
 ghost use Rattle.window_decode.specs.Recursions.{step_gain, backward, cell_through};
 ghost use Rattle.window_decode.specs.Metrics.{IsForwardRow, IsBackwardRow};
-ghost use Rattle.lock_step.specs.Lanes.{column, border_at, lane_window, window_at, decided_cells};
-ghost use Rattle.lock_step.specs.Lanes.{AreWithin, AreSoft, IsLaneCount};
+ghost use Rattle.window_rows.specs.Rows.{column, AreWithin, IsLaneCount};
+ghost use Rattle.lock_step.specs.Lanes.{border_at, lane_window, window_at, decided_cells};
+ghost use Rattle.lock_step.specs.Lanes.{AreSoft};
 ghost use Rattle.lock_step.specs.Vectors.{IsSmall, AreMetrics, AreRelative, AreBorders};
 ghost use Rattle.lock_step.specs.Vectors.{lane_gain, metrics_at, AreForwardRows};
 

@@ -1,6 +1,6 @@
 //! Room for the metrics of N windows.
 ghost use Rattle.std.specs.Prelude.{◌≡◌, ◌≤◌, IfOk};
-ghost use Rattle.lock_step.specs.Lanes.{IsLaneCount};
+ghost use Rattle.window_rows.specs.Rows.{IsLaneCount};
 
 use lte_bits::NoMemory;
 use std::alloc::Global;

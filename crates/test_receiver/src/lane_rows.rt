@@ -1,7 +1,8 @@
 //! Windows in lock step, by rows of their numbers.
 ghost use Rattle.std.specs.Prelude.{◌≡◌, ◌≤◌, IfOk, length};
 ghost use Rattle.lte_bits.specs.Softs.{IsWithin};
-ghost use Rattle.lock_step.specs.Lanes.{AreSoft, AreWithin, IsLaneCount};
+ghost use Rattle.window_rows.specs.Rows.{AreWithin, IsLaneCount};
+ghost use Rattle.lock_step.specs.Lanes.{AreSoft};
 ghost use Rattle.lock_step.specs.Vectors.{IsSmall};
 
 use crate::mixed;

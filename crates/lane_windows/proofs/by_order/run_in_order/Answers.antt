@@ -2,8 +2,8 @@ use Rattle.std.proofs.Common.{ℕ, ◌/◌, ◌≤◌, length, sym, subst, arith
 use Rattle.cell_shares.specs.declared.order.Order.{Order}
 use Rattle.cell_shares.specs.Orders.{place_in}
 use Rattle.lane_windows.specs.Lanes.{HaveRun}
-use Rattle.lane_windows.proofs.BankCells.{fits-twice}
-use Rattle.lane_windows.proofs.CrossingLaws.{order-apart}
+use Rattle.lane_banks.proofs.BankCells.{fits-twice}
+use Rattle.lane_banks.proofs.CrossingLaws.{order-apart}
 use Rattle.lane_windows.proofs.by_order.run_in_order.Goals as goal
 
 pub follow-requires : goal.follow-requires

@@ -3,9 +3,9 @@ use Rattle.std.proofs.lemmas.List.{length-take-le}
 use Rattle.model_receiver.specs.Windows.{new_cells, forward_left, backward_left}
 use Rattle.cell_shares.specs.Orders.{place_in, IsOrderOf}
 use Rattle.serial_decode.proofs.Parts.{written}
-use Rattle.lock_step.specs.Lanes.{column, AreWithin}
-use Rattle.lane_windows.specs.Lanes.{values_of_window, window_of, window_of_rows}
-use Rattle.lane_windows.proofs.BankCells.{fits-twice}
+use Rattle.window_rows.specs.Rows.{column, AreWithin, values_of_window}
+use Rattle.lane_windows.specs.Lanes.{window_of, window_of_rows}
+use Rattle.lane_banks.proofs.BankCells.{fits-twice}
 use Rattle.lane_windows.proofs.LaneRuns.{by-position}
 use Rattle.lane_windows.proofs.by_order.run_lock_step.Given.{Over}
 use Rattle.lane_windows.proofs.by_order.run_lock_step.Goals as goal

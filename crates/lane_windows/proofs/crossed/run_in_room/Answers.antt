@@ -2,12 +2,11 @@ use Rattle.std.proofs.Common.{◌≡◌, ℕ, ◌<◌, ◌≤◌, ℤ, List, len
 use Rattle.std.specs.Prelude.{slice_index}
 use Rattle.std.proofs.lemmas.List.{length-take-le}
 use Rattle.serial_decode.proofs.Parts.{written}
-use Rattle.lock_step.specs.Lanes.{AreWithin}
-use Rattle.lane_windows.specs.Banks.{number_in}
-use Rattle.lane_windows.specs.Crossings.{bank_at, IsTable, AreApart}
-use Rattle.lane_windows.proofs.BankCells.{fits-twice}
-use Rattle.lane_windows.proofs.BankRows.{width-of_view, banks-of_rows}
-use Rattle.lane_windows.proofs.Columns.{within-words}
+use Rattle.window_rows.specs.Rows.{AreWithin, number_in}
+use Rattle.lane_banks.specs.Crossings.{bank_at, IsTable, AreApart}
+use Rattle.lane_banks.proofs.BankCells.{fits-twice}
+use Rattle.lane_banks.proofs.BankRows.{width-of_view, banks-of_rows}
+use Rattle.window_rows.proofs.Columns.{within-words}
 use Rattle.lane_windows.proofs.LaneRuns.{crossed-run}
 use Rattle.lane_windows.proofs.crossed.run_in_room.Goals as goal
 

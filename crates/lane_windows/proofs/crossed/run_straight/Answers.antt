@@ -1,8 +1,8 @@
 use Rattle.std.proofs.Common.{◌≡◌, ◌≤◌, ℤ, List, length, sym, ap, ◌∙◌, subst, arith}
 use Rattle.serial_decode.proofs.Parts.{written}
-use Rattle.lock_step.specs.Lanes.{AreWithin}
-use Rattle.lane_windows.proofs.BankCells.{fits-twice}
-use Rattle.lane_windows.proofs.BankRows.{width-of_view, banks-of_rows}
+use Rattle.window_rows.specs.Rows.{AreWithin}
+use Rattle.lane_banks.proofs.BankCells.{fits-twice}
+use Rattle.lane_banks.proofs.BankRows.{width-of_view, banks-of_rows}
 use Rattle.lane_windows.proofs.LaneRuns.{KernelRan, straight-run}
 use Rattle.lane_windows.proofs.crossed.run_straight.Goals as goal
 

@@ -1,6 +1,6 @@
 use Rattle.std.proofs.Common.{ap, sym, ◌∙◌, subst, List, ℤ}
 use Rattle.model_receiver.specs.Borders.{IsBorder}
-use Rattle.lock_step.specs.Lanes.{column}
+use Rattle.window_rows.specs.Rows.{column}
 use Rattle.window_decode.proofs.LaneNumbers.{passed}
 use Rattle.window_decode.proofs.LaneKernel.{passed-border}
 use Rattle.lock_step.proofs.StateRows.{eight-column}

@@ -1,5 +1,6 @@
 use Rattle.std.proofs.Common.{ap, ◌∙◌}
-use Rattle.lock_step.specs.Lanes.{column, border_at}
+use Rattle.window_rows.specs.Rows.{column}
+use Rattle.lock_step.specs.Lanes.{border_at}
 use Rattle.lock_step.proofs.StateRows.{set_eight, border-column}
 use Rattle.lock_step.proofs.borders.put_borders.Goals as goal
 

@@ -1,5 +1,6 @@
 use Rattle.std.proofs.Common.{◌≡◌, ℕ, ◌<◌}
-use Rattle.lock_step.specs.Lanes.{column, border_at}
+use Rattle.window_rows.specs.Rows.{column}
+use Rattle.lock_step.specs.Lanes.{border_at}
 use Rattle.lock_step.proofs.borders.take_borders.Given as goal
 
 abbrev pub invariant-loop-t : goal.invariant-loop-t

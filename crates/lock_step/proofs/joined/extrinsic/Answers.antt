@@ -2,7 +2,7 @@ use Rattle.std.proofs.Common.{arith, rules}
 use Rattle.lte_bits.specs.declared.bit.Bit.TheVariants.{Zero, One}
 use Rattle.model_receiver.specs.Borders.{at}
 use Rattle.window_decode.specs.Recursions.{through}
-use Rattle.lock_step.specs.Lanes.{column}
+use Rattle.window_rows.specs.Rows.{column}
 use Rattle.lock_step.proofs.Vectors.{AreLanes, difference-lanes, lanes_passed, any_passed, difference-fits}
 use Rattle.lock_step.proofs.joined.extrinsic.Goals as goal
 

@@ -1,5 +1,5 @@
 use Rattle.std.proofs.Common.{ap, ◌∙◌, arith, rules}
-use Rattle.lock_step.specs.Lanes.{column}
+use Rattle.window_rows.specs.Rows.{column}
 use Rattle.lock_step.proofs.Vectors.{small-vector, vector_more}
 use Rattle.lock_step.proofs.StateRows.{s0, s1, s2, s3, s4, s5, s6, s7, row-vector, nothing-vector, at-nothing, set_eight}
 use Rattle.lock_step.proofs.Steps.{backward-lane}

@@ -1,7 +1,8 @@
 use Rattle.std.proofs.Common.{List, [], length, ℤ, sym, ap, ◌∙◌, subst, arith, rules}
 use Rattle.model_receiver.specs.Windows.{new_cells}
 use Rattle.window_decode.specs.Metrics.{IsForwardRow, IsBackwardRow}
-use Rattle.lock_step.specs.Lanes.{column, border_at, lane_window, window_at}
+use Rattle.window_rows.specs.Rows.{column}
+use Rattle.lock_step.specs.Lanes.{border_at, lane_window, window_at}
 use Rattle.lock_step.specs.Vectors.{AreBorders, lane_gain, AreForwardRows}
 use Rattle.lock_step.proofs.Sweeps.{lane-soft, borders_from, width-column, new-within, forward-end, backward-end}
 use Rattle.lock_step.proofs.Bounds.{forward-relative, forward-border, backward-border}

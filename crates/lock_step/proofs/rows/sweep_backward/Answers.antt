@@ -6,7 +6,8 @@ use Rattle.model_receiver.specs.Windows.{new_cell}
 use Rattle.window_decode.specs.Recursions.{cell_through}
 use Rattle.window_decode.proofs.WindowSteps.{cell-best, backward_first, backward-row}
 use Rattle.window_decode.proofs.WindowSweep.{backward_at}
-use Rattle.lock_step.specs.Lanes.{row_at, column, lane_window}
+use Rattle.window_rows.specs.Rows.{row_at, column}
+use Rattle.lock_step.specs.Lanes.{lane_window}
 use Rattle.lock_step.specs.Vectors.{AreRelative, lane_gain, metrics_at}
 use Rattle.lock_step.proofs.StateRows.{at-column}
 use Rattle.lock_step.proofs.Sweeps.{lane-soft, lane-earns, row-read, metrics-read, read-small, kept-more, small-more, renewed-more, cell-set, decided-all, width-column}

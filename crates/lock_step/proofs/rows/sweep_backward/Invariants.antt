@@ -3,7 +3,8 @@ use Rattle.lte_bits.specs.Softs.{IsWithin}
 use Rattle.model_receiver.specs.Borders.{Border, at}
 use Rattle.model_receiver.specs.Windows.{new_cell}
 use Rattle.window_decode.specs.Metrics.{IsBackwardRow}
-use Rattle.lock_step.specs.Lanes.{row_at, column, lane_window}
+use Rattle.window_rows.specs.Rows.{row_at, column}
+use Rattle.lock_step.specs.Lanes.{lane_window}
 use Rattle.lock_step.specs.Vectors.{AreMetrics, lane_gain, AreForwardRows, cell_of}
 use Rattle.lock_step.proofs.rows.sweep_backward.Given as goal
 

@@ -4,7 +4,8 @@ use Rattle.model_receiver.specs.Borders.{at, number_for, relative}
 use Rattle.window_decode.specs.Recursions.{step_gain, forward}
 use Rattle.window_decode.specs.Metrics.{IsForwardRow}
 use Rattle.window_decode.proofs.WindowSteps.{forward_first, forward-row}
-use Rattle.lock_step.specs.Lanes.{row_at, column, lane_window}
+use Rattle.window_rows.specs.Rows.{row_at, column}
+use Rattle.lock_step.specs.Lanes.{lane_window}
 use Rattle.lock_step.specs.Vectors.{AreMetrics, AreRelative, lane_gain}
 use Rattle.lock_step.proofs.Vectors.{sum-small}
 use Rattle.lock_step.proofs.Sweeps.{lane-soft, lane-earns, row-read, read-small, set-more, width-column}

@@ -1,6 +1,6 @@
 use Rattle.std.proofs.Common.{◌≡◌, ℕ, ◌<◌, length}
 use Rattle.window_decode.specs.Metrics.{IsForwardRow}
-use Rattle.lock_step.specs.Lanes.{column}
+use Rattle.window_rows.specs.Rows.{column}
 use Rattle.lock_step.specs.Vectors.{AreMetrics, lane_gain, metrics_at, AreForwardRows}
 use Rattle.lock_step.proofs.rows.sweep_forward.Given as goal
 

@@ -4,7 +4,7 @@ use Rattle.std.proofs.lemmas.Int.{ints}
 use Rattle.std.proofs.lemmas.List.{get_or-set_same, get_or-set_other, get_or_read, length-set}
 use Rattle.lte_bits.specs.Softs.{IsWithin}
 use Rattle.model_receiver.specs.Borders.{at}
-use Rattle.lock_step.specs.Lanes.{row_at, AreWithin}
+use Rattle.window_rows.specs.Rows.{row_at, AreWithin}
 use Rattle.lock_step.specs.Vectors.{IsSmall}
 use Rattle.test_receiver.proofs.lane_rows.rows.Goals as goal
 

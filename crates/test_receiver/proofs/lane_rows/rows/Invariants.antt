@@ -1,5 +1,5 @@
 use Rattle.std.proofs.Common.{◌≡◌, length}
-use Rattle.lock_step.specs.Lanes.{AreWithin}
+use Rattle.window_rows.specs.Rows.{AreWithin}
 use Rattle.test_receiver.proofs.lane_rows.rows.Given as goal
 
 abbrev pub invariant-loop-j : goal.invariant-loop-j

@@ -1,6 +1,6 @@
 use Rattle.std.proofs.Common.{◌≡◌, ℕ, ◌*◌, ◌≤◌, arith}
 use Rattle.model_sender.proofs.RowLaws.{range-of_size}
-use Rattle.lane_windows.proofs.BankCells.{lanes-least}
+use Rattle.lane_banks.proofs.BankCells.{lanes-least}
 use Rattle.lane_windows.proofs.LaneHalves.{narrow, covers}
 use Rattle.lane_windows.proofs.decoder.LaneDecoder.new.Goals as goal
 

@@ -7,10 +7,10 @@ use Rattle.model_sender.proofs.RowLaws.{range-of_size}
 use Rattle.model_receiver.specs.HalfIteration.{Shape, window_width, order}
 use Rattle.serial_decode.specs.Views.{AreWhole}
 use Rattle.serial_decode.proofs.Orders.{order-below, order-apart}
-use Rattle.lane_windows.specs.Crossings.{IsTable}
-use Rattle.lane_windows.proofs.BankCells.{lanes-least, lanes-few, place-inside, lanes-some}
-use Rattle.lane_windows.proofs.CrossingLaws.{place-one_row}
-use Rattle.lane_windows.proofs.CrossingSteps.{table-by}
+use Rattle.lane_banks.specs.Crossings.{IsTable}
+use Rattle.lane_banks.proofs.BankCells.{lanes-least, lanes-few, place-inside, lanes-some}
+use Rattle.lane_banks.proofs.CrossingLaws.{place-one_row}
+use Rattle.lane_banks.proofs.CrossingSteps.{table-by}
 use Rattle.lane_windows.proofs.LaneHalves.{narrow, covers}
 use Rattle.lane_windows.proofs.lane_views.LaneViews.new.Goals as goal
 

@@ -2,8 +2,8 @@ use Rattle.std.proofs.Common.{◌≡◌, ℕ, ◌*◌, ◌/◌, ◌%◌, ◌<◌
 use Rattle.model_sender.specs.Interleaver.{place}
 use Rattle.model_receiver.specs.HalfIteration.{window_width}
 use Rattle.serial_decode.proofs.Orders.{equal, not-equal}
-use Rattle.lock_step.specs.Lanes.{AreWithin}
-use Rattle.lane_windows.specs.Crossings.{IsTable, AreApart}
+use Rattle.window_rows.specs.Rows.{AreWithin}
+use Rattle.lane_banks.specs.Crossings.{IsTable, AreApart}
 use Rattle.lane_windows.proofs.LaneHalves.{half-ran, rows-of_order, rows-read}
 use Rattle.lane_windows.proofs.lane_views.LaneViews.run.Goals as goal
 

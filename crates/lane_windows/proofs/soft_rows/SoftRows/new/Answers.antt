@@ -4,9 +4,8 @@ use Rattle.std.proofs.lemmas.List.FromFn.{length-map-range_with_len}
 use Rattle.model_receiver.specs.HalfIteration.{Shape, window_width, positions, systematic_at, parity_at}
 use Rattle.serial_decode.specs.Views.{AreWhole, by_position}
 use Rattle.serial_decode.proofs.Parts.{written}
-use Rattle.lock_step.specs.Lanes.{column, AreWithin}
-use Rattle.lane_windows.specs.Lanes.{values_of_window}
-use Rattle.lane_windows.proofs.BankCells.{fits-twice, lanes-few}
+use Rattle.window_rows.specs.Rows.{column, AreWithin, values_of_window}
+use Rattle.lane_banks.proofs.BankCells.{fits-twice, lanes-few}
 use Rattle.lane_windows.proofs.LaneHalves.{values-of_half}
 use Rattle.lane_windows.proofs.soft_rows.SoftRows.new.Goals as goal
 

@@ -1,0 +1,6 @@
+pub mod BankCells
+pub mod BankRows
+pub mod CrossingLaws
+pub mod CrossingSteps
+mod Turned
+mod Words

@@ -1,0 +1,192 @@
+//! Rows brought from the order of the banks into that of the windows, and back.
+ghost use Rattle.std.specs.Prelude.{◌≡◌, ℕ, ◌<◌, ◌≤◌, IfOk, length, slice_index, slice_set};
+ghost use Rattle.lte_bits.specs.Softs.{IsWithin};
+ghost use Rattle.model_receiver.specs.Borders.{at};
+ghost use Rattle.window_rows.specs.Rows.{IsLaneCount, AreWithin, number_in};
+ghost use Rattle.lane_banks.specs.Crossings.{bank_at, AreDistinct, IsTurned, AreTurned, IsTable, AreApart};
+
+use crate::shuffles::shuffle;
+use lte_bits::NoMemory;
+use std::alloc::Global;
+use window_rows::zeros::zero_banks;
+
+/// The row and the banks in which the cells of N windows are at each step, and the window of each bank.
+#[derive(Drop)]
+pub struct Crossings<const N: usize> {
+    pub rows: Vec<u16>,
+    pub banks: Vec<[u8; N]>,
+    windows: Vec<[u8; N]>,
+    ghost long: { length windows.items ≡ length banks.items },
+    ghost turned: { AreTurned N banks.items windows.items },
+}
+
+/// Leaves in lane `t` the number of bank `banks[t]`, one after the other.
+fn bring_each<const N: usize>(from: &[i16; N], banks: &[u8; N], to: &mut [i16; N])
+    requires { (t : ℕ) → t < N → slice_index banks.now t < N }
+    ensures { (t : ℕ) → t < N → at to.new t ≡ at from.now (slice_index banks.now t) }
+{
+    for t in 0..N {
+        to[t] = from[usize::from(banks[t])];
+    }
+}
+
+/// Leaves in lane `t` the number of bank `banks[t]`. Eight are brought at once.
+#[inline]
+fn bring_row<const N: usize>(from: &[i16; N], banks: &[u8; N], to: &mut [i16; N])
+    requires below { (t : ℕ) → t < N → slice_index banks.now t < N }
+    requires within { (b : ℕ) → b < N → IsWithin 32767 (at from.now b) }
+    ensures { (t : ℕ) → t < N → at to.new t ≡ at from.now (slice_index banks.now t) }
+{
+    if N == 8 {
+        shuffle(from, banks, to);
+    } else {
+        bring_each(from, banks, to);
+    }
+}
+
+/// Replaces the number of a bank by that of lane `t`.
+#[inline]
+fn put_number<const N: usize>(from: &[i16; N], t: usize, to: &mut [i16; N], bank: usize)
+    requires lane { t < N }
+    requires bank { bank < N }
+    ensures { to.new ≡ slice_set to.old bank (at from.now t) }
+{
+    to[bank] = from[t];
+}
+
+/// Leaves in bank `banks[t]` the number of lane `t`, one after the other.
+fn put_each<const N: usize>(from: &[i16; N], banks: &[u8; N], to: &mut [i16; N])
+    requires below { (t : ℕ) → t < N → slice_index banks.now t < N }
+    requires apart { (t u : ℕ) → t < N → u < N → slice_index banks.now t ≡ slice_index banks.now u → t ≡ u }
+    ensures put { (t : ℕ) → t < N → at to.new (slice_index banks.now t) ≡ at from.now t }
+    ensures others { (b : ℕ) → ((t : ℕ) → t < N → slice_index banks.now t ≡ b → ⊥)
+        → at to.new b ≡ at to.old b }
+    ensures kept { (n : ℕ) → ((b : ℕ) → b < N → IsWithin n (at from.now b))
+        → ((b : ℕ) → b < N → IsWithin n (at to.old b)) → (b : ℕ) → b < N → IsWithin n (at to.new b) }
+{
+    for t in 0..N {
+        put_number(from, t, to, usize::from(banks[t]));
+    }
+}
+
+/// Leaves in bank `banks[t]` the number of lane `t`. Eight are put back at once.
+#[inline]
+fn put_row_back<const N: usize>(
+    from: &[i16; N],
+    banks: &[u8; N],
+    windows: &[u8; N],
+    to: &mut [i16; N],
+)
+    requires distinct { AreDistinct N banks.now }
+    requires turned { IsTurned N banks.now windows.now }
+    requires within { (t : ℕ) → t < N → IsWithin 32767 (at from.now t) }
+    ensures put { (t : ℕ) → t < N → at to.new (slice_index banks.now t) ≡ at from.now t }
+    ensures others { (b : ℕ) → ((t : ℕ) → t < N → slice_index banks.now t ≡ b → ⊥)
+        → at to.new b ≡ at to.old b }
+    ensures kept { (n : ℕ) → ((b : ℕ) → b < N → IsWithin n (at from.now b))
+        → ((b : ℕ) → b < N → IsWithin n (at to.old b)) → (b : ℕ) → b < N → IsWithin n (at to.new b) }
+{
+    if N == 8 {
+        shuffle(from, windows, to);
+    } else {
+        put_each(from, banks, to);
+    }
+}
+
+/// Notes window `t` at its bank, if that is one of N.
+fn put_window<const N: usize>(windows: &mut [u8; N], bank: u8, t: u8)
+    requires { t < N }
+    ensures long { length windows.new ≡ length windows.old }
+    ensures put { bank < N → windows.new ≡ slice_set windows.old bank t }
+    ensures below { ((b : ℕ) → b < N → slice_index windows.old b < N)
+        → (b : ℕ) → b < N → slice_index windows.new b < N }
+{
+    let bank = usize::from(bank);
+    if bank < N {
+        windows[bank] = t;
+    }
+}
+
+/// Leaves the window of each bank. They are written where they stay: read back whole from a local, they would
+/// wait for their single bytes.
+fn turn<const N: usize>(banks: &[u8; N], windows: &mut [u8; N])
+    requires { IsLaneCount N }
+    ensures { IsTurned N banks.now windows.new }
+{
+    let first = [0; N];
+    *windows = first;
+    for t in 0..N {
+        put_window(windows, banks[t], t as u8);
+    }
+}
+
+impl<const N: usize> Crossings<N> {
+    /// Room for `width` steps.
+    pub fn new(alloc: Global, width: usize) -> Result<Crossings<N>, NoMemory>
+        requires lanes { IsLaneCount N }
+        ensures rows { IfOk result (λ c. length c.rows.items ≡ width) }
+        ensures banks { IfOk result (λ c. length c.banks.items ≡ width) }
+    {
+        let rows = vec![in alloc; 0u16; width]?;
+        let banks = zero_banks(alloc, width)?;
+        let windows = zero_banks(alloc, width)?;
+        Ok(Crossings {
+            rows,
+            banks,
+            windows,
+        })
+    }
+
+    /// Replaces the row and the banks of step `j`.
+    pub fn set(&mut self, j: usize, row: u16, banks: [u8; N])
+        requires lanes { IsLaneCount N }
+        requires rows { j < length self.old.rows.items }
+        requires banks { j < length self.old.banks.items }
+        ensures rows { self.new.rows.items ≡ slice_set self.old.rows.items j row }
+        ensures banks { self.new.banks.items ≡ slice_set self.old.banks.items j banks.entry }
+    {
+        self.rows[j] = row;
+        turn(&banks, &mut self.windows[j]);
+        self.banks[j] = banks;
+    }
+
+    /// Brings rows of banks into the order of windows.
+    pub fn bring(&self, from: &[[i16; N]], to: &mut [[i16; N]])
+        requires lanes { IsLaneCount N }
+        requires rows { length to.old ≤ length self.now.rows.items }
+        requires banks { length to.old ≤ length self.now.banks.items }
+        requires from { length from.now ≡ length to.old }
+        requires within { AreWithin N 32767 from.now }
+        requires table { (place : ℕ → ℕ)
+            × IsTable N (length to.old) place self.now.rows.items self.now.banks.items }
+        ensures brought { (j t : ℕ) → j < length to.old → t < N → number_in to.new j t
+            ≡ number_in from.now (slice_index self.now.rows.items j) (bank_at self.now.banks.items j t) }
+        ensures kept { (n : ℕ) → AreWithin N n from.now → AreWithin N n to.new }
+    {
+        for j in 0..to.len() {
+            let row = usize::from(self.rows[j]);
+            bring_row(&from[row], &self.banks[j], &mut to[j]);
+        }
+    }
+
+    /// Puts rows in the order of windows back into banks.
+    pub fn put_back(&self, from: &[[i16; N]], to: &mut [[i16; N]])
+        requires lanes { IsLaneCount N }
+        requires rows { length from.now ≤ length self.now.rows.items }
+        requires banks { length from.now ≤ length self.now.banks.items }
+        requires to { length to.old ≡ length from.now }
+        requires within { AreWithin N 32767 from.now }
+        requires table { (place : ℕ → ℕ)
+            × IsTable N (length from.now) place self.now.rows.items self.now.banks.items
+            × AreApart N (length from.now) place }
+        ensures put { (j t : ℕ) → j < length from.now → t < N
+            → number_in to.new (slice_index self.now.rows.items j) (bank_at self.now.banks.items j t)
+            ≡ number_in from.now j t }
+        ensures kept { (n : ℕ) → AreWithin N n from.now → AreWithin N n to.old → AreWithin N n to.new }
+    {
+        for j in 0..from.len() {
+            let row = usize::from(self.rows[j]);
+            put_row_back(&from[j], &self.banks[j], &self.windows[j], &mut to[row]);
+        }
+    }
+}

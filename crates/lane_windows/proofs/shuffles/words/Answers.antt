@@ -1,5 +1,0 @@
-use Rattle.lane_windows.proofs.Words.{words-of}
-use Rattle.lane_windows.proofs.shuffles.words.Goals as goal
-
-pub returns : goal.returns
-returns c = words-of c.args.row.now c.requires.long c.requires.within

@@ -1,5 +1,0 @@
-use Rattle.std.proofs.Common.{◌≡◌, pos, replicate}
-use Rattle.lane_windows.proofs.zeros.zero_rows.Given as goal
-
-abbrev pub invariant-loop-j : goal.invariant-loop-j
-invariant-loop-j g l = l.rows.items ≡ replicate l._j (replicate g.row.N (pos 0))
