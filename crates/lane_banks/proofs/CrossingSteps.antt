@@ -95,13 +95,12 @@ module _ (n w : ℕ) (place : ℕ → ℕ) (rows : List ℕ) (banks : List (List
       ne (sym both.1)
 
   -- one more step is put back
-  pub put-more : AreApart n w place → (from to : List (List ℤ)) (j : ℕ) (old new : List ℤ) → j < w → length to ≡ w
-      → old ≡ get_or to (slice_index rows j) old
+  pub put-more : AreApart n w place → (from to : List (List ℤ)) (j : ℕ) (new : List ℤ) → j < w → length to ≡ w
       → ((t : ℕ) → t < n → at new (bank_at banks j t) ≡ number_in from j t)
-      → ((b : ℕ) → ((t : ℕ) → t < n → bank_at banks j t ≡ b → ⊥) → at new b ≡ at old b)
+      → ((b : ℕ) → b < n → ((t : ℕ) → t < n → bank_at banks j t ≡ b → ⊥) → ⊥)
       → ((i t : ℕ) → i < j → t < n → number_in to (slice_index rows i) (bank_at banks i t) ≡ number_in from i t)
       → (i t : ℕ) → i < j + 1 → t < n → number_in (set to (slice_index rows j) new) (slice_index rows i) (bank_at banks i t) ≡ number_in from i t
-  put-more apart from to j old new lj long read put others done i t li lt =
+  put-more apart from to j new lj long put reached done i t li lt =
       let inside : slice_index rows j < length to = omega (arith, long, table.row j lj) in
       elim (cases_eq i j) [
         | inl e ↦ subst (λ (k : ℕ). number_in (set to (slice_index rows j) new) (slice_index rows k) (bank_at banks k t) ≡ number_in from k t) (sym e)
@@ -109,12 +108,8 @@ module _ (n w : ℕ) (place : ℕ → ℕ) (rows : List ℕ) (banks : List (List
         | inr ne ↦ (
             let before : i < j = omega (arith, li, ne) in
             elim (cases_eq (slice_index rows i) (slice_index rows j)) [
-              | inl er ↦
-                  ap (λ (r : ℕ). number_in (set to (slice_index rows j) new) r (bank_at banks i t)) er
-                  ∙ (number-in_same to (slice_index rows j) (bank_at banks i t) new inside
-                  ∙ (others (bank_at banks i t) (λ u lu e. banks_elsewhere apart i j t u (omega (arith, before, lj)) lj lt lu er ne e)
-                  ∙ (read-number to (slice_index rows j) (bank_at banks i t) old inside read
-                  ∙ (ap (λ (r : ℕ). number_in to r (bank_at banks i t)) (sym er) ∙ done i t before lt))))
+              | inl er ↦ absurd (reached (bank_at banks i t) (table.bank i t (omega (arith, before, lj)) lt)
+                  (λ u lu e. banks_elsewhere apart i j t u (omega (arith, before, lj)) lj lt lu er ne e))
               | inr nr ↦ number-in_other to (slice_index rows j) (slice_index rows i) (bank_at banks i t) new nr ∙ done i t before lt
             ])
       ]

@@ -1,11 +1,13 @@
 -- Rows of eight numbers of 16 bits, as words and as bytes.
-use Rattle.std.proofs.Common.{ℤ, pos, negsuc, map, subst, ◌≡◌, ℕ, ◌+◌, ◌*◌, ◌/◌, ◌%◌, ◌<◌, ◌≤◌, List, [], ◌∷◌, length, get_or, sym, ap, ◌∙◌, refl, arith, zero, suc}
+use Rattle.std.proofs.Common.{Bool, false, cond, replicate, ℤ, pos, negsuc, map, subst, ◌≡◌, ℕ, ◌+◌, ◌*◌, ◌/◌, ◌%◌, ◌<◌, ◌≤◌, List, [], ◌∷◌, length, get_or, sym, ap, ◌∙◌, refl, arith, zero, suc}
 use Rattle.std.specs.Int.{w16, cast_unsigned, cast_signed}
-use Rattle.std.specs.Simd.Lanes.{Each1, digits_l, number_l, chunk, put_chunk}
+use Rattle.std.specs.Simd.Lanes.{Each1, digits_l, number_l, chunk, put_chunk, zip2, sel_l, top}
 use Rattle.std.proofs.lemmas.Int.{ints}
-use Rattle.std.proofs.lemmas.List.{length-map, get_or-map}
-use Rattle.std.proofs.lemmas.Nat.{mod_below}
-use Rattle.std.proofs.lemmas.Simd.{get_or_wider, get_or_narrower, length-chunk, Each1-get_or, Each1-from_get_or, swz_l, get_or-swz_l_below, get_or-put_chunk_at, get_or-chunk}
+use Rattle.std.specs.Prelude.{nat_lt, if◌then◌else◌}
+use Rattle.std.proofs.lemmas.List.{length-map, get_or-map, length-replicate, get_or-replicate}
+use Rattle.std.specs.Int.Bits.{bit_and}
+use Rattle.std.proofs.lemmas.Nat.{mod_below, and_mask}
+use Rattle.std.proofs.lemmas.Simd.{get_or_wider, get_or_narrower, length-chunk, Each1-get_or, Each1-from_get_or, swz_l, get_or-swz_l_below, get_or-put_chunk_at, get_or-chunk, length-zip2, get_or-zip2, length-sel_l, get_or-sel_l, tops_compared, length-swz_l, SwzOk, SwzOk-from_below}
 use Rattle.lte_bits.specs.Softs.{IsWithin}
 
 digits-below : (n x : ℕ) → Each1 (λ d. d < 256) (digits_l 256 n x)
@@ -53,7 +55,7 @@ pub word-below : (z : ℤ) → IsWithin 32767 z → cast_unsigned w16 z < 65536
 word-below (pos k) h = omega (arith, ints, h)
 word-below (negsuc k) h = omega arith
 
-pub words-of : (row : List ℤ) → length row ≡ 8 → ((t : ℕ) → t < 8 → IsWithin 32767 (get_or row t (pos 0))) → (t : ℕ) → t < 8
+pub words-of : (row : List ℤ) → 8 ≤ length row → ((t : ℕ) → t < 8 → IsWithin 32767 (get_or row t (pos 0))) → (t : ℕ) → t < 8
     → get_or (digits_l 65536 8 (number_l 256 (digits_l 256 16 (number_l 65536 (map (cast_unsigned w16) (chunk 0 8 row)))))) t 0 ≡ cast_unsigned w16 (get_or row t (pos 0))
 words-of row long within t lt =
     let front : List ℤ = chunk 0 8 row in
@@ -66,21 +68,61 @@ words-of row long within t lt =
     subst (λ (x : ℕ). x < 65536) (sym (each k l8)) (word-below (get_or row k (pos 0)) (within k l8)))) lt
     ∙ each t lt
 
--- a word of another lane
-pub moved-at : (words : List ℕ) (f : ℕ → ℕ) (banks : List ℕ) → length banks ≡ 8 → ((k : ℕ) → k < 8 → f k ≡ k) → ((t : ℕ) → t < 8 → get_or banks t 0 < 8) → (t : ℕ) → t < 8
-    → get_or (swz_l w16 8 words 0 (map f (chunk 0 8 banks))) t 0 ≡ get_or words (get_or banks t 0) 0
-moved-at words f banks long same below t lt =
-    let js : List ℕ = map f (chunk 0 8 banks) in
-    let lc : length (chunk 0 8 banks) ≡ 8 = length-chunk 0 8 banks (omega (arith, long)) in
-    let lj : length js ≡ 8 = length-map (chunk 0 8 banks) f ∙ lc in
-    let bank : get_or js t 0 ≡ get_or banks t 0 =
-    get_or-map f (chunk 0 8 banks) t 0 0 (omega (arith, lc, lt)) ∙ (ap f (front-at banks t 0 lt) ∙ same (get_or banks t 0) (below t lt)) in
-    let first : t / 8 ≡ 0 = omega (arith, lt) in
-    let place : 8 * ((0 + t) / 8) + get_or js t 0 ≡ get_or banks t 0 = omega (arith, first, bank) in
-    get_or-swz_l_below w16 8 words 0 js t (omega (arith, lj, lt)) (omega (arith, bank, below t lt)) ∙ ap (λ (k : ℕ). get_or words k 0) place
+-- lanes modulo 8
+module _ (lanes : List ℕ) (long : length lanes ≡ 8) where
+  abbrev pub residues : List ℕ
+  residues = zip2 bit_and lanes (replicate 8 7)
+
+  pub length-residues : length residues ≡ 8
+  length-residues = length-zip2 bit_and lanes (replicate 8 7) (long ∙ sym (length-replicate {A = ℕ} 8 7)) ∙ long
+
+  pub residue-at : (t : ℕ) → t < 8 → get_or residues t 0 ≡ get_or lanes t 0 % 8
+  residue-at t lt =
+      get_or-zip2 bit_and lanes (replicate 8 7) t 0 0 0 (omega (arith, long, lt)) (omega (arith, length-replicate {A = ℕ} 8 7, lt))
+      ∙ (ap (bit_and (get_or lanes t 0)) (get_or-replicate 8 t 7 0 lt) ∙ and_mask (get_or lanes t 0) 3)
+
+  pub residues-ok : SwzOk w16 8 8 0 residues
+  residues-ok = SwzOk-from_below w16 8 1 8 0 residues refl (omega (arith, length-residues))
+      (Each1-from_get_or (λ x. x < 8) residues 0 (λ t lt. let h : t < 8 = omega (arith, lt, length-residues) in omega (arith, residue-at t h)))
+
+  -- a word of another lane
+  pub moved-at : (words : List ℕ) (t : ℕ) → t < 8 → get_or (swz_l w16 8 words 0 residues) t 0 ≡ get_or words (get_or lanes t 0 % 8) 0
+  moved-at words t lt =
+      let first : t / 8 ≡ 0 = omega (arith, lt) in
+      let same : get_or residues t 0 ≡ get_or lanes t 0 % 8 = residue-at t lt in
+      let below : get_or residues t 0 < 8 = omega (arith, same) in
+      let place : 8 * ((0 + t) / 8) + get_or residues t 0 ≡ get_or lanes t 0 % 8 = omega (arith, first, same) in
+      get_or-swz_l_below w16 8 words 0 residues t (omega (arith, length-residues, lt)) below ∙ ap (λ (k : ℕ). get_or words k 0) place
+
+  pub length-moved : (words : List ℕ) → length (swz_l w16 8 words 0 residues) ≡ 8
+  length-moved words = length-swz_l w16 8 words 0 residues ∙ length-residues
+
+-- a word of one of two vectors, as a lane is below a number or not
+module _ (lanes before later : List ℕ) (first : ℕ) (ll : length lanes ≡ 8) (lb : length before ≡ 8) (la : length later ≡ 8) where
+  abbrev pub bounds : List ℕ
+  bounds = replicate 8 first
+
+  abbrev pub below : List Bool
+  below = zip2 nat_lt lanes bounds
+
+  length-below : length below ≡ 8
+  length-below = length-zip2 nat_lt lanes bounds (ll ∙ sym (length-replicate 8 first)) ∙ ll
+
+  pub length-chosen : length (sel_l (map (top 15) (zip2 (λ a b. cond (nat_lt a b) 65535 0) lanes bounds)) before later) ≡ 8
+  length-chosen = ap (λ (ms : List Bool). length (sel_l ms before later)) (tops_compared w16 nat_lt lanes bounds)
+      ∙ (length-sel_l below before later (length-below ∙ sym lb) (length-below ∙ sym la) ∙ length-below)
+
+  pub chosen-at : (t : ℕ) → t < 8 → get_or (sel_l (map (top 15) (zip2 (λ a b. cond (nat_lt a b) 65535 0) lanes bounds)) before later) t 0
+      ≡ if nat_lt (get_or lanes t 0) first then get_or before t 0 else get_or later t 0
+  chosen-at t lt =
+      ap (λ (ms : List Bool). get_or (sel_l ms before later) t 0) (tops_compared w16 nat_lt lanes bounds)
+      ∙ (get_or-sel_l below before later t 0 (omega (arith, length-below, lt)) (omega (arith, lb, lt)) (omega (arith, la, lt))
+      ∙ ap (λ (b : Bool). if b then get_or before t 0 else get_or later t 0)
+      (get_or-zip2 nat_lt lanes bounds t 0 0 false (omega (arith, ll, lt)) (omega (arith, length-replicate 8 first, lt))
+      ∙ ap (nat_lt (get_or lanes t 0)) (get_or-replicate 8 t first 0 lt)))
 
 -- words put into a row
-pub put-words : (words : List ℕ) (row : List ℤ) → length words ≡ 8 → length row ≡ 8 → ((t : ℕ) → t < 8 → get_or words t 0 < 65536) → (t : ℕ) → t < 8
+pub put-words : (words : List ℕ) (row : List ℤ) → length words ≡ 8 → 8 ≤ length row → ((t : ℕ) → t < 8 → get_or words t 0 < 65536) → (t : ℕ) → t < 8
     → get_or (put_chunk 0 row (map (cast_signed w16) (digits_l 65536 8 (number_l 256 (digits_l 256 16 (number_l 65536 words)))))) t (pos 0) ≡ cast_signed w16 (get_or words t 0)
 put-words words row lw lr below t lt =
     let ds : List ℕ = digits_l 65536 8 (number_l 256 (digits_l 256 16 (number_l 65536 words))) in

@@ -20,79 +20,6 @@ pub struct Crossings<const N: usize> {
     ghost turned: { AreTurned N banks.items windows.items },
 }
 
-/// Leaves in lane `t` the number of bank `banks[t]`, one after the other.
-fn bring_each<const N: usize>(from: &[i16; N], banks: &[u8; N], to: &mut [i16; N])
-    requires { (t : ℕ) → t < N → slice_index banks.now t < N }
-    ensures { (t : ℕ) → t < N → at to.new t ≡ at from.now (slice_index banks.now t) }
-{
-    for t in 0..N {
-        to[t] = from[usize::from(banks[t])];
-    }
-}
-
-/// Leaves in lane `t` the number of bank `banks[t]`. Eight are brought at once.
-#[inline]
-fn bring_row<const N: usize>(from: &[i16; N], banks: &[u8; N], to: &mut [i16; N])
-    requires below { (t : ℕ) → t < N → slice_index banks.now t < N }
-    requires within { (b : ℕ) → b < N → IsWithin 32767 (at from.now b) }
-    ensures { (t : ℕ) → t < N → at to.new t ≡ at from.now (slice_index banks.now t) }
-{
-    if N == 8 {
-        shuffle(from, banks, to);
-    } else {
-        bring_each(from, banks, to);
-    }
-}
-
-/// Replaces the number of a bank by that of lane `t`.
-#[inline]
-fn put_number<const N: usize>(from: &[i16; N], t: usize, to: &mut [i16; N], bank: usize)
-    requires lane { t < N }
-    requires bank { bank < N }
-    ensures { to.new ≡ slice_set to.old bank (at from.now t) }
-{
-    to[bank] = from[t];
-}
-
-/// Leaves in bank `banks[t]` the number of lane `t`, one after the other.
-fn put_each<const N: usize>(from: &[i16; N], banks: &[u8; N], to: &mut [i16; N])
-    requires below { (t : ℕ) → t < N → slice_index banks.now t < N }
-    requires apart { (t u : ℕ) → t < N → u < N → slice_index banks.now t ≡ slice_index banks.now u → t ≡ u }
-    ensures put { (t : ℕ) → t < N → at to.new (slice_index banks.now t) ≡ at from.now t }
-    ensures others { (b : ℕ) → ((t : ℕ) → t < N → slice_index banks.now t ≡ b → ⊥)
-        → at to.new b ≡ at to.old b }
-    ensures kept { (n : ℕ) → ((b : ℕ) → b < N → IsWithin n (at from.now b))
-        → ((b : ℕ) → b < N → IsWithin n (at to.old b)) → (b : ℕ) → b < N → IsWithin n (at to.new b) }
-{
-    for t in 0..N {
-        put_number(from, t, to, usize::from(banks[t]));
-    }
-}
-
-/// Leaves in bank `banks[t]` the number of lane `t`. Eight are put back at once.
-#[inline]
-fn put_row_back<const N: usize>(
-    from: &[i16; N],
-    banks: &[u8; N],
-    windows: &[u8; N],
-    to: &mut [i16; N],
-)
-    requires distinct { AreDistinct N banks.now }
-    requires turned { IsTurned N banks.now windows.now }
-    requires within { (t : ℕ) → t < N → IsWithin 32767 (at from.now t) }
-    ensures put { (t : ℕ) → t < N → at to.new (slice_index banks.now t) ≡ at from.now t }
-    ensures others { (b : ℕ) → ((t : ℕ) → t < N → slice_index banks.now t ≡ b → ⊥)
-        → at to.new b ≡ at to.old b }
-    ensures kept { (n : ℕ) → ((b : ℕ) → b < N → IsWithin n (at from.now b))
-        → ((b : ℕ) → b < N → IsWithin n (at to.old b)) → (b : ℕ) → b < N → IsWithin n (at to.new b) }
-{
-    if N == 8 {
-        shuffle(from, windows, to);
-    } else {
-        put_each(from, banks, to);
-    }
-}
-
 /// Notes window `t` at its bank, if that is one of N.
 fn put_window<const N: usize>(windows: &mut [u8; N], bank: u8, t: u8)
     requires { t < N }
@@ -165,7 +92,7 @@ impl<const N: usize> Crossings<N> {
     {
         for j in 0..to.len() {
             let row = usize::from(self.rows[j]);
-            bring_row(&from[row], &self.banks[j], &mut to[j]);
+            shuffle(&from[row], &self.banks[j], &mut to[j]);
         }
     }
 
@@ -186,7 +113,7 @@ impl<const N: usize> Crossings<N> {
     {
         for j in 0..from.len() {
             let row = usize::from(self.rows[j]);
-            put_row_back(&from[j], &self.banks[j], &self.windows[j], &mut to[row]);
+            shuffle(&from[j], &self.windows[j], &mut to[row]);
         }
     }
 }

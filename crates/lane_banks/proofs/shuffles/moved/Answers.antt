@@ -1,6 +1,11 @@
-use Rattle.std.proofs.Common.{refl}
-use Rattle.lane_banks.proofs.Words.{moved-at}
+use Rattle.lane_banks.proofs.Words.{residues-ok, length-moved, moved-at}
 use Rattle.lane_banks.proofs.shuffles.moved.Goals as goal
 
-pub returns : goal.returns
-returns c = moved-at c.args.words _ c.args.lanes.now c.requires.long (λ k lk. refl) c.requires.below
+pub swizzle : goal.swizzle
+swizzle c = residues-ok c.args.lanes c.requires.lanes
+
+pub returns-clause-long : goal.returns-clause-long
+returns-clause-long c = length-moved c.args.lanes c.requires.lanes c.args.words
+
+pub returns-clause-moved : goal.returns-clause-moved
+returns-clause-moved c = moved-at c.args.lanes c.requires.lanes c.args.words
