@@ -32,7 +32,7 @@ impl<const N: usize> Model for Banks<N> {
 }
 
 impl<const N: usize> Banks<N> {
-    /// Banks of `width` rows whose cells are 0.
+    /// Allocates banks of `width` rows whose cells are 0.
     pub fn zeros(alloc: Global, width: usize) -> Result<Banks<N>, NoMemory>
         requires lanes { IsLaneCount N }
         requires least { 8 ≤ width }
@@ -44,7 +44,7 @@ impl<const N: usize> Banks<N> {
         Ok(Banks { values, sums })
     }
 
-    /// The number W of rows.
+    /// Returns the number W of rows.
     pub fn width(&self) -> usize
         ensures value { result ≡ length self.now / N }
         ensures whole { N * result ≡ length self.now }
@@ -55,7 +55,7 @@ impl<const N: usize> Banks<N> {
         self.values.len()
     }
 
-    /// Leaves the decided bits by place, with the first `fill` of them 0.
+    /// Writes the decided bits by place, with the first `fill` of them 0.
     pub fn decide(&self, fill: usize, bits: &mut [Bit])
         requires fill { fill ≤ length self.now }
         requires long { length bits.old ≡ length self.now }

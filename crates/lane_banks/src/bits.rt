@@ -8,7 +8,7 @@ ghost use Rattle.lane_banks.specs.Banks.{bit_of};
 
 use lte_bits::Bit;
 
-/// The bit that the sum of a lane decides.
+/// Returns the bit that the sum of a lane decides.
 fn lane_bit<const N: usize>(sums: &[i16; N], b: usize) -> Bit
     requires { b < N }
     ensures { result ≡ bit_of (at sums.now b) }
@@ -16,7 +16,7 @@ fn lane_bit<const N: usize>(sums: &[i16; N], b: usize) -> Bit
     if sums[b] < 0 { Bit::One } else { Bit::Zero }
 }
 
-/// Leaves the decided bits of bank `b`, whose places follow those of the banks before it.
+/// Writes the decided bits of bank `b`, whose places follow those of the banks before it.
 pub fn decide_bank<const N: usize>(sums: &[[i16; N]], b: usize, bits: &mut [Bit])
     requires lanes { IsLaneCount N }
     requires bank { b < N }

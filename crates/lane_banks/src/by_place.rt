@@ -14,7 +14,7 @@ use std::alloc::Global;
 use window_decode::Ext;
 
 impl<const N: usize> Banks<N> {
-    /// The cells in banks. Their number is N*W, with W from 8 to 768.
+    /// Allocates banks for these cells. Their number is N*W, with W from 8 to 768.
     pub fn new(alloc: Global, cells: List<Ext>) -> Result<Banks<N>, NoMemory>
         requires lanes { IsLaneCount N }
         requires whole { N ∣ length cells }
@@ -30,7 +30,7 @@ impl<const N: usize> Banks<N> {
         Ok(banks)
     }
 
-    /// The cells of row `r`, which is below W, one of each bank.
+    /// Returns the cells of row `r`, which is below W, one of each bank.
     pub fn row(&self, r: usize) -> [Ext; N]
         requires { r < length self.now / N }
         ensures { result
@@ -57,7 +57,7 @@ impl<const N: usize> Banks<N> {
         split(&row, &mut self.values[r], &mut self.sums[r]);
     }
 
-    /// The cell of place `n`, which is below N*W.
+    /// Returns the cell of place `n`, which is below N*W.
     pub fn at(&self, n: usize) -> Ext
         requires { n < length self.now }
         ensures { result ≡ cell_at self.now n }
@@ -69,7 +69,7 @@ impl<const N: usize> Banks<N> {
     }
 }
 
-/// Row `r` of cells by place, of which each bank has `width`.
+/// Returns row `r` of cells by place, of which each bank has `width`.
 fn row_of<const N: usize>(cells: &[Ext], width: usize, r: usize) -> [Ext; N]
     requires long { N * width ≤ length cells.now }
     requires row { r < width }

@@ -7,7 +7,7 @@ ghost use Rattle.lane_banks.specs.Banks.{cell_of};
 
 use window_decode::Ext;
 
-/// The cell of a lane, decided by its sum.
+/// Returns the cell of a lane, decided by its sum.
 pub fn lane_cell<const N: usize>(values: &[i16; N], sums: &[i16; N], b: usize) -> Ext
     requires lane { b < N }
     requires within { IsWithin 511 (at values.now b) }
@@ -19,14 +19,14 @@ pub fn lane_cell<const N: usize>(values: &[i16; N], sums: &[i16; N], b: usize) -
     }
 }
 
-/// A sum that decides a bit.
+/// Returns a sum that decides a bit.
 fn sum_of(one: bool) -> i16
     ensures { int_lt result (pos 0) ≡ one }
 {
     if one { -1 } else { 0 }
 }
 
-/// Leaves the values and the sums of a row of cells.
+/// Writes the values and the sums of a row of cells.
 pub fn split<const N: usize>(row: &[Ext; N], values: &mut [i16; N], sums: &mut [i16; N])
     ensures value { (b : ℕ) → b < N → at values.new b ≡ (cell_at row.now b).value }
     ensures sum { (b : ℕ) → b < N → int_lt (at sums.new b) (pos 0) ≡ (cell_at row.now b).one }

@@ -34,8 +34,8 @@ fn put_window<const N: usize>(windows: &mut [u8; N], bank: u8, t: u8)
     }
 }
 
-/// Leaves the window of each bank. They are written where they stay: read back whole from a local, they would
-/// wait for their single bytes.
+/// Writes the window of each bank, where they stay: read back whole from a local, they would stall in
+/// store-to-load forwarding.
 fn turn<const N: usize>(banks: &[u8; N], windows: &mut [u8; N])
     requires { IsLaneCount N }
     ensures { IsTurned N banks.now windows.new }
@@ -48,7 +48,7 @@ fn turn<const N: usize>(banks: &[u8; N], windows: &mut [u8; N])
 }
 
 impl<const N: usize> Crossings<N> {
-    /// Room for `width` steps.
+    /// Allocates crossings of `width` steps.
     pub fn new(alloc: Global, width: usize) -> Result<Crossings<N>, NoMemory>
         requires lanes { IsLaneCount N }
         ensures rows { IfOk result (λ c. length c.rows.items ≡ width) }

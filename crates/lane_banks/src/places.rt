@@ -8,7 +8,7 @@ use crate::crossings::Crossings;
 use lte_bits::NoMemory;
 use std::alloc::Global;
 
-/// Leaves `b` at the places of bank `b`, where each bank has `width`.
+/// Writes `b` to the places of bank `b`, where each bank has `width`.
 fn fill_bank(banks: &mut [u8], width: usize, b: usize)
     requires few { b < 64 }
     requires inside { (b + 1) * width ≤ length banks.old }
@@ -21,7 +21,7 @@ fn fill_bank(banks: &mut [u8], width: usize, b: usize)
     }
 }
 
-/// Leaves the bank of each place, where each of N banks has `width`.
+/// Writes the bank of each place, where each of N banks has `width`.
 fn fill_banks<const N: usize>(banks: &mut [u8], width: usize)
     requires lanes { IsLaneCount N }
     requires some { 1 ≤ width }
@@ -33,7 +33,7 @@ fn fill_banks<const N: usize>(banks: &mut [u8], width: usize)
     }
 }
 
-/// The bank of each place, where each of N banks has `width`.
+/// Returns the bank of each place, where each of N banks has `width`.
 fn banks_of_places<const N: usize>(alloc: Global, width: usize) -> Result<Vec<u8>, NoMemory>
     requires lanes { IsLaneCount N }
     requires some { 1 ≤ width }
@@ -45,7 +45,7 @@ fn banks_of_places<const N: usize>(alloc: Global, width: usize) -> Result<Vec<u8
     Ok(banks)
 }
 
-/// The bank of the place of position `i`, by the banks of all places.
+/// Returns the bank of the place of position `i`, by the banks of all places.
 fn bank_at(places: &[u16], banks: &[u8], width: usize, i: usize) -> u8
     requires position { i < length places.now }
     requires place { slice_index places.now i < length banks.now }
@@ -55,7 +55,7 @@ fn bank_at(places: &[u16], banks: &[u8], width: usize, i: usize) -> u8
     banks[usize::from(places[i])]
 }
 
-/// The row of the place of position `i`: what its bank leaves.
+/// Returns the row of the place of position `i`: what its bank leaves.
 fn row_at(places: &[u16], banks: &[u8], width: usize, i: usize) -> u16
     requires position { i < length places.now }
     requires place { slice_index places.now i < length banks.now }
@@ -67,7 +67,7 @@ fn row_at(places: &[u16], banks: &[u8], width: usize, i: usize) -> u16
     (usize::from(places[i]) - bank * width) as u16
 }
 
-/// The banks of N windows at step `j`.
+/// Returns the banks of N windows at step `j`.
 fn banks_at<const N: usize>(places: &[u16], banks: &[u8], width: usize, j: usize) -> [u8; N]
     requires step { j < width }
     requires places { length places.now ≡ N * width }
@@ -82,8 +82,8 @@ fn banks_at<const N: usize>(places: &[u16], banks: &[u8], width: usize, j: usize
     crossing
 }
 
-/// The crossings of N windows of `width` positions at these places. It needs no division: a list has the bank
-/// of each place, and its row is what its bank leaves.
+/// Returns the crossings of N windows of `width` positions at these places. It needs no division: a list has
+/// the bank of each place, and its row is what its bank leaves.
 pub fn crossings_of<const N: usize>(
     alloc: Global,
     places: &[u16],

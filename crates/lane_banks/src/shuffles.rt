@@ -8,7 +8,7 @@ ghost use Rattle.window_rows.specs.Rows.{IsLaneCount};
 
 use std::simd::prelude::*;
 
-/// The first eight numbers of a row by their bits.
+/// Returns the first eight numbers of a row by their bits.
 #[inline]
 fn words(row: &[i16]) -> u16x8
     requires long { 8 ≤ length row.now }
@@ -20,7 +20,7 @@ fn words(row: &[i16]) -> u16x8
     u16x8::from_le_bytes(numbers.to_le_bytes())
 }
 
-/// The first eight lanes of a list as words.
+/// Returns the first eight lanes of a list as words.
 #[inline]
 fn places(lanes: &[u8]) -> u16x8
     requires { 8 ≤ length lanes.now }
@@ -30,7 +30,7 @@ fn places(lanes: &[u8]) -> u16x8
     u8x8::from_slice(lanes).cast()
 }
 
-/// In lane `t` the word of lane `lanes[t]` modulo 8.
+/// Returns in lane `t` the word of lane `lanes[t]` modulo 8.
 #[inline]
 fn moved(words: u16x8, lanes: u16x8) -> u16x8
     requires words { length words ≡ 8 }
@@ -42,7 +42,7 @@ fn moved(words: u16x8, lanes: u16x8) -> u16x8
     words.swizzle_dyn(lanes & u16x8::splat(7))
 }
 
-/// The words of `later` where the lane is `first` or above it, and else those of `before`.
+/// Returns the words of `later` where the lane is `first` or above it, and else those of `before`.
 #[inline]
 fn chosen(lanes: u16x8, first: u16, before: u16x8, later: u16x8) -> u16x8
     requires lanes { length lanes ≡ 8 }
@@ -55,7 +55,7 @@ fn chosen(lanes: u16x8, first: u16, before: u16x8, later: u16x8) -> u16x8
     lanes.simd_lt(u16x8::splat(first)).select(before, later)
 }
 
-/// In lane `t` the bits of the number of lane `lanes[t]`, where there are N.
+/// Returns in lane `t` the bits of the number of lane `lanes[t]`, where there are N.
 #[inline]
 fn gathered<const N: usize>(from: &[i16], lanes: u16x8) -> u16x8
     requires count { IsLaneCount N }
@@ -75,7 +75,7 @@ fn gathered<const N: usize>(from: &[i16], lanes: u16x8) -> u16x8
     gathered
 }
 
-/// Leaves the numbers of these bits in the first eight places.
+/// Writes the numbers of these bits to the first eight places.
 #[inline]
 fn put(words: u16x8, row: &mut [i16])
     requires row { 8 ≤ length row.old }
@@ -85,7 +85,7 @@ fn put(words: u16x8, row: &mut [i16])
     numbers.copy_to_slice(row);
 }
 
-/// Leaves in lane `t` the number of lane `lanes[t]`.
+/// Writes to lane `t` the number of lane `lanes[t]`.
 #[inline]
 pub fn shuffle<const N: usize>(from: &[i16; N], lanes: &[u8; N], to: &mut [i16; N])
     requires count { IsLaneCount N }

@@ -8,8 +8,8 @@ ghost use Rattle.lane_banks.specs.Crossings.{row_of_step, crossbar_of, place_of,
 use crate::crossings::Crossings;
 use cell_shares::Order;
 
-/// The row in which the cells of N windows of `width` places are at step `j`, and the bank of each. An
-/// interleaved order has N*width places; `width` is 8 to 768, and `j` is below it.
+/// Returns the row in which the cells of N windows of `width` places are at step `j`, and the bank of each.
+/// An interleaved order has N*width places; `width` is 8 to 768, and `j` is below it.
 pub fn crossbar<const N: usize>(order: &Order, width: usize, j: usize) -> (usize, [u8; N])
     requires lanes { IsLaneCount N }
     requires order { IsOrderOf (N * width) order.now }
@@ -32,7 +32,7 @@ pub fn crossbar<const N: usize>(order: &Order, width: usize, j: usize) -> (usize
     (order.place(size, j) % width, banks)
 }
 
-/// Leaves the crossings of an order.
+/// Writes the crossings of an order.
 pub fn follow<const N: usize>(crossings: &mut Crossings<N>, order: &Order, width: usize)
     requires lanes { IsLaneCount N }
     requires order { IsOrderOf (N * width) order.now }

@@ -20,7 +20,7 @@ pub struct Borders {
 }
 
 impl Borders {
-    /// Borders of `windows` windows.
+    /// Allocates the borders of `windows` windows.
     pub fn new(alloc: Global, windows: usize) -> Result<Borders, NoMemory>
         ensures { IfOk result (λ b. HaveWindows windows b) }
     {
@@ -64,7 +64,7 @@ pub fn take_left(
     }
 }
 
-/// Leaves the borders that windows left.
+/// Writes the borders that windows left.
 pub fn leave(ahead: &[Border], back: &[Border], left: &mut [BordersLeft])
     requires ahead { length ahead.now ≡ length left.old }
     requires back { length back.now ≡ length left.old }

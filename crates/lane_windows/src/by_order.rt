@@ -19,7 +19,7 @@ use lte_bits::Soft;
 use window_decode::Border;
 use window_rows::rows::lay_out;
 
-/// Leaves the rows of N*W values by position, in the first `width` rows, which is W.
+/// Writes the rows of N*W values by position to the first `width` rows, which is W.
 fn lay_front<const N: usize>(values: &[Soft], rows: &mut [[i16; N]], width: usize)
     requires long { N * width ≡ length values.now }
     requires room { width ≤ length rows.old }

@@ -37,7 +37,7 @@ impl<'a, const N: usize> LaneDecoder<'a, N> {
     ghost use Rattle.window_rows.specs.Rows.{IsLaneCount};
     ghost use Rattle.lane_windows.specs.Progress.{before_of};
 
-    /// A code block of N windows before its first half.
+    /// Allocates the decoder of a code block of N windows, before its first half.
     pub fn new(
         alloc: Global,
         streams: &'a SoftStreams,

@@ -42,7 +42,8 @@ impl<'a, const N: usize> LaneViews<'a, N> {
     ghost use Rattle.window_rows.specs.Rows.{IsLaneCount};
     ghost use Rattle.lane_windows.specs.Halves.{HaveRunHalf};
 
-    /// The views of a code block of N windows. The streams have length K + 4, and the shape's fillers.
+    /// Allocates the views of a code block of N windows. The streams have length K + 4, and the shape's
+    /// fillers.
     pub fn new(
         alloc: Global,
         streams: &'a SoftStreams,

@@ -31,7 +31,7 @@ impl<const N: usize> Model for LaneWork<N> {
 }
 
 impl<const N: usize> LaneWork<N> {
-    /// Room for windows of up to `width` positions; `width` is 8 to 768, and N is 8, 16 or 32.
+    /// Allocates for windows of up to `width` positions; `width` is 8 to 768, and N is 8, 16 or 32.
     pub fn new(alloc: Global, width: usize) -> Result<LaneWork<N>, NoMemory>
         requires lanes { IsLaneCount N }
         requires least { 8 ≤ width }
@@ -50,7 +50,7 @@ impl<const N: usize> LaneWork<N> {
         })
     }
 
-    /// The greatest width for which there is room.
+    /// Returns the greatest width for which there is room.
     pub fn room(&self) -> usize
         ensures { result ≡ self.now }
     {

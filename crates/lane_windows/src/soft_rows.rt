@@ -18,7 +18,7 @@ pub struct SoftRows<const N: usize> {
 }
 
 impl<const N: usize> SoftRows<N> {
-    /// The rows of half `h`, whose windows are N.
+    /// Allocates the rows of half `h`, whose windows are N.
     pub fn new(alloc: Global, views: &Views<'_>, h: usize) -> Result<SoftRows<N>, NoMemory>
         requires lanes { IsLaneCount N }
         requires windows { views.now.shape.windows ≡ N }

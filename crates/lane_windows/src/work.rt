@@ -17,7 +17,7 @@ pub struct Engine<const N: usize> {
 }
 
 impl<const N: usize> Engine<N> {
-    /// Room for windows of `width` positions.
+    /// Allocates for windows of `width` positions.
     pub fn new(alloc: Global, width: usize) -> Result<Engine<N>, NoMemory>
         requires lanes { IsLaneCount N }
         requires least { 8 ≤ width }

@@ -10,7 +10,7 @@ use crate::terms::{received, term};
 use crate::words::CHUNK;
 use lte_bits::{Bit, Soft};
 
-/// The term that each word gives.
+/// Returns the term that each word gives.
 pub fn terms_of(noise: u8, words: &[u32; CHUNK]) -> [i16; CHUNK]
     requires { noise ≤ 127 }
     ensures value { result ≡ map (term noise) words.now }
@@ -23,7 +23,8 @@ pub fn terms_of(noise: u8, words: &[u32; CHUNK]) -> [i16; CHUNK]
     terms
 }
 
-/// The soft value of each of at most as many bits, with the term of its place; what follows them says nothing.
+/// Returns the soft value of each of at most as many bits, with the term of its place; what follows them says
+/// nothing.
 pub fn received_values(amp: u8, bits: &[Bit], terms: &[i16; CHUNK]) -> [Soft; CHUNK]
     requires amp { amp ≤ 127 }
     requires few { length bits.now ≤ CHUNK }

@@ -6,7 +6,7 @@ use crate::words::{CHUNK, Purpose, generator, next_words};
 use lte_bits::{List, NoMemory};
 use std::alloc::Global;
 
-/// The lowest byte of each word.
+/// Returns the lowest byte of each word.
 fn lowest_bytes(words: &[u32; CHUNK]) -> [u8; CHUNK]
     ensures { result ≡ map (λ word. word % 256) words.now }
 {
@@ -17,7 +17,7 @@ fn lowest_bytes(words: &[u32; CHUNK]) -> [u8; CHUNK]
     bytes
 }
 
-/// The payload of a trial's block, counted from 0: `length` bytes, 1 to 18,722, from the seed.
+/// Returns the payload of a trial's block, counted from 0: `length` bytes, 1 to 18,722, from the seed.
 pub fn payload(alloc: Global, length: usize, seed: u64, block: u32) -> Result<List<u8>, NoMemory>
     requires { (1 ≤ length) × (length ≤ 18722) }
     ensures { IfOk result (λ bytes. bytes ≡ trial_payload seed block length) }

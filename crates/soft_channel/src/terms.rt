@@ -12,7 +12,7 @@ const MEAN: i32 = 510;
 
 const DEVIATION: i32 = 148;
 
-/// By how much the sum of a word's four bytes is above its mean.
+/// Returns by how much the sum of a word's four bytes is above its mean.
 fn deviation(word: u32) -> i32
     ensures value { result ≡ deviation word }
     ensures range { IsWithin 510 result }
@@ -21,7 +21,7 @@ fn deviation(word: u32) -> i32
     i32::from(a) + i32::from(b) + i32::from(c) + i32::from(d) - MEAN
 }
 
-/// How many standard deviations a number is, rounded toward zero.
+/// Returns how many standard deviations a number is, rounded toward zero.
 #[tactic(auto, using(crate::proofs::Quotients::quotient_cast, crate::proofs::Quotients::small_quotient))]
 fn quotient(product: i32) -> i16
     requires { IsWithin 64770 product }
@@ -31,7 +31,7 @@ fn quotient(product: i32) -> i16
     (product / DEVIATION) as i16
 }
 
-/// The term that a word gives.
+/// Returns the term that a word gives.
 pub fn term(noise: u8, word: u32) -> i16
     requires { noise ≤ 127 }
     ensures value { result ≡ term noise word }
@@ -40,7 +40,7 @@ pub fn term(noise: u8, word: u32) -> i16
     quotient(i32::from(noise) * deviation(word))
 }
 
-/// The number that a bit is sent as.
+/// Returns the number that a bit is sent as.
 fn sent(amp: u8, bit: Bit) -> i16
     requires { amp ≤ 127 }
     ensures value { result ≡ sent amp bit }
@@ -52,7 +52,7 @@ fn sent(amp: u8, bit: Bit) -> i16
     }
 }
 
-/// The soft value of a bit with a term.
+/// Returns the soft value of a bit with a term.
 pub fn received(amp: u8, bit: Bit, term: i16) -> Soft
     requires amp { amp ≤ 127 }
     requires term { IsWithin 437 term }

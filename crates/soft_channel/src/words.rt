@@ -30,7 +30,7 @@ impl Purpose {
     }
 }
 
-/// The key of a generator.
+/// Returns the key of a generator.
 fn key(purpose: Purpose, seed: u64, block: u32, tx: u8) -> [u8; 32]
     ensures { result ≡ key (record { purpose = purpose; seed = seed; block = block; transmission = tx }) }
 {
@@ -42,7 +42,7 @@ fn key(purpose: Purpose, seed: u64, block: u32, tx: u8) -> [u8; 32]
     key
 }
 
-/// The generator of the words that are drawn for a purpose in a transmission of a block.
+/// Returns the generator of the words that are drawn for a purpose in a transmission of a block.
 pub fn generator(purpose: Purpose, seed: u64, block: u32, tx: u8) -> ChaCha8Rng
     ensures { result ≡ of_seed (key (record {
       purpose = purpose;

@@ -4,7 +4,7 @@ ghost use Rattle.std.specs.Prelude.{◌≡◌, ◌≤◌, pos, IfOk, replicate};
 use lte_bits::NoMemory;
 use std::alloc::Global;
 
-/// `width` rows of N zeros.
+/// Allocates `width` rows of N zeros.
 pub fn zero_rows<const N: usize>(alloc: Global, width: usize) -> Result<Vec<[i16; N]>, NoMemory>
     requires { N ≤ 64 }
     ensures { IfOk result (λ rows. rows.items ≡ replicate width (replicate N (pos 0))) }
@@ -16,7 +16,7 @@ pub fn zero_rows<const N: usize>(alloc: Global, width: usize) -> Result<Vec<[i16
     Ok(rows)
 }
 
-/// `width` rows of N banks, all of them 0.
+/// Allocates `width` rows of N banks, all of them 0.
 pub fn zero_banks<const N: usize>(alloc: Global, width: usize) -> Result<Vec<[u8; N]>, NoMemory>
     requires { N ≤ 64 }
     ensures { IfOk result (λ rows. rows.items ≡ replicate width (replicate N 0)) }
