@@ -6,8 +6,8 @@ const POINTS_LISTED = 256;
 
 function showPoints({ transmission, points, counts }) {
   const { g, qm } = transmission, count = g / qm, listed = Math.min(count, POINTS_LISTED), lines = [];
-  for (let from = 0; from < listed; from += 8) {
-    const words = Array.from({ length: Math.min(8, listed - from) }, (_, s) => {
+  for (let from = 0; from < listed; from += 6) {
+    const words = Array.from({ length: Math.min(6, listed - from) }, (_, s) => {
       const [i, q] = points.subarray(2 * (from + s), 2 * (from + s) + 2);
       return `(${i}, ${q})`.padStart(9).replaceAll("-", "−");
     });
@@ -20,7 +20,7 @@ function showPoints({ transmission, points, counts }) {
   drawPoints(counts, qm);
 }
 
-// Each point as a disc, the larger the oftener it is sent, with its count where there is room.
+// Each point as a disc, the larger the more often it is sent, with its count where there is room.
 function drawPoints(counts, qm) {
   const reach = { 2: 1.8, 4: 4, 6: 8.2 }[qm], most = Math.max(...counts.map((it) => it[2]));
   const { draw, x, y } = axes("constellation", reach);

@@ -54,8 +54,8 @@ class Page {
     await pause(400);
     await this.quiet();
   }
-  async picture(file) {
-    const { data } = await this.ask("Page.captureScreenshot", { captureBeyondViewport: true });
+  async picture(file, clip) {
+    const { data } = await this.ask("Page.captureScreenshot", { captureBeyondViewport: true, clip });
     writeFileSync(file, Buffer.from(data, "base64"));
   }
   faults() {
