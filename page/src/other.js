@@ -8,16 +8,18 @@ const BITS_OF = Object.fromEntries(Array.from({ length: 16 }, (_, n) => [n.toStr
 // are expected. Digits that are all 0 or 1 are hex only after 0x, or where just so many hex digits are needed.
 function cellsIn(text, wanted) {
   const isNamedHex = /^\s*0x/i.test(text);
-  const bare = text.replace(/0x/gi, "").replace(/-1|<?null>?|nan/gi, "N").replace(/[\s,;:_[\](){}'"]/g, "");
+  // A dash before a 1 is -1 only where it stands apart: elsewhere it is a NULL, and the 1 the next bit.
+  const bare = text.replace(/0x/gi, "").replace(/(^|[\s,;[({])-1(?=$|[\s,;\])}])/g, "$1N").replace(/<?null>?|nan/gi, "N")
+    .replace(/[\s,;:_[\](){}'"]/g, "");
   const isHexSize = bare.length === 2 * Math.ceil(wanted / 8) || bare.length === Math.ceil(wanted / 4);
   const isBits = !isNamedHex && /^[01Nnx?·.\-2]+$/.test(bare) && !(isHexSize && /^[012]+$/.test(bare));
-  if (isBits) return { cells: Uint8Array.from(bare, (it) => (it === "0" ? 0 : it === "1" ? 1 : OTHER_NULL)), isHex: false };
+  if (isBits) return Uint8Array.from(bare, (it) => (it === "0" ? 0 : it === "1" ? 1 : OTHER_NULL));
   const odd = bare.search(/[^0-9a-f]/i);
   if (odd >= 0) throw new Refused("other", `“${bare[odd]}” is neither a bit nor a hex digit (character ${odd + 1}).`);
   const cells = Uint8Array.from(Array.from(bare.toLowerCase(), (it) => BITS_OF[it]).flat());
   // The last byte or digit may have unused bits.
   const unused = cells.length - wanted;
-  return { cells: unused > 0 && unused < 8 ? cells.subarray(0, wanted) : cells, isHex: true };
+  return unused > 0 && unused < 8 ? cells.subarray(0, wanted) : cells;
 }
 
 // The places of ours that are compared: all; those that aren't NULL where the other has just so many bits (`dense`); and
@@ -35,7 +37,7 @@ function comparison(ours, text, fillers = 0) {
   if (!text.trim()) return { state: "none" };
   let theirs;
   try {
-    theirs = cellsIn(text, ours.length).cells;
+    theirs = cellsIn(text, ours.length);
   } catch (error) {
     if (!(error instanceof Refused)) throw error;
     return { state: "unread", text: error.message };

@@ -103,6 +103,11 @@ async function anotherCodec() {
   await page.set({ payload: "AB" });
   await page.set(pasted(Uint8Array.of(0xab), transmission, [0, 0]));
   await told("one with fillers", "compared", "All that was given agrees");
+  const marked = pasted(Uint8Array.of(0xab), transmission, [0, 0])["other-w"].replaceAll("-1", "-").replaceAll(" ", "");
+  await page.set({ "other-w": marked });
+  await told("with a dash for each NULL", "verdict-w", "All 192 agree.");
+  await page.set({ "other-w": marked.replaceAll("-", "") });
+  await told("and without the NULLs", "verdict-w", "agree.");
   await page.set({ payload: "00 01" });
   const wrong = pasted(payload, transmission, [1, 2]);
   await page.set(wrong);
@@ -134,6 +139,20 @@ async function responsive() {
   await page.ask("Page.addScriptToEvaluateOnNewDocument", { source: "delete globalThis.Worker" });
   await page.open(url);
   check("without workers the page does the work", (await page.text("word")) === WORKED && !(await page.value("work.inWorker")));
+}
+
+// Every field, button and listing comes by the Tab key, in the order of the page.
+async function byKeys() {
+  const wanted = await page.value(`document.activeElement.blur(); window.scrollTo(0, 0);
+    globalThis.inOrder = [...document.querySelectorAll("button, input, select, textarea, pre, summary, a")]
+      .filter((it) => !it.disabled && it.checkVisibility()); inOrder.length`);
+  await page.value(`getSelection().collapse(document.body, 0)`);
+  const came = [];
+  for (let i = 0; i < wanted; i++) {
+    await page.ask("Input.dispatchKeyEvent", { type: "keyDown", key: "Tab", code: "Tab", windowsVirtualKeyCode: 9 });
+    came.push(await page.value("inOrder.indexOf(document.activeElement)"));
+  }
+  check("all is reached by the Tab key, in its order", came.every((it, i) => it === i), came.join());
 }
 
 async function forEveryone() {
@@ -170,7 +189,7 @@ const CONTRASTS = `(() => {
 })()`;
 
 try {
-  for (const part of [workedCase, otherCases, refusals, addresses, anotherCodec, responsive, forEveryone]) await part();
+  for (const part of [workedCase, otherCases, refusals, addresses, anotherCodec, responsive, byKeys, forEveryone]) await part();
 } catch (error) {
   check("the test itself", false, error.stack);
 }
