@@ -78,7 +78,10 @@ function conclusion(stages, verdicts) {
   const before = STAGES.slice(0, STAGES.indexOf(first)).filter((it) => verdicts[it.id].state === "agrees").map((it) => it.name);
   const lines = [`The first stage that differs is the ${first.name}.`];
   if (before.length) lines.push(`Before it agree: ${before.join(", ")}.`);
-  return `${lines.join(" ")} Look at ${suspects(first.id, stages, verdicts).join("; ")}.${rest}`;
+  const steps = suspects(first.id, stages, verdicts);
+  lines.push(`Look at ${steps.join("; ")}.`);
+  if (steps.length > first.steps.length) lines.push("What it has at the stages before, which aren't compared yet, tells more.");
+  return lines.join(" ") + rest;
 }
 
 function showVerdicts(stages, verdicts) {

@@ -19,7 +19,11 @@ async function rounds() {
   while (due) {
     const what = due;
     due = "";
-    await (what === "work" ? askAndShow() : showAgain());
+    try {
+      await (what === "work" ? askAndShow() : showAgain());
+    } catch (error) {
+      element("state").textContent = `The work failed: ${error.message}`;
+    }
   }
   element("main").setAttribute("aria-busy", "false");
   isAtWork = false;

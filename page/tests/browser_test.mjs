@@ -1,6 +1,7 @@
 // The page in headless Chromium: node page/tests/browser_test.mjs URL
 import { openBrowser, pause } from "./browser.mjs";
 import { NULL, bytesOf, stages as ofStandard } from "./standard.mjs";
+import { REFUSED } from "./refused.mjs";
 import { hexOfBytes } from "./words.mjs";
 
 const url = process.argv[2];
@@ -43,17 +44,6 @@ async function otherCases() {
   await page.click("worked");
 }
 
-const REFUSED = [
-  ["payload", "00 0g", "“g” isn't a hex digit (digit 4)"], ["payload", "000", "there are 3: one is missing"],
-  ["payload", "", "1 to 18,722 bytes"], ["payload", "00".repeat(18723), "1 to 18,722 bytes"],
-  ["g", "131", "multiple of N_L × Q_m"], ["g", "0", "whole number from 1 to 1,000,000"], ["g", "many", "whole number"],
-  ["nir", "63", "N_IR is too small"], ["nir", "-1", "whole number"], ["rnti", "65536", "from 0 to 65,535"],
-  ["slot", "20", "from 0 to 19"], ["cell", "504", "from 0 to 503"], ["rvs", "0 4", "0 to 3"],
-  ["rvs", "0 1 2 3 0 1 2 3 0", "One to eight"], ["rvs", "", "One to eight"], ["amp", "0", "from 1 to 127"],
-  ["noise", "128", "from 0 to 127"], ["seed", "18446744073709551616", "to 18446744073709551615"],
-  ["windows", "65", "from 1 to 64"], ["limit", "17", "from 1 to 16"],
-];
-
 async function refusals() {
   for (const [field, text, words] of REFUSED) {
     const before = await page.value(`element("${field}").value`);
@@ -71,6 +61,8 @@ async function refusals() {
 async function addresses() {
   await page.set({ payload: "CA FE 01", qm: "4", g: "240", rv: "2", rvs: "0 1", seed: "18446744073709551615", cell: "17" });
   const link = await page.value("location.href"), word = await page.text("word"), outcome = await page.text("outcome");
+  await page.value(`element("copy-link").click()`);
+  await page.until(`element("copied-link").textContent !== ""`);
   check("the address has the case", /#payload=CAFE01&qm=4&nl=1&g=240&rv=2&.*cell=17&.*rvs=0,1&.*seed=18446744073709551615/.test(link), link);
   await page.open(link);
   check("the address leads to the case", (await page.text("word")) === word && (await page.text("outcome")) === outcome);
@@ -119,6 +111,7 @@ async function anotherCodec() {
   await page.set({ ...nothing, "other-c": wrong["other-c"], "other-codeword": wrong["other-codeword"] });
   await told("by the codeword alone", "compared", "The first stage that differs is the codeword.");
   await told("there is more to look at", "compared", "the internal interleaver (5.1.3.2.3)");
+  await told("and to paste", "compared", "aren't compared yet");
   await page.set({ ...nothing, "other-codeword": "34 9x" });
   await told("what can't be read", "verdict-codeword", "neither a bit nor a hex digit");
   await page.set({ ...nothing, "other-codeword": WORKED.slice(0, 5) });

@@ -6,8 +6,8 @@ const [url, folder] = process.argv.slice(2);
 const { page, close } = await openBrowser();
 await page.open(url);
 await page.look(900, false);
-const end = await page.value(`element("h-selected").getBoundingClientRect().top + scrollY`);
-await page.picture(`${folder}/page.png`, { x: 0, y: 0, width: 900, height: Math.floor(end), scale: 1 });
+const [from, to] = await page.value(`["h-block", "h-selected"].map((it) => element(it).getBoundingClientRect().top + scrollY)`);
+await page.picture(`${folder}/page.png`, { x: 0, y: Math.floor(from), width: 900, height: Math.floor(to - from), scale: 1 });
 await page.picture(`${folder}/worked.png`);
 
 // A codec with two columns of its sub-block interleaver exchanged.
