@@ -81,6 +81,7 @@ async function askAndShow() {
   if (told) {
     shown.stages = told.stages;
     await showStages(told.stages);
+    keepPermalink();
   }
   shown.reception = await askReception(told?.sent);
   if (shown.reception) showReception(shown.reception);
@@ -109,12 +110,14 @@ function takeAddress() {
 function listen() {
   document.addEventListener("input", ({ target }) => {
     if (target.id === "block") wantedBlock = Number(target.value);
+    isBlockOfAddress = false;
     want(target.id.startsWith("other-") ? "show" : "work", 150);
   });
   document.addEventListener("submit", (event) => event.preventDefault());
   for (const [id, values] of Object.entries(EXAMPLES)) {
     element(id).onclick = () => {
       for (const [field, value] of Object.entries(values)) element(field).value = value;
+      [wantedBlock, isBlockOfAddress] = [0, false];
       want("work");
     };
   }

@@ -51,7 +51,7 @@ function takePermalink(hash) {
   for (const [field, value] of pairs) {
     const box = element(field);
     if (field === "block") {
-      if (/^\d{1,4}$/.test(value)) wantedBlock = Number(value);
+      if (/^\d{1,4}$/.test(value)) [wantedBlock, isBlockOfAddress] = [Number(value), true];
       else faults.push("“block” isn't the number of a code block.");
     } else if (box.tagName === "SELECT" && ![...box.options].some((it) => it.value === value)) {
       faults.push(`“${field}” can't be ${value.slice(0, 40)}.`);

@@ -75,6 +75,8 @@ async function addresses() {
   await told("and its payload is refused in its field", "payload-note", "isn't a hex digit");
   await page.open(`${url}#payload=0001&block=7`);
   await told("a code block that isn't there", "block-note", "no code block 7");
+  await page.set({ payload: "00 02" });
+  check("is forgotten with the next case", (await page.text("block-note")) === "" && (await page.value("location.hash")).includes("block=0"));
 }
 
 // What an engineer pastes whose codec has two columns of the sub-block interleaver exchanged, or no fault.
