@@ -81,6 +81,7 @@ function conclusion(stages, verdicts) {
   const steps = suspects(first.id, stages, verdicts);
   lines.push(`Look at ${steps.join("; ")}.`);
   if (steps.length > first.steps.length) lines.push("What it has at the stages before, which aren't compared yet, tells more.");
+  if (stages.plan.c > 1) lines.push("Code blocks are compared one at a time: choose the others as well.");
   return lines.join(" ") + rest;
 }
 

@@ -1,6 +1,7 @@
 // The page in headless Chromium: node page/tests/browser_test.mjs URL
 import { openBrowser, pause } from "./browser.mjs";
 import { NULL, bytesOf, stages as ofStandard } from "./standard.mjs";
+import { CONTRASTS } from "./contrast.mjs";
 import { REFUSED } from "./refused.mjs";
 import { hexOfBytes } from "./words.mjs";
 
@@ -121,19 +122,33 @@ async function anotherCodec() {
   await page.set(nothing);
 }
 
-// The page's thread ticks while the largest payload is worked on and shown.
-async function responsive() {
-  const larger = "for (const [id, value] of Object.entries({ qm: 6, nl: 1, g: 999996, payload: '5A'.repeat(18722) }))"
-    + " element(id).value = value; want('work');";
-  await page.value(`globalThis.gaps = []; globalThis.then = performance.now();
-    setInterval(() => { gaps.push(performance.now() - then); then = performance.now(); }, 10); ${larger}`);
+// Works on the largest payload, and returns how often the page's own thread ticks while its reception is worked out.
+async function ticksMeanwhile() {
+  await page.value(`globalThis.ticks = globalThis.meanwhile = 0;
+    globalThis.ticking = setInterval(() => ticks++, 10);
+    const ask = work.ask;
+    work.ask = async (question, asked) => {
+      const before = ticks, told = await ask(question, asked);
+      meanwhile = ticks - before;
+      return told;
+    };
+    for (const [id, value] of Object.entries({ qm: 6, nl: 1, g: 999996, payload: "5A".repeat(18722) })) element(id).value = value;
+    want("work");`);
   await page.until(`!isAtWork && element("word-told").textContent.startsWith("999,996")`);
-  const gaps = await page.value("gaps"), most = Math.max(...gaps);
-  check("the page ticks while 18,722 bytes are worked on", gaps.length > 20 && most < 600, `${gaps.length} ticks, ${most} ms`);
-  console.log(`     ${gaps.length} ticks, the longest pause ${most.toFixed(0)} ms`);
+  return page.value("clearInterval(ticking); meanwhile");
+}
+
+// By a worker the page answers its user meanwhile; and where there are no workers, it still does the work.
+async function responsive() {
+  const ticks = await ticksMeanwhile();
+  check("the page ticks while 18,722 bytes are worked on", ticks > 5, ticks);
+  console.log(`     ${ticks} ticks`);
   await page.ask("Page.addScriptToEvaluateOnNewDocument", { source: "delete globalThis.Worker" });
   await page.open(url);
   check("without workers the page does the work", (await page.text("word")) === WORKED && !(await page.value("work.inWorker")));
+  const without = await ticksMeanwhile();
+  check("and doesn't tick meanwhile", without < 3, without);
+  await page.open(url);
 }
 
 // Every field, button and listing comes by the Tab key, in the order of the page.
@@ -171,17 +186,6 @@ async function forEveryone() {
     check(`contrast, ${isDark ? "dark" : "light"}`, !poor.length, JSON.stringify(poor));
   }
 }
-
-// The contrast of each colour of text with what it stands on.
-const CONTRASTS = `(() => {
-  const part = (n) => (n /= 255) <= 0.03928 ? n / 12.92 : ((n + 0.055) / 1.055) ** 2.4;
-  const light = (name) => colour(name).match(/[\\d.]+/g).slice(0, 3).map(Number).map(part)
-    .reduce((sum, it, i) => sum + it * [0.2126, 0.7152, 0.0722][i], 0);
-  const of = (a, b) => { const [low, high] = [light(a), light(b)].sort((x, y) => x - y); return (high + 0.05) / (low + 0.05); };
-  const on = ["ink", "soft", "accent", "filler", "null", "crca", "crcb", "tail", "one", "wrong", "good"];
-  return [...on.flatMap((it) => [[it, of(it, "ground")], [it + " raised", of(it, "raised")]]),
-    ["ink on sent", of("ink", "sent")], ["ink on again", of("ink", "again")], ["on differing", of("ink", "wrong-ground")]];
-})()`;
 
 try {
   for (const part of [workedCase, otherCases, refusals, addresses, anotherCodec, responsive, byKeys, forEveryone]) await part();
