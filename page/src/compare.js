@@ -58,7 +58,7 @@ function verdictText(stage, stages, it) {
   const size = it.isShort ? `The other has ${grouped(it.theirCount)}, and here are ${grouped(it.count)}. ` : "";
   if (!it.differing) return size ? `${size}What both have agrees.` : `All ${grouped(it.compared)} agree.`;
   const cell = (n) => (n === NULL_CELL ? "NULL" : n), where = stage.where ? ` (${stage.where(stages, it.first)})` : "";
-  return `${size}${grouped(it.differing)} of ${grouped(it.compared)} differ. The first is ${it.first}${where}: here `
+  return `${size}${grouped(it.differing)} of ${grouped(it.compared)} differ. The first is at ${it.first}${where}: here `
     + `${cell(stage.cells(stages)[it.first])}, in the other ${cell(it.theirFirst)}.`;
 }
 

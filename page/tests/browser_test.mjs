@@ -110,7 +110,9 @@ async function anotherCodec() {
   await told("the streams before it", "compared", "Before it agree: bits of the code block, stream d0, stream d1, stream d2.");
   await told("where to look", "compared", "Look at the sub-block interleaver (5.1.4.1.1); the bit collection");
   await told("how much differs", "verdict-w", "differ. The first is");
-  check("it is marked", (await page.value(`document.querySelectorAll("#buffer .first").length`)) === 1);
+  const marks = await page.value(`["first", "differs"].map((it) => [...document.querySelectorAll("#buffer ." + it)]
+    .filter((one) => getComputedStyle(one).backgroundColor === colour(it === "first" ? "wrong" : "wrong-ground")).length)`);
+  check("they are marked", marks[0] === 1 && marks[1] > 0, marks);
   await page.set({ ...nothing, "other-c": wrong["other-c"], "other-codeword": wrong["other-codeword"] });
   await told("by the codeword alone", "compared", "The first stage that differs is the codeword.");
   await told("there is more to look at", "compared", "the internal interleaver (5.1.3.2.3)");
