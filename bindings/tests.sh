@@ -139,6 +139,8 @@ packed() {
         tar -xzf "$(tail -n 1 "$work/said")" -C "$work/unpacked" || return 1
     folder=$(echo "$work"/unpacked/*)
     (cd "$folder" && sha256sum --quiet -c SHA256SUMS) && grep -q GOMZELAT_WASM "$folder/page/gomzelat_wasm.js" &&
+        [ -f "$folder/lib/glibc-hwcaps/x86-64-v3/libgomzelat.so.2" ] &&
+        printf '\x00\x01' | "$folder/bin/turbo-x86-64-v3" codeword g=8 qm=2 rv=1 | od -An -tx1 | grep -q '^ 24$' &&
         printf '\x00\x01' | "$folder/bin/turbo" codeword g=8 qm=2 rv=1 | od -An -tx1 | grep -q '^ 24$' || return 1
     # shellcheck disable=SC2046
     "${CC:-cc}" -o "$work/packed_example" "$folder/share/doc/gomzelat/bindings/c/example.c" \

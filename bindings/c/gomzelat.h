@@ -22,7 +22,8 @@
  *   gomzelat_receive takes 0.7 MB at most for one transmission of 9,422 bytes in 90,000 bits, and 9 MB for the longest
  *   block in eight transmissions of a million bits; for a million bits gomzelat_demap takes 4 MB, gomzelat_combine 3 MB,
  *   gomzelat_map 2.5 MB and gomzelat_noisy 2 MB; each other call takes less than 1.5 MB (bindings/c/costs.c).
- * - The system is Linux on x86-64, and the processor has what x86-64-v2 names: SSE4.2, SSSE3, POPCNT. Nothing asks it.
+ * - The system is Linux on x86-64, and the processor has the level that the library was compiled for: x86-64-v2 (SSE4.2,
+ *   SSSE3, POPCNT), or x86-64-v3 (AVX2 as well), which bindings/build takes on a machine that has it. Nothing asks it.
  *
  * In later editions structures may grow, at their end alone, and there may be more answers, after these: a program that
  * is compiled anew stays right, and one that was compiled before doesn't load a library of another edition. */
