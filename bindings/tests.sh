@@ -140,6 +140,7 @@ packed() {
     folder=$(echo "$work"/unpacked/*)
     (cd "$folder" && sha256sum --quiet -c SHA256SUMS) && grep -q GOMZELAT_WASM "$folder/page/gomzelat_wasm.js" &&
         [ -f "$folder/lib/glibc-hwcaps/x86-64-v3/libgomzelat.so.2" ] &&
+        unzip -l "$folder"/python/*.whl | grep -q libgomzelat.so &&
         printf '\x00\x01' | "$folder/bin/turbo-x86-64-v3" codeword g=8 qm=2 rv=1 | od -An -tx1 | grep -q '^ 24$' &&
         printf '\x00\x01' | "$folder/bin/turbo" codeword g=8 qm=2 rv=1 | od -An -tx1 | grep -q '^ 24$' || return 1
     # shellcheck disable=SC2046
