@@ -11,16 +11,19 @@ meanwhile.
 
 from .arrays import pack, unpack
 from .block import decode_block
-from .channel import noisy, trial_payload
+from .channel import Channel, noisy, trial_payload
+from .checks import crc24a, crc24b
 from .harq import Harq
 from .origin import origin
+from .outcomes import Check, Decoded, Outcome
+from .points import UNIT_POWER, demap_points, map_bits
 from .receiver import receive, sizes
 from .refused import Answer, Refused
+from .scrambling import Scrambling, descramble, scramble, scrambling_init
 from .sender import MOST_BITS, MOST_BYTES, codeword, codewords, plan
-from .signals import UNIT_POWER, demap_points, descramble, map_bits, scramble, scrambling_init
 from .soft import quantise
-from .stages import NULL, code_block, crc24a, crc24b, piece, select, spots, streams
-from .values import Channel, Check, Decoded, Outcome, Piece, Plan, Scrambling, Sizes, Transmission
+from .stages import NULL, code_block, piece, select, spots, streams
+from .values import Piece, Plan, Sizes, Transmission
 
 __all__ = [
     "MOST_BITS",

@@ -9,7 +9,7 @@ import numpy as np
 
 from . import library
 from .arrays import SoftsLike, number, softs_of
-from .values import Check, Decoded
+from .outcomes import Check, Decoded
 
 _MOST_SIZE = 6144
 
@@ -27,11 +27,16 @@ def decode_block(
         3 * (K + 4) soft values, those of d0, of d1 and of d2, of any shape: above 0 where a bit is rather 0. What
         stands at the fillers of d0 and d1 isn't used.
     fill : int
-        Those of its bits that are fillers, which stand first.
+        Those of its bits that are fillers, which stand first: 0 to K - 1.
     check : Check
-        The check that it ends with.
+        The check that it ends with (36.212 5.1.1).
     windows, limit : int
         As for `receive`.
+
+    Returns
+    -------
+    Decoded
+        Its bits, whether its check holds, and the iterations.
 
     Raises
     ------

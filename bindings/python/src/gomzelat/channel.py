@@ -5,24 +5,39 @@ What is passed must not be changed by another thread before a call is back: the 
 
 from __future__ import annotations
 
-from operator import index
-from typing import Any
+from dataclasses import dataclass
 
 import numpy as np
 
 from . import library
-from .arrays import Bytes, BytesLike, Softs, bytes_of, room
+from .arrays import Bytes, BytesLike, Softs, bytes_of, room, within
 from .arrays import number as in_c
-from .refused import Answer, Refused
 from .sender import MOST_BYTES
-from .values import Channel
+from .values import known
 
 
-def _within(value: Any, bits: int) -> int:
-    whole = index(value)
-    if not 0 <= whole < 2**bits:
-        raise Refused(Answer.OUT_OF_RANGE)
-    return whole
+@dataclass(frozen=True)
+class Channel:
+    """A channel of whole numbers, which is the same on every machine.
+
+    Attributes
+    ----------
+    amp : int
+        The soft value of a bit 0, 1 to 127; that of a bit 1 is its negative.
+    noise : int
+        The standard deviation of the noise, nearly: 0 to 127.
+    seed : int
+        What the noise comes from: 0 to 2^64 - 1.
+
+    Examples
+    --------
+    >>> Channel(amp=40, noise=10, seed=1)
+    Channel(amp=40, noise=10, seed=1)
+    """
+
+    amp: int
+    noise: int
+    seed: int
 
 
 def noisy(
@@ -68,8 +83,9 @@ def noisy(
     [16, 62, 52, 20, 50, 53, 27, 67]
     """
     data = bytes_of(bits, "bits")
-    told = library.CChannel(_within(channel.seed, 64), in_c(channel.amp), in_c(channel.noise))
-    place, size = _within(block, 32), in_c(count, 64)
+    given = known(channel, Channel)
+    told = library.CChannel(within(given.seed, 64), in_c(given.amp), in_c(given.noise))
+    place, size = within(block, 32), in_c(count, 64)
     # More bits than there are are refused, with no need of room.
     made = room(out, min(size, 8 * data.size), np.int8, data)
     words = (library.at(data), data.size, size, told, place, in_c(number), library.at(made), made.size)
@@ -89,6 +105,11 @@ def trial_payload(length: int, seed: int, block: int = 0) -> Bytes:
     block : int
         The transport block's number, from 0 to 2^32 - 1.
 
+    Returns
+    -------
+    array of uint8
+        Its bytes.
+
     Raises
     ------
     Refused
@@ -101,5 +122,5 @@ def trial_payload(length: int, seed: int, block: int = 0) -> Bytes:
     """
     # One byte too many is refused as any greater length is.
     out = np.zeros(min(in_c(length, 64), MOST_BYTES + 1), np.uint8)
-    library.call("trial_payload", _within(seed, 64), _within(block, 32), library.at(out), out.size)
+    library.call("trial_payload", within(seed, 64), within(block, 32), library.at(out), out.size)
     return out

@@ -12,10 +12,10 @@ import numpy as np
 import numpy.typing as npt
 
 from . import library
-from .arrays import Bits, Bytes, Softs, SoftsLike, buffer_size, softs_of
-from .receiver import in_c, sizes
+from .arrays import Bits, Bytes, Softs, SoftsLike, buffer_size, number, softs_of
+from .receiver import sizes, told_in_c
 from .sender import plan
-from .values import Transmission
+from .values import Transmission, known
 
 
 class Harq:
@@ -43,6 +43,10 @@ class Harq:
         Whether the checks of all code blocks and of the transport block held at the last `decode`.
     transmissions : int
         How many were added.
+    passed : array of bool
+        Whether the check of each code block held at the last `decode`.
+    iterations : array of uint64
+        The iterations that the last decoding of each code block took.
 
     Raises
     ------
@@ -65,12 +69,12 @@ class Harq:
 
     def __init__(self, length: int, n_ir: int = 0, windows: int = 8, limit: int = 8) -> None:
         kept = sizes(length)
-        self.length, self.n_ir, self.windows, self.limit = length, n_ir, windows, limit
+        self.length, self.n_ir, self.windows, self.limit = number(length, 64), n_ir, windows, limit
         self.delivered = False
         self.transmissions = 0
         self._cells: Softs = np.zeros(kept.cells, np.int8)
         self._bits: Bits = np.zeros(kept.bits, np.uint8)
-        self._payload: Bytes = np.zeros(length, np.uint8)
+        self._payload: Bytes = np.zeros(self.length, np.uint8)
         self._blocks: npt.NDArray[Any] = np.zeros(kept.blocks, library.result_type())
 
     @property
@@ -102,8 +106,15 @@ class Harq:
         ------
         Refused
             BAD_QM, BAD_NL, BAD_G, BAD_VERSION, BAD_BUFFER, BAD_VALUES. The cells are as they were.
+
+        Examples
+        --------
+        >>> harq = Harq(2)
+        >>> harq.add(Transmission(qm=2, g=4, rv=0), [40, 40, 40, 40])
+        >>> harq.transmissions, harq.cells[harq.cells != 0].tolist()
+        (1, [40, 40, 40, 40])
         """
-        softs, told = softs_of(values), transmission.in_c()
+        softs, told = softs_of(values), known(transmission, Transmission).in_c()
         library.call(
             "combine",
             *(self.length, told, buffer_size(self.n_ir), library.at(softs), softs.size),
@@ -114,17 +125,29 @@ class Harq:
     def decode(self) -> bool:
         """Decode the code blocks that haven't passed, and return whether the transport block is delivered.
 
+        Returns
+        -------
+        bool
+            `delivered`.
+
         Raises
         ------
         Refused
             BAD_BUFFER, BAD_WINDOWS, BAD_LIMIT. All arrays are as they were.
+
+        Examples
+        --------
+        >>> harq = Harq(2)
+        >>> harq.add(Transmission(qm=2, g=132, rv=0), [-9] * 132)
+        >>> harq.decode(), harq.iterations.tolist()
+        (False, [8])
         """
         delivered = ctypes.c_uint32()
         library.call(
             "decode",
             *(
                 self.length,
-                in_c(self.n_ir, self.windows, self.limit),
+                told_in_c(self.n_ir, self.windows, self.limit),
                 library.at(self._cells),
                 self._cells.size,
             ),
@@ -145,6 +168,17 @@ class Harq:
         return np.asarray(self._blocks["iterations"])
 
     def code_blocks(self) -> list[Bits]:
-        """Return the decided bits of each code block, as views of `bits`."""
+        """Return the decided bits of each code block, as views of `bits`.
+
+        Returns
+        -------
+        list of arrays of uint8
+            K items each, 0 or 1.
+
+        Examples
+        --------
+        >>> [it.size for it in Harq(766).code_blocks()]
+        [3072, 3136]
+        """
         cut = plan(self.length)
         return np.split(self._bits, np.cumsum([cut.size(r) for r in range(cut.c - 1)], dtype=np.intp))

@@ -81,9 +81,13 @@ def path() -> Path:
 @lru_cache(maxsize=None)
 def _loaded() -> ctypes.CDLL:
     loaded = ctypes.CDLL(str(path()))
-    edition = loaded.gomzelat_version() if hasattr(loaded, "gomzelat_version") else VERSION
+    # The first edition didn't tell.
+    edition = loaded.gomzelat_version() if hasattr(loaded, "gomzelat_version") else 1
     if edition != VERSION:
-        raise OSError(f"{path()} is of edition {edition}, and this package calls edition {VERSION}")
+        raise OSError(
+            f"{path()} is of edition {edition}, and this package calls edition {VERSION}: "
+            "bindings/build makes it, and GOMZELAT_LIBRARY names it"
+        )
     return loaded
 
 
@@ -92,7 +96,7 @@ def _function(name: str) -> Any:
     try:
         function = getattr(_loaded(), f"gomzelat_{name}")
     except AttributeError:
-        raise OSError(f"{path()} has no gomzelat_{name}: it is of an older version") from None
+        raise OSError(f"{path()} has no gomzelat_{name}: it is no whole library") from None
     function.argtypes, function.restype = _ARGUMENTS[name], _U32
     return function
 

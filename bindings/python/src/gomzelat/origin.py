@@ -24,8 +24,19 @@ def of_folder(folder: str) -> dict[str, str | None]:
 
 
 def origin() -> dict[str, str | None]:
-    """Returns what this package's library was proved from: what the wheel was built with, else what the repository
-    says that the package lies in."""
+    """Return what this package's library was proved from: what the wheel was built with, else what the repository
+    says that the package lies in.
+
+    Returns
+    -------
+    dict
+        `commit` of the repository, and `kit`, the prover; None for what isn't known.
+
+    Examples
+    --------
+    >>> sorted(origin())
+    ['commit', 'kit']
+    """
     here = Path(__file__).resolve().parent
     built = here / "built.json"
     if built.exists():

@@ -12,11 +12,12 @@ import numpy as np
 
 from . import library
 from .arrays import SoftsLike, buffer_size, number, softs_of
+from .outcomes import Outcome
 from .sender import MOST_BYTES
-from .values import Outcome, Sizes, Transmission
+from .values import Sizes, Transmission, in_c
 
 
-def in_c(n_ir: int, windows: int, limit: int) -> ctypes.Structure:
+def told_in_c(n_ir: int, windows: int, limit: int) -> ctypes.Structure:
     """Returns how a receiver decodes, as C takes it."""
     return library.CReceiver(buffer_size(n_ir), number(windows), number(limit))
 
@@ -29,7 +30,7 @@ def receive(
     windows: int = 8,
     limit: int = 8,
 ) -> Outcome:
-    """Return what the transmissions of a transport block come to.
+    """Return what the transmissions of a transport block come to: those of 36.212 5.1.5, received.
 
     After each transmission, in order, the code blocks that haven't passed are decoded; the first after which all
     checks hold ends it. The transmissions share one soft buffer, in which each sum is from -127 to 127.
@@ -50,6 +51,11 @@ def receive(
     limit : int
         The most iterations of a code block: 1 to 16.
 
+    Returns
+    -------
+    Outcome
+        The payload, an array of uint8, or None; how many transmissions were decoded; and the iterations.
+
     Raises
     ------
     Refused
@@ -65,21 +71,31 @@ def receive(
     ([0, 1], 1, 1)
     """
     softs = softs_of(values)
-    sent = (library.CTransmission * len(transmissions))(*[it.in_c() for it in transmissions])
+    sent = in_c(transmissions)
     size = number(length, 64)
     # A greater length is refused, with no need of room.
     payload = np.zeros(min(size, MOST_BYTES), np.uint8)
     told = library.COutcome()
     library.call(
         "receive",
-        *(size, sent, len(sent), in_c(n_ir, windows, limit), library.at(softs), softs.size),
+        *(size, sent, len(sent), told_in_c(n_ir, windows, limit), library.at(softs), softs.size),
         *(library.at(payload), payload.size, ctypes.byref(told)),
     )
     return Outcome(payload if told.delivered else None, told.transmissions, told.iterations)
 
 
 def sizes(length: int) -> Sizes:
-    """Return how much `Harq` keeps of a transport block of so many bytes.
+    """Return how much `Harq` keeps of a transport block.
+
+    Parameters
+    ----------
+    length : int
+        Its bytes: 1 to 18,722.
+
+    Returns
+    -------
+    Sizes
+        Soft cells, code blocks, and bits of code blocks.
 
     Raises
     ------

@@ -6,8 +6,8 @@ from enum import IntEnum
 
 
 class Answer(IntEnum):
-    """The numbers of answers, as in gomzelat.h. OUT_OF_RANGE is this package's own: a seed or a block's number that
-    the library has no place for."""
+    """The numbers of answers, as in gomzelat.h. OUT_OF_RANGE is this package's own: a number that the library has no
+    place for, as a seed, or an item of a list."""
 
     OUT_OF_RANGE = -1
     DONE = 0
@@ -71,10 +71,17 @@ _TEXTS = {
 class Refused(ValueError):
     """What a call refuses.
 
-    Attributes
+    Parameters
     ----------
     number : int
         The number of the answer, as in gomzelat.h and `Answer`.
+    text : str, optional
+        What is said of it; else what gomzelat.h says.
+
+    Attributes
+    ----------
+    number : int
+        The number of the answer.
 
     Examples
     --------
@@ -86,11 +93,12 @@ class Refused(ValueError):
     2 a payload has 1 to 18722 bytes
     """
 
-    def __init__(self, number: int) -> None:
+    def __init__(self, number: int, text: str | None = None) -> None:
         self.number = int(number)
         known = self.number in _TEXTS
-        super().__init__(_TEXTS[Answer(self.number)] if known else f"the library answered {self.number}")
+        told = _TEXTS[Answer(self.number)] if known else f"the library answered {self.number}"
+        super().__init__(text or told)
 
-    def __reduce__(self) -> tuple[type[Refused], tuple[int]]:
+    def __reduce__(self) -> tuple[type[Refused], tuple[int, str]]:
         # What is raised in another process arrives whole.
-        return Refused, (self.number,)
+        return Refused, (self.number, str(self))

@@ -12,7 +12,7 @@ import numpy as np
 
 from . import library
 from .arrays import Bytes, BytesLike, buffer_size, bytes_of, number, room, unpack
-from .values import Plan, Transmission
+from .values import Plan, Transmission, in_c, known
 
 MOST_BYTES = 18722
 MOST_BITS = 1_000_000
@@ -25,6 +25,11 @@ def plan(length: int) -> Plan:
     ----------
     length : int
         The payload's bytes: 1 to 18,722.
+
+    Returns
+    -------
+    Plan
+        The code blocks, their sizes and fillers.
 
     Raises
     ------
@@ -79,7 +84,7 @@ def codeword(
     >>> codeword(b"\\0\\1", Transmission(qm=2, g=132, rv=0)).tobytes().hex()
     '3494861b120470c379901015042d498890'
     """
-    data, told = bytes_of(payload, "payload"), transmission.in_c()
+    data, told = bytes_of(payload, "payload"), known(transmission, Transmission).in_c()
     if bits and out is not None:
         raise TypeError("bits and out are not taken together")
     count = min(told.g, MOST_BITS)
@@ -93,7 +98,7 @@ def codeword(
 def codewords(
     payload: BytesLike, transmissions: Sequence[Transmission], n_ir: int = 0, *, bits: bool = False
 ) -> list[Bytes]:
-    """Return the codewords of several transmissions, from one coding of the transport block.
+    """Return the codewords of several transmissions, from one coding of the transport block (36.212 5.1.5).
 
     Parameters
     ----------
@@ -119,7 +124,7 @@ def codewords(
     ['34', '24', 'e6', '10']
     """
     data = bytes_of(payload, "payload")
-    told = (library.CTransmission * len(transmissions))(*[it.in_c() for it in transmissions])
+    told = in_c(transmissions)
     counts = [min(it.g, MOST_BITS) for it in told]
     sizes = [(count + 7) // 8 for count in counts]
     out = np.zeros(sum(sizes), np.uint8)

@@ -4,12 +4,15 @@
 Who                                                A positive soft value says
 =================================================  ========================================
 gomzelat                                           the bit is rather 0
-most papers and IT++: log P(0) / P(1)              the bit is rather 0
-Sionna: log P(1) / P(0)                            the bit is rather 1: turn the sign
+most papers, IT++, AFF3CT: log P(0) / P(1)         the bit is rather 0
+MATLAB's qamdemod with 'llr', and nrLDPCDecode     the bit is rather 0
 MATLAB's comm.TurboDecoder                         the bit is rather 1: turn the sign
+Sionna: log P(1) / P(0)                            the bit is rather 1: turn the sign
+GNU Radio's constellation soft decoder             the bit is rather 1: turn the sign
 =================================================  ========================================
 
-Of any other tool a codeword without noise tells: where `receive` doesn't deliver it, turn the sign.
+Only GNU Radio's was tried here. One bit tells of any tool: send a bit 0 without noise, and look at the value that its
+demapper gives. Where that is below 0, turn the sign, by a negative scale.
 
 **Amplitude.** A soft value is a whole number from -127 to 127, and the buffer of a transport block saturates at 127
 after each addition, so that values of repeated and retransmitted bits should leave room: a strong value of 20 to 40
@@ -24,7 +27,8 @@ from typing import Any
 import numpy as np
 import numpy.typing as npt
 
-from .arrays import Softs
+from .arrays import Softs, numbers_of
+from .refused import Answer, Refused
 
 
 def quantise(llr: npt.ArrayLike, scale: float = 1.0, *, out: Softs | None = None) -> Softs:
@@ -33,12 +37,12 @@ def quantise(llr: npt.ArrayLike, scale: float = 1.0, *, out: Softs | None = None
     Parameters
     ----------
     llr : array of floats
-        log P(0) / P(1) of each bit, of any shape: above 0 where the bit is rather 0. With tools that have it the other
-        way round give a negative scale.
+        log P(0) / P(1) of each bit, of any shape and any type of real numbers: above 0 where the bit is rather 0. With
+        tools that have it the other way round give a negative scale.
     scale : float
         What a ratio of 1 becomes.
     out : array of int8, optional
-        Where they are written: of the shape of `llr`.
+        Where they are written: of the shape of `llr`, and of any layout.
 
     Returns
     -------
@@ -47,8 +51,8 @@ def quantise(llr: npt.ArrayLike, scale: float = 1.0, *, out: Softs | None = None
 
     Raises
     ------
-    ValueError
-        A ratio isn't a number, or the scale isn't finite.
+    Refused
+        OUT_OF_RANGE: a ratio is NaN, or the scale isn't finite.
 
     Examples
     --------
@@ -56,14 +60,17 @@ def quantise(llr: npt.ArrayLike, scale: float = 1.0, *, out: Softs | None = None
     [2, -34, 127, 127]
     """
     if not np.isfinite(scale):
-        raise ValueError("the scale is finite")
-    scaled: Any = np.asarray(llr, dtype=np.float64) * scale
+        raise Refused(Answer.OUT_OF_RANGE, "the scale is finite")
+    given = numbers_of(llr, "biuf", "log-likelihood ratios", "real numbers")
+    scaled: Any = np.asarray(given, np.float64) * scale
     if np.isnan(scaled).any():
-        raise ValueError("a log-likelihood ratio is a number")
+        raise Refused(Answer.OUT_OF_RANGE, "a log-likelihood ratio is a number")
     made = np.clip(np.rint(scaled), -127, 127)
     if out is None:
         return np.asarray(made.astype(np.int8))
-    if out.dtype != np.int8:
+    if not isinstance(out, np.ndarray) or out.dtype != np.int8:
         raise TypeError("out is an array of int8")
+    if out.shape != made.shape:
+        raise ValueError(f"out is of the shape {made.shape}")
     np.copyto(out, made, casting="unsafe")
     return out

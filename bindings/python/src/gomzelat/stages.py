@@ -12,17 +12,23 @@ import numpy as np
 import numpy.typing as npt
 
 from . import library
-from .arrays import Bits, BytesLike, bits_of, buffer_size, bytes_of, number
+from .arrays import Bits, BytesLike, buffer_size, bytes_of, number
 from .sender import MOST_BITS, plan
-from .values import Piece, Transmission
+from .values import Piece, Transmission, known
 
 #: What stands for a NULL in a coded stream.
 NULL = 2
-_CHECK_BITS = 24
 
 
 def code_block(payload: BytesLike, r: int) -> Bits:
-    """Return the bits of code block `r`, counted from 0 (36.212 5.1.1, 5.1.2).
+    """Return the bits of a code block (36.212 5.1.1, 5.1.2).
+
+    Parameters
+    ----------
+    payload : array of uint8, or bytes
+        The transport block: 1 to 18,722 bytes.
+    r : int
+        The code block, counted from 0.
 
     Returns
     -------
@@ -46,7 +52,14 @@ def code_block(payload: BytesLike, r: int) -> Bits:
 
 
 def streams(payload: BytesLike, r: int) -> Bits:
-    """Return the coded streams d0, d1 and d2 of code block `r`, counted from 0 (36.212 5.1.3.2).
+    """Return the coded streams d0, d1 and d2 of a code block (36.212 5.1.3.2).
+
+    Parameters
+    ----------
+    payload : array of uint8, or bytes
+        The transport block: 1 to 18,722 bytes.
+    r : int
+        The code block, counted from 0.
 
     Returns
     -------
@@ -118,6 +131,11 @@ def piece(length: int, r: int, transmission: Transmission, n_ir: int = 0) -> Pie
     n_ir : int
         As for `codeword`.
 
+    Returns
+    -------
+    Piece
+        K, its fillers, K_w, N_cb, k0 and E.
+
     Raises
     ------
     Refused
@@ -129,13 +147,24 @@ def piece(length: int, r: int, transmission: Transmission, n_ir: int = 0) -> Pie
     132
     """
     out = library.CPiece()
-    told, limit = transmission.in_c(), buffer_size(n_ir)
+    told, limit = known(transmission, Transmission).in_c(), buffer_size(n_ir)
     library.call("piece", number(length, 64), number(r, 64), told, limit, ctypes.byref(out))
     return Piece(**{name: getattr(out, name) for name, _ in library.CPiece._fields_})  # type: ignore[misc]
 
 
 def select(payload: BytesLike, r: int, transmission: Transmission, n_ir: int = 0) -> Bits:
-    """Return the bits that code block `r` sends in a transmission (36.212 5.1.4.1.2).
+    """Return the bits that a code block sends in a transmission (36.212 5.1.4.1.2).
+
+    Parameters
+    ----------
+    payload : array of uint8, or bytes
+        The transport block: 1 to 18,722 bytes.
+    r : int
+        The code block, counted from 0.
+    transmission : Transmission
+        Its numbers.
+    n_ir : int
+        As for `codeword`.
 
     Returns
     -------
@@ -152,46 +181,12 @@ def select(payload: BytesLike, r: int, transmission: Transmission, n_ir: int = 0
     >>> select(b"\\0\\1", 0, Transmission(qm=2, g=8, rv=1)).tolist()
     [0, 0, 1, 0, 0, 1, 0, 0]
     """
-    data, told = bytes_of(payload, "payload"), transmission.in_c()
+    data, told = bytes_of(payload, "payload"), known(transmission, Transmission).in_c()
     # No code block sends more than the transmission has.
     out = np.zeros(min(told.g, MOST_BITS), np.uint8)
     words = (library.at(data), data.size, number(r, 64), told, buffer_size(n_ir), library.at(out), out.size)
     library.call("select", *words)
     return out[: piece(data.size, r, transmission, n_ir).bits]
-
-
-def crc24a(bits: npt.ArrayLike) -> Bits:
-    """Return the 24 check bits of bits by g_CRC24A, the first one first (36.212 5.1.1).
-
-    Parameters
-    ----------
-    bits : array of uint8 or bool
-        0 or 1 in an item; any number of them.
-
-    Examples
-    --------
-    >>> np.packbits(crc24a([0] * 15 + [1])).tobytes().hex()
-    '864cfb'
-    """
-    return _checked("crc24a", bits)
-
-
-def crc24b(bits: npt.ArrayLike) -> Bits:
-    """Return the 24 check bits of bits by g_CRC24B, the first one first (36.212 5.1.1).
-
-    Examples
-    --------
-    >>> np.packbits(crc24b([0] * 15 + [1])).tobytes().hex()
-    '800063'
-    """
-    return _checked("crc24b", bits)
-
-
-def _checked(name: str, bits: Any) -> Bits:
-    data = bits_of(bits)
-    out = np.zeros(_CHECK_BITS, np.uint8)
-    library.call(name, library.at(data), data.size, library.at(out), out.size)
-    return out
 
 
 def _size(length: int, r: Any) -> int:

@@ -1,13 +1,29 @@
-"""What the calls take and give beside arrays."""
+"""What the calls of the sender take and give beside arrays."""
 
 from __future__ import annotations
 
 import ctypes
+from collections.abc import Sequence
 from dataclasses import dataclass
-from enum import IntEnum
+from typing import Any, TypeVar
 
 from . import library
-from .arrays import Bits, Bytes, number
+from .arrays import number
+
+_Kind = TypeVar("_Kind")
+
+
+def known(value: Any, kind: type[_Kind]) -> _Kind:
+    """Returns what a caller passed as a structure, where it is one."""
+    if not isinstance(value, kind):
+        raise TypeError(f"a {kind.__name__} is wanted, and {value!r} is a {type(value).__name__}")
+    return value
+
+
+def in_c(transmissions: Sequence[Transmission]) -> ctypes.Array[Any]:
+    """Returns transmissions as C takes them."""
+    told = [known(it, Transmission).in_c() for it in transmissions]
+    return (library.CTransmission * len(told))(*told)
 
 
 @dataclass(frozen=True)
@@ -44,8 +60,24 @@ class Transmission:
 class Plan:
     """How a transport block is cut into code blocks (36.212 5.1.2).
 
-    The first `c_minus` of the `c` code blocks have `k_minus` bits, the others, `c_plus` of them, `k_plus`, and `f`
-    fillers stand first in the first one.
+    The code blocks of `k_minus` bits come before those of `k_plus`.
+
+    Attributes
+    ----------
+    c : int
+        C, the code blocks: 1 to 25.
+    k_plus, k_minus : int
+        K+ and K-, the bits of a code block of either size; K- is 0 where all have K+.
+    c_plus, c_minus : int
+        C+ and C-, how many there are of either size.
+    f : int
+        F, the fillers, which stand first in the first code block.
+
+    Examples
+    --------
+    >>> import gomzelat
+    >>> gomzelat.plan(766)
+    Plan(c=2, k_plus=3136, k_minus=3072, c_plus=1, c_minus=1, f=8)
     """
 
     c: int
@@ -56,7 +88,17 @@ class Plan:
     f: int
 
     def size(self, r: int) -> int:
-        """Returns K of code block `r`, counted from 0.
+        """Return K of code block `r`, counted from 0.
+
+        Parameters
+        ----------
+        r : int
+            The code block, which isn't tested.
+
+        Returns
+        -------
+        int
+            K- or K+, bits.
 
         Examples
         --------
@@ -82,6 +124,12 @@ class Piece:
         k0, the place that is sent first, which is below N_cb or is taken modulo N_cb.
     bits : int
         E, the bits that are sent.
+
+    Examples
+    --------
+    >>> import gomzelat
+    >>> gomzelat.piece(2, 0, Transmission(qm=2, g=132, rv=2))
+    Piece(k=40, fill=0, buffer=192, places=192, start=100, bits=132)
     """
 
     k: int
@@ -94,102 +142,24 @@ class Piece:
 
 @dataclass(frozen=True)
 class Sizes:
-    """What is kept of a transport block between transmissions: soft cells, code blocks, and bits of code blocks."""
+    """What is kept of a transport block between transmissions.
+
+    Attributes
+    ----------
+    cells : int
+        Its soft cells, 3 * (K + 4) for each code block.
+    blocks : int
+        C, its code blocks.
+    bits : int
+        The bits of all code blocks.
+
+    Examples
+    --------
+    >>> import gomzelat
+    >>> gomzelat.sizes(2)
+    Sizes(cells=132, blocks=1, bits=40)
+    """
 
     cells: int
     blocks: int
     bits: int
-
-
-@dataclass(frozen=True, eq=False)
-class Outcome:
-    """What the transmissions of a transport block came to.
-
-    Attributes
-    ----------
-    payload : array of uint8, or None
-        Its bytes, or None where it wasn't delivered.
-    transmissions : int
-        Those up to the first after which all checks held, else all.
-    iterations : int
-        Those of all code blocks, in the decoding of each that was the last.
-    """
-
-    payload: Bytes | None
-    transmissions: int
-    iterations: int
-
-    @property
-    def delivered(self) -> bool:
-        """Whether all checks held."""
-        return self.payload is not None
-
-
-class Check(IntEnum):
-    """The check that a code block ends with (36.212 5.1.1): CRC24B where a transport block has several."""
-
-    CRC24A = 0
-    CRC24B = 1
-
-
-@dataclass(frozen=True, eq=False)
-class Decoded:
-    """What a code block by itself came to.
-
-    Attributes
-    ----------
-    bits : array of uint8
-        Its K bits, 0 or 1 in an item, fillers 0, whether or not the check holds.
-    passed : bool
-        Whether its check holds.
-    iterations : int
-        Those that it took.
-    """
-
-    bits: Bits
-    passed: bool
-    iterations: int
-
-
-@dataclass(frozen=True)
-class Scrambling:
-    """What the bits of a transmission are scrambled by (36.211 6.3.1; 5.3.1 with q = 0).
-
-    Attributes
-    ----------
-    rnti : int
-        n_RNTI, the terminal's identity: 0 to 65,535.
-    q : int
-        The number of the codeword: 0 or 1; 0 in the uplink.
-    slot : int
-        n_s, the slot within the radio frame: 0 to 19.
-    cell : int
-        The identity of the cell: 0 to 503.
-    """
-
-    rnti: int
-    q: int = 0
-    slot: int = 0
-    cell: int = 0
-
-    def in_c(self) -> ctypes.Structure:
-        return library.CScrambling(number(self.rnti), number(self.q), number(self.slot), number(self.cell))
-
-
-@dataclass(frozen=True)
-class Channel:
-    """A channel of whole numbers, which is the same on every machine.
-
-    Attributes
-    ----------
-    amp : int
-        The soft value of a bit 0, 1 to 127; that of a bit 1 is its negative.
-    noise : int
-        The standard deviation of the noise, nearly: 0 to 127.
-    seed : int
-        What the noise comes from: 0 to 2^64 - 1.
-    """
-
-    amp: int
-    noise: int
-    seed: int

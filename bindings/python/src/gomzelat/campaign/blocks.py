@@ -9,12 +9,11 @@ import numpy as np
 import numpy.typing as npt
 
 from ..arrays import Bytes, Softs, unpack
-from ..channel import noisy, trial_payload
+from ..channel import Channel, noisy, trial_payload
 from ..harq import Harq
+from ..points import UNIT_POWER, demap_points, map_bits
 from ..sender import codeword
-from ..signals import UNIT_POWER, demap_points, map_bits
 from ..soft import quantise
-from ..values import Channel
 from .curves import Point
 
 #: What a block came to.

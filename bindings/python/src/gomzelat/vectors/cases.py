@@ -5,8 +5,9 @@ from __future__ import annotations
 from collections.abc import Iterator
 from dataclasses import dataclass, field
 
+from ..channel import Channel
 from ..sender import plan
-from ..values import Channel, Transmission
+from ..values import Transmission
 
 
 @dataclass(frozen=True)

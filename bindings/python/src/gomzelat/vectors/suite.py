@@ -14,10 +14,11 @@ import numpy as np
 from .. import library
 from ..arrays import Bytes, Softs, pack, unpack
 from ..channel import noisy, trial_payload
+from ..checks import crc24a
 from ..origin import origin
 from ..receiver import receive
 from ..sender import codeword, plan
-from ..stages import code_block, crc24a, piece, select, streams
+from ..stages import code_block, piece, select, streams
 from .cases import Case
 from .hexfiles import write
 
