@@ -2,7 +2,7 @@
 
 use crate::error::done;
 use crate::types::Channel;
-use crate::{Error, MOST_BYTES, ffi};
+use crate::{ffi, Error, MOST_BYTES};
 
 /// A soft value for each of the first `count` bits, as the channel makes them of transmission `number`, 0 to 7, of a
 /// block, both counted from 0.
@@ -10,6 +10,16 @@ use crate::{Error, MOST_BYTES, ffi};
 /// # Errors
 ///
 /// `BadBits`, `BadAmp`, `BadNoise` or `BadNumber` for what is refused, the first in this order; `NoMemory`.
+///
+/// # Examples
+///
+/// ```
+/// use gomzelat::{noisy, Channel};
+///
+/// let values = noisy(&[0], 8, Channel { seed: 5, amp: 40, noise: 20 }, 0, 0)?;
+/// assert_eq!(values, [16, 62, 52, 20, 50, 53, 27, 67]);
+/// # Ok::<(), gomzelat::Error>(())
+/// ```
 pub fn noisy(
     bits: &[u8],
     count: usize,
@@ -40,7 +50,14 @@ pub fn noisy(
 /// # Errors
 ///
 /// `BadLength`; `NoMemory`.
-pub fn payload(length: usize, seed: u64, block: u32) -> Result<Vec<u8>, Error> {
+///
+/// # Examples
+///
+/// ```
+/// assert_eq!(gomzelat::trial_payload(4, 1, 0)?, [0xA5, 0x55, 0x5A, 0x93]);
+/// # Ok::<(), gomzelat::Error>(())
+/// ```
+pub fn trial_payload(length: usize, seed: u64, block: u32) -> Result<Vec<u8>, Error> {
     // One byte too many is refused as any greater length is.
     let mut out = vec![0; length.min(MOST_BYTES + 1)];
     // SAFETY: pointer and length are those of a slice that is borrowed for the call.

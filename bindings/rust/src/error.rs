@@ -3,6 +3,16 @@
 use std::fmt;
 
 /// What is refused, or that memory ran out. A later version of the library may refuse more.
+///
+/// # Examples
+///
+/// ```
+/// use gomzelat::{plan, Error};
+///
+/// let error = plan(0).unwrap_err();
+/// assert_eq!(error, Error::BadLength);
+/// assert_eq!(error.to_string(), "a payload has 1 to 18722 bytes");
+/// ```
 #[derive(Clone, Copy, Debug, PartialEq, Eq, Hash)]
 #[non_exhaustive]
 pub enum Error {

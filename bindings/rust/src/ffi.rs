@@ -52,7 +52,7 @@ pub struct Code {
     pub check: u32,
 }
 
-unsafe extern "C" {
+extern "C" {
     pub fn gomzelat_codeword(
         payload: *const u8,
         length: usize,

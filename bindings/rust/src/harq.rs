@@ -2,9 +2,29 @@
 
 use crate::error::done;
 use crate::types::{Receiver, Transmission};
-use crate::{Error, ffi};
+use crate::{ffi, Error};
 
 /// What is known of a transport block between its transmissions: soft cells, and what its code blocks came to.
+///
+/// # Examples
+///
+/// ```
+/// use gomzelat::{codeword, noisy, Buffer, Channel, Harq, Receiver, Transmission};
+///
+/// let receiver = Receiver { buffer: Buffer::Full, windows: 8, limit: 8 };
+/// let channel = Channel { seed: 1, amp: 40, noise: 10 };
+/// let mut harq = Harq::new(2, receiver)?;
+/// for (number, rv) in (0..).zip([0, 2, 3, 1]) {
+///     let sent = Transmission { qm: 2, nl: 1, g: 60, rv };
+///     let values = noisy(&codeword(&[0, 1], sent, Buffer::Full)?, 60, channel, 0, number)?;
+///     harq.combine(sent, &values)?;
+///     if harq.decode()?.delivered {
+///         break;
+///     }
+/// }
+/// assert_eq!(harq.decode()?.payload, [0, 1]);
+/// # Ok::<(), gomzelat::Error>(())
+/// ```
 #[derive(Clone, Debug)]
 pub struct Harq {
     length: usize,
@@ -15,7 +35,7 @@ pub struct Harq {
     payload: Vec<u8>,
 }
 
-/// What a try came to.
+/// What a try came to. [`Harq::decode`] has an example.
 #[derive(Clone, Copy, Debug, PartialEq, Eq)]
 pub struct Try<'a> {
     /// Whether the checks of all code blocks and of the transport block hold.
@@ -36,6 +56,17 @@ impl Harq {
     /// # Errors
     ///
     /// `BadLength`.
+    ///
+    /// # Examples
+    ///
+    /// ```
+    /// use gomzelat::{Buffer, Harq, Receiver};
+    ///
+    /// let receiver = Receiver { buffer: Buffer::Full, windows: 8, limit: 8 };
+    /// assert!(Harq::new(18_722, receiver).is_ok());
+    /// assert_eq!(Harq::new(0, receiver).err(), Some(gomzelat::Error::BadLength));
+    /// # Ok::<(), gomzelat::Error>(())
+    /// ```
     pub fn new(length: usize, receiver: Receiver) -> Result<Harq, Error> {
         let mut sizes = ffi::Sizes::default();
         // SAFETY: the reference is that of a structure of its own.
@@ -56,6 +87,17 @@ impl Harq {
     ///
     /// `BadQm`, `BadNl`, `BadG`, `BadVersion`, `BadBuffer` or `BadValues` for what is refused, the first in this order;
     /// `NoMemory`. Nothing is added then.
+    ///
+    /// # Examples
+    ///
+    /// ```
+    /// use gomzelat::{Buffer, Harq, Receiver, Transmission};
+    ///
+    /// let receiver = Receiver { buffer: Buffer::Full, windows: 8, limit: 8 };
+    /// let mut harq = Harq::new(2, receiver)?;
+    /// harq.combine(Transmission { qm: 2, nl: 1, g: 4, rv: 0 }, &[40, 40, -40, 40])?;
+    /// # Ok::<(), gomzelat::Error>(())
+    /// ```
     pub fn combine(&mut self, transmission: Transmission, values: &[i8]) -> Result<(), Error> {
         // SAFETY: pointers and lengths are those of slices that are borrowed for the call, and only `cells` is written
         // to.
@@ -77,6 +119,19 @@ impl Harq {
     /// # Errors
     ///
     /// `BadBuffer`, `BadWindows` or `BadLimit` for what is refused, the first in this order; `NoMemory`.
+    ///
+    /// # Examples
+    ///
+    /// ```
+    /// use gomzelat::{Buffer, Harq, Receiver, Transmission};
+    ///
+    /// let receiver = Receiver { buffer: Buffer::Full, windows: 8, limit: 8 };
+    /// let mut harq = Harq::new(2, receiver)?;
+    /// harq.combine(Transmission { qm: 2, nl: 1, g: 132, rv: 0 }, &[-9; 132])?;
+    /// let now = harq.decode()?;
+    /// assert_eq!((now.delivered, now.failed_blocks, now.iterations), (false, 1, 8));
+    /// # Ok::<(), gomzelat::Error>(())
+    /// ```
     pub fn decode(&mut self) -> Result<Try<'_>, Error> {
         let mut delivered = 0;
         // SAFETY: pointers and lengths are those of slices that are borrowed for the call, none of which overlaps

@@ -21,6 +21,8 @@
 //! # Ok::<(), gomzelat::Error>(())
 //! ```
 
+#![deny(missing_docs)]
+
 mod channel;
 mod error;
 mod ffi;
@@ -29,7 +31,7 @@ pub mod signals;
 pub mod stages;
 mod types;
 
-pub use channel::{noisy, payload};
+pub use channel::{noisy, trial_payload};
 pub use error::Error;
 pub use harq::{Harq, Try};
 pub use types::{Buffer, Channel, Outcome, Plan, Receiver, Transmission};
@@ -42,19 +44,34 @@ pub const MOST_BYTES: usize = 18_722;
 /// The bits of the longest transmission.
 pub const MOST_BITS: u32 = 1_000_000;
 
+/// The bytes of `g` bits, or of the longest transmission where there are more.
+fn bytes_of(g: u32) -> usize {
+    (g.min(MOST_BITS) as usize + 7) / 8
+}
+
 /// The codeword of a payload of 1 to 18,722 bytes: its G bits, with unused low bits of the last byte 0.
 ///
 /// # Errors
 ///
 /// `BadLength`, `BadQm`, `BadNl`, `BadG`, `BadVersion` or `BadBuffer` for what is refused, the first in this order;
 /// `NoMemory`.
+///
+/// # Examples
+///
+/// ```
+/// use gomzelat::{codeword, Buffer, Transmission};
+///
+/// let bits = codeword(&[0, 1], Transmission { qm: 2, nl: 1, g: 8, rv: 1 }, Buffer::Full)?;
+/// assert_eq!(bits, [0x24]);
+/// # Ok::<(), gomzelat::Error>(())
+/// ```
 pub fn codeword(
     payload: &[u8],
     transmission: Transmission,
     buffer: Buffer,
 ) -> Result<Vec<u8>, Error> {
     // A greater G is refused, with no need of room.
-    let mut out = vec![0; (transmission.g.min(MOST_BITS) as usize).div_ceil(8)];
+    let mut out = vec![0; bytes_of(transmission.g)];
     // SAFETY: pointers and lengths are those of slices that are borrowed for the call, and only `out` is written to.
     done(unsafe {
         ffi::gomzelat_codeword(
@@ -75,16 +92,23 @@ pub fn codeword(
 ///
 /// `BadLength`, `BadCount`, `BadQm`, `BadNl`, `BadG`, `BadVersion` or `BadBuffer` for what is refused, the first in this
 /// order; `NoMemory`.
+///
+/// # Examples
+///
+/// ```
+/// use gomzelat::{codewords, Buffer, Transmission};
+///
+/// let sent = [1, 2].map(|rv| Transmission { qm: 2, nl: 1, g: 8, rv });
+/// assert_eq!(codewords(&[0, 1], &sent, Buffer::Full)?, [[0x24], [0xE6]]);
+/// # Ok::<(), gomzelat::Error>(())
+/// ```
 pub fn codewords(
     payload: &[u8],
     transmissions: &[Transmission],
     buffer: Buffer,
 ) -> Result<Vec<Vec<u8>>, Error> {
     // More transmissions, and a greater G, are refused, with no need of room.
-    let sizes = transmissions
-        .iter()
-        .take(8)
-        .map(|it| (it.g.min(MOST_BITS) as usize).div_ceil(8));
+    let sizes = transmissions.iter().take(8).map(|it| bytes_of(it.g));
     let mut out = vec![0; sizes.clone().sum()];
     // SAFETY: pointers and lengths are those of slices that are borrowed for the call, and only `out` is written to.
     done(unsafe {
@@ -107,7 +131,13 @@ pub fn codewords(
     Ok(sizes.map(next).collect())
 }
 
-/// The edition of the library that is linked.
+/// The edition of the library that is linked. This crate is written for the second.
+///
+/// # Examples
+///
+/// ```
+/// assert_eq!(gomzelat::version(), 2);
+/// ```
 pub fn version() -> u32 {
     // SAFETY: nothing is passed.
     unsafe { ffi::gomzelat_version() }
@@ -118,6 +148,14 @@ pub fn version() -> u32 {
 /// # Errors
 ///
 /// `BadLength`.
+///
+/// # Examples
+///
+/// ```
+/// let plan = gomzelat::plan(9422)?;
+/// assert_eq!((plan.c, plan.k_plus), (13, 5824));
+/// # Ok::<(), gomzelat::Error>(())
+/// ```
 pub fn plan(length: usize) -> Result<Plan, Error> {
     let mut plan = Plan::default();
     // SAFETY: the reference is that of a plan of its own.
@@ -132,6 +170,18 @@ pub fn plan(length: usize) -> Result<Plan, Error> {
 ///
 /// `BadLength`, `BadCount`, `BadQm`, `BadNl`, `BadG`, `BadVersion`, `BadBuffer`, `BadWindows`, `BadLimit` or
 /// `BadValues` for what is refused, the first in this order, and transmission after transmission; `NoMemory`.
+///
+/// # Examples
+///
+/// ```
+/// use gomzelat::{receive, Buffer, Outcome, Receiver, Transmission};
+///
+/// let sent = Transmission { qm: 2, nl: 1, g: 132, rv: 0 };
+/// let receiver = Receiver { buffer: Buffer::Full, windows: 8, limit: 4 };
+/// let outcome = receive(2, &[sent], receiver, &[-9; 132])?;
+/// assert_eq!(outcome, Outcome::Failed { transmissions: 1, iterations: 4 });
+/// # Ok::<(), gomzelat::Error>(())
+/// ```
 pub fn receive(
     length: usize,
     transmissions: &[Transmission],

@@ -1,24 +1,29 @@
 //! Scrambling and constellation points (36.211).
 
 use crate::error::done;
-use crate::{Error, ffi};
+use crate::{ffi, Error};
 
-/// What the bits of a transmission are scrambled by: n_RNTI, 0 to 65,535; q, 0 or 1; n_s, 0 to 19; and the cell's
-/// identity, 0 to 503.
+/// What the bits of a transmission are scrambled by. [`scrambling_init`] has an example.
 #[repr(C)]
 #[derive(Clone, Copy, Debug, PartialEq, Eq, Hash)]
 pub struct Scrambling {
+    /// n_RNTI, the terminal's identity: 0 to 65,535.
     pub rnti: u32,
+    /// The number of the codeword: 0 or 1; 0 in the uplink.
     pub q: u32,
+    /// n_s, the slot within the radio frame: 0 to 19.
     pub slot: u32,
+    /// The identity of the cell: 0 to 503.
     pub cell: u32,
 }
 
-/// A point of a constellation, or one that was received.
+/// A point of a constellation, or one that was received. [`map`] has an example.
 #[repr(C)]
 #[derive(Clone, Copy, Debug, Default, PartialEq, Eq, Hash)]
 pub struct Point {
+    /// The real part.
     pub i: i32,
+    /// The imaginary part.
     pub q: i32,
 }
 
@@ -27,6 +32,15 @@ pub struct Point {
 /// # Errors
 ///
 /// `BadScrambling`.
+///
+/// # Examples
+///
+/// ```
+/// use gomzelat::signals::{scrambling_init, Scrambling};
+///
+/// assert_eq!(scrambling_init(Scrambling { rnti: 1, q: 0, slot: 2, cell: 3 })?, 16899);
+/// # Ok::<(), gomzelat::Error>(())
+/// ```
 pub fn scrambling_init(scrambling: Scrambling) -> Result<u32, Error> {
     let mut init = 0;
     // SAFETY: the reference is that of a number of its own.
@@ -39,6 +53,17 @@ pub fn scrambling_init(scrambling: Scrambling) -> Result<u32, Error> {
 /// # Errors
 ///
 /// `BadBits` or `BadScrambling` for what is refused, the first in this order; `NoMemory`.
+///
+/// # Examples
+///
+/// ```
+/// use gomzelat::signals::{scramble, Scrambling};
+///
+/// let mut bits = [0; 4];
+/// scramble(&mut bits, 32, Scrambling { rnti: 0, q: 0, slot: 0, cell: 0 })?;
+/// assert_eq!(bits, [0x02, 0x1A, 0x12, 0x7A]);
+/// # Ok::<(), gomzelat::Error>(())
+/// ```
 pub fn scramble(bits: &mut [u8], count: usize, scrambling: Scrambling) -> Result<(), Error> {
     // SAFETY: pointer and length are those of a slice that is borrowed for the call.
     done(unsafe { ffi::gomzelat_scramble(bits.as_mut_ptr(), bits.len(), count, scrambling) })
@@ -49,6 +74,17 @@ pub fn scramble(bits: &mut [u8], count: usize, scrambling: Scrambling) -> Result
 /// # Errors
 ///
 /// `BadScrambling`; `NoMemory`.
+///
+/// # Examples
+///
+/// ```
+/// use gomzelat::signals::{descramble, Scrambling};
+///
+/// let mut values = [9; 8];
+/// descramble(&mut values, Scrambling { rnti: 0, q: 0, slot: 0, cell: 0 })?;
+/// assert_eq!(values, [9, 9, 9, 9, 9, 9, -9, 9]);
+/// # Ok::<(), gomzelat::Error>(())
+/// ```
 pub fn descramble(values: &mut [i8], scrambling: Scrambling) -> Result<(), Error> {
     // SAFETY: pointer and length are those of a slice that is borrowed for the call.
     done(unsafe { ffi::gomzelat_descramble(values.as_mut_ptr(), values.len(), scrambling) })
@@ -59,6 +95,15 @@ pub fn descramble(values: &mut [i8], scrambling: Scrambling) -> Result<(), Error
 /// # Errors
 ///
 /// `BadQm`, `BadBits` or `BadPoints` for what is refused, the first in this order; `NoMemory`.
+///
+/// # Examples
+///
+/// ```
+/// use gomzelat::signals::{map, Point};
+///
+/// assert_eq!(map(&[0b0000_1011], 8, 4)?, [Point { i: 1, q: 1 }, Point { i: -3, q: 3 }]);
+/// # Ok::<(), gomzelat::Error>(())
+/// ```
 pub fn map(bits: &[u8], count: usize, qm: u32) -> Result<Vec<Point>, Error> {
     // More bits than there are are refused, with no need of room.
     let mut points = vec![Point::default(); count.min(bits.len().saturating_mul(8))];
@@ -82,6 +127,15 @@ pub fn map(bits: &[u8], count: usize, qm: u32) -> Result<Vec<Point>, Error> {
 /// # Errors
 ///
 /// `BadQm`, `BadAmp` or `BadPoints` for what is refused, the first in this order; `NoMemory`.
+///
+/// # Examples
+///
+/// ```
+/// use gomzelat::signals::{demap, Point};
+///
+/// assert_eq!(demap(&[Point { i: 40, q: -30 }], 2, 40)?, [40, -30]);
+/// # Ok::<(), gomzelat::Error>(())
+/// ```
 pub fn demap(points: &[Point], qm: u32, amp: u32) -> Result<Vec<i8>, Error> {
     // A greater Q_m is refused, with no need of room.
     let mut out = vec![0; points.len() * qm.min(6) as usize];

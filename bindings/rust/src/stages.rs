@@ -1,22 +1,29 @@
-//! The stages of the chain one by one, for whoever looks for the one at which a codec of their own differs.
+//! The stages of the chain one by one, for whoever looks for the one at which a codec of their own differs (36.212 5.1.1
+//! to 5.1.4).
 
 use crate::error::done;
 use crate::types::{Buffer, Transmission};
-use crate::{Error, ffi, plan};
+use crate::{ffi, plan, Error};
 
-/// What a code block sends of its circular buffer: K, its fillers, K_w, N_cb, k0 and E.
+/// What a code block sends of its circular buffer (36.212 5.1.4.1.2). [`piece`] has an example.
 #[repr(C)]
 #[derive(Clone, Copy, Debug, Default, PartialEq, Eq, Hash)]
 pub struct Piece {
+    /// K, its bits.
     pub k: usize,
+    /// How many of them are fillers.
     pub fill: usize,
+    /// K_w, the places of its circular buffer.
     pub buffer: usize,
+    /// N_cb, those of them from which it sends.
     pub places: usize,
+    /// k0, the place that is sent first, which is below N_cb or is taken modulo N_cb.
     pub start: usize,
+    /// E, the bits that are sent.
     pub bits: usize,
 }
 
-/// The generator of check bits.
+/// The generator of check bits (36.212 5.1.1). [`check_bits`] has an example.
 #[derive(Clone, Copy, Debug, PartialEq, Eq, Hash)]
 pub enum Check {
     /// That of a transport block, and of a code block that is the only one.
@@ -25,11 +32,14 @@ pub enum Check {
     Crc24B,
 }
 
-/// What one code block came to: its bits, each 0 or 1, whether or not its check holds.
+/// What one code block came to. [`decode_block`] has an example.
 #[derive(Clone, Debug, PartialEq, Eq, Hash)]
 pub struct DecodedBlock {
+    /// Its bits, each 0 or 1, whether or not its check holds.
     pub bits: Vec<u8>,
+    /// Whether its check holds.
     pub passed: bool,
+    /// The iterations that it took.
     pub iterations: usize,
 }
 
@@ -49,6 +59,14 @@ fn block_size(length: usize, r: usize) -> usize {
 /// # Errors
 ///
 /// `BadLength` or `BadBlock` for what is refused, the first in this order; `NoMemory`.
+///
+/// # Examples
+///
+/// ```
+/// let bits = gomzelat::stages::code_block(&[0, 1], 0)?;
+/// assert_eq!((bits.len(), &bits[14..16]), (40, &[0, 1][..]));
+/// # Ok::<(), gomzelat::Error>(())
+/// ```
 pub fn code_block(payload: &[u8], r: usize) -> Result<Vec<u8>, Error> {
     let mut out = vec![0; block_size(payload.len(), r)];
     // SAFETY: pointers and lengths are those of slices that are borrowed for the call, and only `out` is written to.
@@ -69,6 +87,15 @@ pub fn code_block(payload: &[u8], r: usize) -> Result<Vec<u8>, Error> {
 /// # Errors
 ///
 /// `BadLength` or `BadBlock` for what is refused, the first in this order; `NoMemory`.
+///
+/// # Examples
+///
+/// ```
+/// let [d0, _, d2] = gomzelat::stages::streams(&[0], 0)?;
+/// // The first 8 of 40 bits are fillers.
+/// assert_eq!((d0[7], d0[8], d2[0]), (None, Some(0), Some(0)));
+/// # Ok::<(), gomzelat::Error>(())
+/// ```
 pub fn streams(payload: &[u8], r: usize) -> Result<[Vec<Option<u8>>; 3], Error> {
     let size = block_size(payload.len(), r) + 4;
     let mut out = vec![0; 3 * size];
@@ -97,8 +124,16 @@ pub fn streams(payload: &[u8], r: usize) -> Result<[Vec<Option<u8>>; 3], Error> 
 /// # Errors
 ///
 /// `BadLength` or `BadBlock` for what is refused, the first in this order; `NoMemory`.
+///
+/// # Examples
+///
+/// ```
+/// let spots = gomzelat::stages::spots(2, 0)?;
+/// assert_eq!(spots[..4], [None, Some((0, 12)), None, Some((0, 28))]);
+/// # Ok::<(), gomzelat::Error>(())
+/// ```
 pub fn spots(length: usize, r: usize) -> Result<Vec<Option<(u8, u16)>>, Error> {
-    let mut out = vec![0; 96 * (block_size(length, r) + 4).div_ceil(32)];
+    let mut out = vec![0; 96 * ((block_size(length, r) + 35) / 32)];
     // SAFETY: pointer and length are those of a slice that is borrowed for the call.
     done(unsafe { ffi::gomzelat_spots(length, r, out.as_mut_ptr(), out.len()) })?;
     let spot = |&number: &u32| {
@@ -112,6 +147,16 @@ pub fn spots(length: usize, r: usize) -> Result<Vec<Option<(u8, u16)>>, Error> {
 /// # Errors
 ///
 /// `BadLength`, `BadQm`, `BadNl`, `BadG`, `BadVersion`, `BadBuffer` or `BadBlock`, the first in this order.
+///
+/// # Examples
+///
+/// ```
+/// use gomzelat::{stages::piece, Buffer, Transmission};
+///
+/// let sent = piece(2, 0, Transmission { qm: 2, nl: 1, g: 132, rv: 2 }, Buffer::Full)?;
+/// assert_eq!((sent.buffer, sent.start, sent.bits), (192, 100, 132));
+/// # Ok::<(), gomzelat::Error>(())
+/// ```
 pub fn piece(
     length: usize,
     r: usize,
@@ -129,6 +174,16 @@ pub fn piece(
 /// # Errors
 ///
 /// Those of [`piece`]; `NoMemory`.
+///
+/// # Examples
+///
+/// ```
+/// use gomzelat::{stages::select, Buffer, Transmission};
+///
+/// let bits = select(&[0, 1], 0, Transmission { qm: 2, nl: 1, g: 8, rv: 1 }, Buffer::Full)?;
+/// assert_eq!(bits, [0, 0, 1, 0, 0, 1, 0, 0]);
+/// # Ok::<(), gomzelat::Error>(())
+/// ```
 pub fn select(
     payload: &[u8],
     r: usize,
@@ -156,6 +211,16 @@ pub fn select(
 /// # Errors
 ///
 /// `NoMemory`.
+///
+/// # Examples
+///
+/// ```
+/// use gomzelat::stages::{check_bits, Check};
+///
+/// let bits = check_bits(&[1], Check::Crc24B)?;
+/// assert_eq!(bits[..2], [1, 0]);
+/// # Ok::<(), gomzelat::Error>(())
+/// ```
 pub fn check_bits(bits: &[u8], check: Check) -> Result<[u8; 24], Error> {
     let mut out = [0; 24];
     let call = match check {
@@ -174,6 +239,16 @@ pub fn check_bits(bits: &[u8], check: Check) -> Result<[u8; 24], Error> {
 ///
 /// `BadSize`, `BadFillers`, `BadWindows`, `BadLimit` or `BadValues` for what is refused, the first in this order;
 /// `NoMemory`.
+///
+/// # Examples
+///
+/// ```
+/// use gomzelat::stages::{decode_block, Check};
+///
+/// let told = decode_block(40, 0, Check::Crc24A, 8, 8, &[20; 132])?;
+/// assert_eq!((told.bits, told.passed), (vec![0; 40], true));
+/// # Ok::<(), gomzelat::Error>(())
+/// ```
 pub fn decode_block(
     k: usize,
     fill: usize,

@@ -1,7 +1,7 @@
 //! The calls against worked values, and each refusal by its name.
 
+use gomzelat::{codeword, noisy, plan, receive, trial_payload};
 use gomzelat::{Buffer, Channel, Error, Harq, Outcome, Plan, Receiver, Transmission};
-use gomzelat::{codeword, noisy, payload, plan, receive};
 use std::num::NonZeroU32;
 
 const SENT: [u8; 2] = [0x00, 0x01];
@@ -91,7 +91,7 @@ fn a_codeword_is_the_worked_one() {
         codeword(&SENT, GOOD, limited(u32::MAX)).as_deref(),
         Ok(&CODEWORD[..])
     );
-    assert!(codeword(&SENT, GOOD, limited(64)).is_ok_and(|bits| bits != CODEWORD));
+    assert!(matches!(codeword(&SENT, GOOD, limited(64)), Ok(bits) if bits != CODEWORD));
     for (rv, byte) in [(1, 0x24), (2, 0xE6), (3, 0x10)] {
         let transmission = Transmission { g: 8, rv, ..GOOD };
         assert_eq!(codeword(&SENT, transmission, Buffer::Full), Ok(vec![byte]));
@@ -143,15 +143,14 @@ fn plans_are_those_of_the_standard() {
 #[test]
 fn what_was_sent_is_received() {
     let values = strong(&CODEWORD, 132);
-    let Ok(Outcome::Delivered {
-        payload,
-        transmissions: 1,
-        ..
-    }) = receive(2, &[GOOD], RECEIVER, &values)
-    else {
-        panic!("there is no noise");
-    };
-    assert_eq!(payload, SENT);
+    match receive(2, &[GOOD], RECEIVER, &values) {
+        Ok(Outcome::Delivered {
+            payload,
+            transmissions: 1,
+            ..
+        }) => assert_eq!(payload, SENT),
+        other => panic!("there is no noise: {other:?}"),
+    }
     let failed = receive(2, &[GOOD; 2], RECEIVER, &[-1; 264]);
     assert!(
         matches!(
@@ -227,7 +226,7 @@ fn noise_and_payloads_are_the_worked_ones() {
     ];
     assert_eq!(noisy(&[0; 3], 18, CHANNEL, 0, 0).as_deref(), Ok(&zeros[..]));
     assert_eq!(
-        payload(8, 1, 0),
+        trial_payload(8, 1, 0),
         Ok(vec![0xA5, 0x55, 0x5A, 0x93, 0x41, 0x03, 0x79, 0x52])
     );
     assert_eq!(noisy(&[], 0, CHANNEL, 0, 0), Ok(vec![]));
@@ -255,8 +254,8 @@ fn what_is_refused_of_a_channel_is_named() {
         Err(Error::BadNoise)
     );
     assert_eq!(noisy(&[0], 8, CHANNEL, 0, 8), Err(Error::BadNumber));
-    assert_eq!(payload(0, 1, 0), Err(Error::BadLength));
-    assert_eq!(payload(usize::MAX, 1, 0), Err(Error::BadLength));
+    assert_eq!(trial_payload(0, 1, 0), Err(Error::BadLength));
+    assert_eq!(trial_payload(usize::MAX, 1, 0), Err(Error::BadLength));
 }
 
 #[test]

@@ -1,10 +1,10 @@
 //! Stages, scrambling and points against each other and against worked values, and each refusal by its name.
 
-use gomzelat::signals::{Point, Scrambling, demap, descramble, map, scramble, scrambling_init};
+use gomzelat::signals::{demap, descramble, map, scramble, scrambling_init, Point, Scrambling};
 use gomzelat::stages::{
-    Check, check_bits, code_block, decode_block, piece, select, spots, streams,
+    check_bits, code_block, decode_block, piece, select, spots, streams, Check,
 };
-use gomzelat::{Buffer, Error, Transmission, codeword, codewords, version};
+use gomzelat::{codeword, codewords, version, Buffer, Error, Transmission};
 
 const SENT: [u8; 2] = [0x00, 0x01];
 const GOOD: Transmission = Transmission {
