@@ -187,21 +187,3 @@ def test_errors_that_no_check_told_are_drawn_apart(tmp_path):
     }
     draw(results, tmp_path / "a.svg")
     assert "1/2, undetected" in (tmp_path / "a.svg").read_text(encoding="utf-8")
-
-
-@pytest.mark.parametrize(
-    "bad",
-    [
-        Point(Curve("", 0, 1600), 0.0),
-        Point(Curve("", 100, 1601), 0.0),
-        Point(HALF, 0.0, amp=0, channel="integer"),
-    ],
-)
-def test_what_is_refused_arrives_from_another_process(bad):
-    with executor("processes", 1) as (pool, _), pytest.raises(gz.Refused):
-        measured(pool, points=[bad])
-
-
-def test_an_executor_has_a_name():
-    with pytest.raises(ValueError), executor("somewhere"):
-        pass

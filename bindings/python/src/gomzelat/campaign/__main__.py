@@ -16,7 +16,7 @@ from pathlib import Path
 import numpy as np
 from tqdm import tqdm
 
-from .curves import DEFAULT, Point, dump, load
+from .curves import CHANNELS, DEFAULT, Curve, Point, dump, load
 from .executors import NAMES, executor
 from .picture import draw
 from .running import Campaign
@@ -32,9 +32,7 @@ def _arguments() -> argparse.ArgumentParser:
         description=__doc__,
         formatter_class=argparse.RawDescriptionHelpFormatter,
     )
-    words.add_argument(
-        "--csv", required=True, type=Path, help="where results are kept; a later run goes on from them"
-    )
+    words.add_argument("--csv", type=Path, help="where results are kept; a later run goes on from them")
     words.add_argument("--picture", type=Path, help="where a picture is drawn: .svg, .png, .pdf")
     words.add_argument("--title", default="", help="what stands above the picture")
     words.add_argument(
@@ -61,7 +59,7 @@ def _arguments() -> argparse.ArgumentParser:
     )
     words.add_argument("--first", type=int, default=0, help="the number of the first block (0)")
     words.add_argument(
-        "--channel", choices=("awgn", "integer"), default="awgn", help="numpy's noise, or whole numbers"
+        "--channel", choices=CHANNELS, default="awgn", help="numpy's noise, or whole numbers"
     )
     words.add_argument("--amp", type=int, default=20, help="the soft value of a bit without noise (20)")
     words.add_argument("--seed", type=int, default=1)
@@ -102,16 +100,27 @@ def _measure(given: argparse.Namespace, points: list[Point]) -> None:
         write(given.csv, results)
 
 
+def _points(curves: list[Curve], given: argparse.Namespace) -> list[Point]:
+    first, last, step = given.snr
+    if not step > 0 or last < first:
+        raise ValueError("E_s/N_0 rises from FROM to TO by a STEP above 0")
+    levels = [round(float(it), 6) for it in np.arange(first, last + step / 2, step)]
+    return [Point(curve, snr, given.channel, given.amp, given.seed) for curve in curves for snr in levels]
+
+
 def main() -> int:
-    given = _arguments().parse_args()
+    words = _arguments()
+    given = words.parse_args()
     curves = load(given.curves) if given.curves else DEFAULT
     if given.dump_curves:
         dump(curves, given.dump_curves)
         return 0
-    first, last, step = given.snr
-    levels = [round(float(it), 6) for it in np.arange(first, last + step / 2, step)]
-    points = [Point(curve, snr, given.channel, given.amp, given.seed) for curve in curves for snr in levels]
-    _measure(given, points)
+    if given.csv is None:
+        words.error("--csv is missing")
+    try:
+        _measure(given, _points(curves, given))
+    except ValueError as error:
+        words.error(str(error))
     if given.picture:
         totals = summed([read(given.csv), *map(read, given.add)])
         order = {(curve, given.channel, given.amp, given.seed): number for number, curve in enumerate(curves)}

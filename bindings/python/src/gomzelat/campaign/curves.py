@@ -8,7 +8,12 @@ from dataclasses import asdict, dataclass
 from pathlib import Path
 from typing import Any
 
+from ..arrays import number, within
+from ..refused import Answer, Refused
 from ..values import Transmission
+
+
+CHANNELS = ("awgn", "integer")
 
 
 @dataclass(frozen=True)
@@ -24,6 +29,11 @@ class Curve:
         sent, N_L, and N_IR, or 0 for a full buffer.
     windows, limit : int
         The receiver's most windows and iterations of a code block.
+
+    Raises
+    ------
+    Refused
+        BAD_COUNT: there are no versions. The other numbers are tested with the first block.
 
     Examples
     --------
@@ -41,6 +51,11 @@ class Curve:
     n_ir: int = 0
     windows: int = 8
     limit: int = 8
+
+    def __post_init__(self) -> None:
+        object.__setattr__(self, "versions", tuple(map(int, self.versions)))
+        if not self.versions:
+            raise Refused(Answer.BAD_COUNT)
 
     @property
     def transmissions(self) -> list[Transmission]:
@@ -68,7 +83,14 @@ class Point:
     amp : int
         What a soft value of a bit without noise is: 1 to 127.
     seed : int
-        What payloads and noise come from, with the number of each block.
+        What payloads and noise come from, with the number of each block: 0 to 2^64 - 1.
+
+    Raises
+    ------
+    Refused
+        BAD_AMP, OUT_OF_RANGE.
+    ValueError
+        There is no such channel, or E_s/N_0 isn't finite.
     """
 
     curve: Curve
@@ -76,6 +98,15 @@ class Point:
     channel: str = "awgn"
     amp: int = 20
     seed: int = 1
+
+    def __post_init__(self) -> None:
+        if self.channel not in CHANNELS:
+            raise ValueError(f"a channel is one of {', '.join(CHANNELS)}")
+        if not math.isfinite(self.snr):
+            raise ValueError("E_s/N_0 is finite")
+        if not 1 <= number(self.amp) <= 127:
+            raise Refused(Answer.BAD_AMP)
+        within(self.seed, 64)
 
 
 #: Code rates 1/3, 1/2 and 3/4 of one transmission of 100 bytes, with one and with two sent.

@@ -50,6 +50,11 @@ class Campaign:
         The number of the first block.
     known : mapping from Point to Counts
         What an earlier campaign came to, from the same first block on.
+
+    Raises
+    ------
+    ValueError
+        `width` or `chunk` is below 1, or `first` below 0.
     """
 
     def __init__(
@@ -61,6 +66,8 @@ class Campaign:
         first: int = 0,
         known: Mapping[Point, Counts] | None = None,
     ) -> None:
+        if width < 1 or chunk < 1 or first < 0:
+            raise ValueError("a campaign has one call and block at least, and blocks are counted from 0")
         self.executor, self.stop, self.width, self.chunk, self.first = executor, stop, width, chunk, first
         self.known = known or {}
 

@@ -20,6 +20,10 @@ class Stop:
     blocks: int = 100_000
     floor: float = 0.0
 
+    def __post_init__(self) -> None:
+        if self.errors < 1 or self.blocks < 1:
+            raise ValueError("a point ends with one error or block at least")
+
     def ends(self, counts: Counts) -> bool:
         """Return whether a point with these counts is done."""
         return counts.errors >= self.errors or counts.blocks >= self.blocks

@@ -52,11 +52,20 @@ def _place(row: Mapping[str, str]) -> Place:
 
 
 def read(file: str | Path) -> dict[Place, Counts]:
-    """Read the counts of a file, or none where there is no file."""
+    """Read the counts of a file, or none where there is no file.
+
+    Raises
+    ------
+    ValueError
+        The file is no table of a campaign.
+    """
     if not Path(file).exists():
         return {}
     with open(file, newline="", encoding="utf-8") as rows:
-        return {_place(it): Counts(*(int(it[name]) for name in _COUNTS)) for it in csv.DictReader(rows)}
+        table = csv.DictReader(rows)
+        if not set(COLUMNS) <= set(table.fieldnames or ()):
+            raise ValueError(f"{file} is no table of a campaign")
+        return {_place(it): Counts(*(int(it[name]) for name in _COUNTS)) for it in table}
 
 
 def write(file: str | Path, results: Mapping[Place, Counts]) -> None:
