@@ -152,3 +152,16 @@ packed() {
 of_rust() {
     cd "$top/bindings/rust" && GOMZELAT_LIB=$out CARGO_TARGET_DIR=$out/cargo cargo test --offline --locked
 }
+
+# Cargo takes the compiler of RUSTC; another one may stand first on the path.
+of_rust_by_debian() {
+    cd "$top/bindings/rust" && RUSTC=/usr/bin/rustc RUSTDOC=/usr/bin/rustdoc GOMZELAT_LIB=$out \
+        CARGO_TARGET_DIR=$out/cargo_debian /usr/bin/cargo test --offline --locked
+}
+
+of_rust_without_library() {
+    cd "$top/bindings/rust" || return 1
+    GOMZELAT_LIB=$work CARGO_TARGET_DIR=$out/cargo cargo check --offline --locked >"$work/said" 2>&1 && return 1
+    cat "$work/said" && grep -q "there is no $work/libgomzelat.a" "$work/said" &&
+        grep -q 'Run bindings/build' "$work/said"
+}

@@ -1,8 +1,11 @@
 """The conformance suite: its cases, and that its files say what the calls say."""
 
 import json
+import re
+import shutil
 import subprocess
 import sys
+from pathlib import Path
 
 import numpy as np
 import pytest
@@ -12,12 +15,14 @@ import gomzelat as gz
 from gomzelat.vectors import cases, corners, read, sizes
 
 
+REPOSITORY = Path(gz.__file__).parents[4]
+
+
 @pytest.fixture(scope="module")
 def suite(tmp_path_factory):
     folder = tmp_path_factory.mktemp("vectors")
-    for pattern in ("[!s]*",):
-        words = [sys.executable, "-m", "gomzelat.vectors", str(folder), "--only", pattern, "--quiet"]
-        subprocess.run(words, env=environment(), check=True, capture_output=True)
+    words = [sys.executable, "-m", "gomzelat.vectors", str(folder), "--only", "[!s]*", "--quiet"]
+    subprocess.run(words, env=environment(), check=True, capture_output=True)
     return folder, json.loads((folder / "index.json").read_text(encoding="utf-8"))
 
 
@@ -53,6 +58,21 @@ def test_files_say_what_the_calls_say(suite):
         outcome = gz.receive(case["bytes"], told, softs, case["n_ir"], **case["receiver"])
         wanted = case["outcome"]
         assert (outcome.delivered, outcome.transmissions, outcome.iterations) == tuple(wanted.values())
+
+
+@pytest.mark.skipif(not shutil.which("iverilog"), reason="there is no iverilog")
+def test_verilog_reads_them(suite, tmp_path):
+    folder, index = suite
+    case = next(it for it in index["cases"] if it["name"] == "versions")
+    page = (REPOSITORY / "docs" / "PYTHON.md").read_text(encoding="utf-8")
+    read_it = "\n".join(re.findall(r"^    (reg \[7:0\] payload.*|initial \$readmemh.*)$", page, re.MULTILINE))
+    told = "integer i; initial #1 for (i = 0; i < 100; i = i + 1) $display(\"%h\", payload[i]);"
+    bench = read_it.replace('"vectors/', f'"{folder}/')
+    (tmp_path / "bench.v").write_text(f"module bench;\n{bench}\n{told}\nendmodule\n", encoding="utf-8")
+    subprocess.run(["iverilog", "-o", tmp_path / "bench", tmp_path / "bench.v"], check=True)
+    said = subprocess.run(["vvp", "-n", tmp_path / "bench"], check=True, capture_output=True, text=True).stdout
+    wanted = read(folder / case["folder"] / case["payload"])
+    assert [int(it, 16) for it in said.split()] == wanted.tolist() and wanted.size == 100
 
 
 def test_some_are_delivered_late_and_some_are_lost(suite):

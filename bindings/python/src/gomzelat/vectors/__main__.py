@@ -38,7 +38,7 @@ def main() -> int:
     index = write_suite(given.folder, tqdm(chosen, unit="case", disable=given.quiet))
     files = sum(1 for _ in given.folder.glob("*/*.hex"))
     delivered = sum(it["outcome"]["delivered"] for it in index["cases"])
-    print(f"{len(index['cases'])} cases in {files} files, of which {delivered} are delivered")
+    print(f"{len(index['cases'])} cases in {files} files of hex, of which {delivered} cases are delivered")
     return 0
 
 
