@@ -12,6 +12,10 @@ from .counts import Counts, wilson
 from .curves import Curve, Point
 
 
+_MARKERS = "os^Dv*"
+_MARKS = "shades: Wilson, 95 %\ndotted: Shannon limit"
+
+
 def _by_curve(results: Mapping[Point, Counts]) -> dict[Curve, list[tuple[float, Counts]]]:
     curves: dict[Curve, list[tuple[float, Counts]]] = {}
     for point, counts in results.items():
@@ -25,7 +29,8 @@ def _draw(axes: Any, curve: Curve, at: list[tuple[float, Counts]], style: dict[s
     rates = np.array([counts.block_error_rate for _, counts in at])
     bounds = np.array([wilson(counts.errors, counts.blocks) for _, counts in at])
     seen = rates > 0
-    axes.semilogy(np.array(snr)[seen], rates[seen], marker=".", label=curve.name, **style)
+    name = f"{curve.name}, limit {curve.shannon_limit():.1f} dB"
+    axes.semilogy(np.array(snr)[seen], rates[seen], markersize=4, label=name, **style)
     axes.fill_between(
         snr, np.maximum(bounds[:, 0], 1e-9), bounds[:, 1], color=style["color"], alpha=0.15, linewidth=0
     )
@@ -39,7 +44,8 @@ def _draw(axes: Any, curve: Curve, at: list[tuple[float, Counts]], style: dict[s
 
 def draw(results: Mapping[Point, Counts], file: str | Path, title: str = "", floor: float = 1e-3) -> None:
     """Draw the rates of block errors, with their Wilson intervals for 95 % as shades, errors that no check told as
-    crosses, and beside each curve, dotted in its colour, the Shannon limit of its efficiency.
+    crosses, and, dotted in its colour, the Shannon limit of each curve's efficiency. Where no error was seen there is a
+    shade alone.
 
     Parameters
     ----------
@@ -62,11 +68,12 @@ def draw(results: Mapping[Point, Counts], file: str | Path, title: str = "", flo
         numbers: dict[tuple[Any, ...], int] = {}
         for curve, at in _by_curve(results).items():
             of_rate = (curve.length, curve.g, curve.qm, curve.nl, curve.n_ir)
-            color = colors[numbers.setdefault(of_rate, len(numbers)) % len(colors)]
-            _draw(axes, curve, at, {"color": color, "linestyle": "-" if len(curve.versions) == 1 else "--"})
+            number = numbers.setdefault(of_rate, len(numbers))
+            style = {"color": colors[number % len(colors)], "marker": _MARKERS[number % len(_MARKERS)]}
+            _draw(axes, curve, at, {**style, "linestyle": "-" if len(curve.versions) == 1 else "--"})
         axes.set(xlabel="$E_s/N_0$ [dB]", ylabel="block error rate", title=title, ylim=(floor / 2, 1.2))
         axes.grid(True, which="both", alpha=0.25)
-        axes.legend(title="dotted: Shannon limit", loc="center left", bbox_to_anchor=(1.01, 0.5))
+        axes.legend(title=_MARKS, loc="center left", bbox_to_anchor=(1.01, 0.5))
         figure.savefig(
             file, bbox_inches="tight", metadata={"Date": None} if str(file).endswith(".svg") else None
         )
