@@ -100,15 +100,29 @@ def test_what_is_bad_is_dropped():
         assert len(through(Encoder(1600), [bad, good], 1)) == 1
     floats = pdu(pmt.init_f32vector(1600, [30.0] * 1600))
     few, wrong = pdu(pmt.init_f32vector(2, [0.0] * 2)), pdu(pmt.init_u8vector(1600, [0] * 1600))
-    late = pdu(pmt.init_f32vector(1600, [30.0] * 1600), rv=4)
+    late, unnamed = (pdu(pmt.init_f32vector(1600, [30.0] * 1600), rv=rv) for rv in (4, "first"))
+    early = pdu(pmt.init_f32vector(1600, [30.0] * 1600), rv=-1)
     for bad in (
         few,
         wrong,
         late,
+        early,
+        unnamed,
         pmt.intern("no pair"),
         pdu(pmt.init_f32vector(1600, [float("nan")] * 1600)),
     ):
         assert len(through(Decoder(100, 1600), [bad, floats], 1)) == 1
+
+
+def test_what_a_block_is_not_made_of():
+    for length in (0, 18723, -1):
+        with pytest.raises(gz.Refused):
+            Decoder(length, 1600)
+    with pytest.raises(TypeError):
+        Decoder("100", 1600)
+    # The numbers of transmissions are refused with the first PDU.
+    assert through(Encoder(1601), [bytes_pdu(PAYLOADS[0])], 1, seconds=1) == []
+    assert through(Decoder(100, 1601), [pdu(pmt.init_f32vector(1601, [30.0] * 1601))], 1, seconds=1) == []
 
 
 @pytest.mark.skipif(not shutil.which("grcc"), reason="there is no grcc")
