@@ -1,6 +1,7 @@
 """The calls against worked values and independent computations."""
 
 import threading
+import time
 
 import numpy as np
 import pytest
@@ -149,6 +150,26 @@ def test_threads_decode_at_once(good):
     for it in threads:
         it.join()
     assert found == [True] * 8
+
+
+def test_the_interpreters_lock_is_open_during_a_call():
+    sent = [gz.Transmission(2, 60000, rv % 4) for rv in range(8)]
+    values = np.random.default_rng(1).integers(-20, 21, 8 * 60000).astype(np.int8)
+    ticks, ends = [], threading.Event()
+
+    def tick():
+        while not ends.wait(0.001):
+            ticks.append(time.monotonic())
+
+    thread = threading.Thread(target=tick)
+    thread.start()
+    began = time.monotonic()
+    assert not gz.receive(7000, sent, values, limit=16).delivered
+    took = time.monotonic() - began
+    ends.set()
+    thread.join()
+    # Another thread ran in the midst of the one call.
+    assert any(0.2 * took < it - began < 0.8 * took for it in ticks)
 
 
 def test_soft_values_of_ratios():
