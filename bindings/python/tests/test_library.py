@@ -15,7 +15,11 @@ from gomzelat import library
 def said_with(file: Path) -> str:
     """What a process says whose library is this file."""
     words = {**os.environ, "GOMZELAT_LIBRARY": str(file), "PYTHONPATH": str(Path(gz.__file__).parents[1])}
-    call = "import gomzelat\ntry: print(gomzelat.plan(1))\nexcept OSError as error: print('OSError', error)"
+    call = (
+        "import gomzelat\n"
+        "try: print(gomzelat.plan(1))\n"
+        "except Exception as error: print(type(error).__name__, error)"
+    )
     ran = subprocess.run([sys.executable, "-c", call], env=words, capture_output=True, text=True, check=True)
     return ran.stdout
 
@@ -43,6 +47,12 @@ def test_another_edition_is_refused(source, text, tmp_path):
     file = made(tmp_path, source)
     said = said_with(file)
     assert said.startswith("OSError") and text in said and str(file) in said
+
+
+@pytest.mark.parametrize("answer, text", [(1, "MemoryError"), (99, "Refused the library answered 99")])
+def test_answers_that_are_no_refusals(answer, text, tmp_path):
+    source = f"unsigned gomzelat_version(void) {{ return 2; }} unsigned gomzelat_plan(void) {{ return {answer}; }}"
+    assert said_with(made(tmp_path, source)).strip() == text
 
 
 def test_what_is_no_library(tmp_path):
