@@ -35,7 +35,7 @@ impl Generator {
         further: FURTHER_B,
     };
 
-    /// A polynomial of degree 24 at most, modulo the generator.
+    /// Returns a polynomial of degree 24 at most, modulo the generator.
     #[tactic(auto, using(model_sender::proofs::Division::falls))]
     fn reduced(&self, t: u32) -> u32
         requires { t < 2 ^ 25 }
@@ -49,7 +49,7 @@ impl Generator {
         }
     }
 
-    /// `start`, followed by the bits, modulo the generator.
+    /// Returns `start`, followed by the bits, modulo the generator.
     fn remainder_by_bits(&self, start: u32, bits: &[Bit]) -> u32
         requires { start < 2 ^ 24 }
         ensures value { result ≡ remainder self.now.coefficients start bits.now }
@@ -62,7 +62,7 @@ impl Generator {
         rest
     }
 
-    /// `start`, followed by eight bits, modulo the generator.
+    /// Returns `start`, followed by eight bits, modulo the generator.
     fn remainder_of_byte(&self, start: u32, byte: &[Bit; 8]) -> u32
         requires { start < 2 ^ 24 }
         ensures value { result ≡ remainder self.now.coefficients start byte.now }
@@ -71,7 +71,7 @@ impl Generator {
         self.remainders[(start >> 16) as usize] ^ moved(start, byte)
     }
 
-    /// `start`, followed by two bytes, modulo the generator.
+    /// Returns `start`, followed by two bytes, modulo the generator.
     fn remainder_of_two(&self, start: u32, bits: &[Bit; 16]) -> u32
         requires { start < 2 ^ 24 }
         ensures value { result ≡ remainder self.now.coefficients start bits.now }
@@ -82,7 +82,7 @@ impl Generator {
         self.further[(start >> 16) as usize] ^ rest
     }
 
-    /// `start`, followed by the bits, modulo the generator.
+    /// Returns `start`, followed by the bits, modulo the generator.
     fn remainder(&self, start: u32, bits: &[Bit]) -> u32
         requires { start < 2 ^ 24 }
         ensures value { result ≡ remainder self.now.coefficients start bits.now }
@@ -96,7 +96,7 @@ impl Generator {
         self.remainder_by_bits(rest, last)
     }
 
-    /// The check bits.
+    /// Returns the check bits.
     pub fn check_bits(&self, bits: &[Bit]) -> [Bit; 24]
         ensures is_crc { IsCrc self.now.coefficients bits.now result }
         ensures value { result ≡ crc self.now.coefficients bits.now }
@@ -105,7 +105,7 @@ impl Generator {
         digits(self.remainder(self.remainder(0, bits), &[Bit::Zero; 24]))
     }
 
-    /// Whether the bits are a multiple.
+    /// Returns whether the bits are a multiple.
     pub fn divides(&self, bits: &[Bit]) -> bool
         ensures { IsTrue result ↔ IsMultiple self.now.coefficients bits.now }
     {
@@ -113,7 +113,7 @@ impl Generator {
     }
 }
 
-/// The lowest 16 digits of `start`, followed by eight bits.
+/// Returns the lowest 16 digits of `start`, followed by eight bits.
 fn moved(start: u32, byte: &[Bit; 8]) -> u32
     ensures value { result ≡ start % 2 ^ 16 * 256 + number byte.now }
     ensures small { result < 2 ^ 24 }
@@ -121,7 +121,7 @@ fn moved(start: u32, byte: &[Bit; 8]) -> u32
     start % (1 << 16) * 256 + u32::from(byte_of(byte))
 }
 
-/// The lowest digit of a number.
+/// Returns the lowest digit of a number.
 fn lowest(n: u32) -> Bit
     ensures { digit result ≡ n % 2 }
 {
@@ -131,7 +131,7 @@ fn lowest(n: u32) -> Bit
     }
 }
 
-/// The 24 digits of a number, the highest first.
+/// Returns the 24 digits of a number, the highest first.
 fn digits(n: u32) -> [Bit; 24]
     requires { n < 2 ^ 24 }
     ensures width { length result ≡ 24 }

@@ -10,7 +10,7 @@ mod tables;
 use generator::Generator;
 use lte_bits::Bit;
 
-/// The check bits of a transport block, by CRC24A: the one list of 24 bits for which the bits
+/// Returns the check bits of a transport block, by CRC24A: the one list of 24 bits for which the bits
 /// followed by it are a multiple of the generator.
 pub fn crc24a(bits: &[Bit]) -> [Bit; 24]
     ensures is_crc { IsCrc crc24a bits.now result }
@@ -20,8 +20,8 @@ pub fn crc24a(bits: &[Bit]) -> [Bit; 24]
     Generator::A.check_bits(bits)
 }
 
-/// The check bits of a code block, by CRC24B: the one list of 24 bits for which the bits followed
-/// by it are a multiple of the generator.
+/// Returns the check bits of a code block, by CRC24B: the one list of 24 bits for which the bits followed by
+/// it are a multiple of the generator.
 pub fn crc24b(bits: &[Bit]) -> [Bit; 24]
     ensures is_crc { IsCrc crc24b bits.now result }
     ensures value { result ≡ crc crc24b bits.now }
@@ -30,14 +30,14 @@ pub fn crc24b(bits: &[Bit]) -> [Bit; 24]
     Generator::B.check_bits(bits)
 }
 
-/// Whether the bits, check bits and all, are a multiple of CRC24A. No bits, and zeros, are one.
+/// Returns whether the bits, check bits and all, are a multiple of CRC24A. No bits, and zeros, are one.
 pub fn checks_a(bits: &[Bit]) -> bool
     ensures { IsTrue result ↔ IsMultiple crc24a bits.now }
 {
     Generator::A.divides(bits)
 }
 
-/// Whether the bits, check bits and all, are a multiple of CRC24B. No bits, and zeros, are one.
+/// Returns whether the bits, check bits and all, are a multiple of CRC24B. No bits, and zeros, are one.
 pub fn checks_b(bits: &[Bit]) -> bool
     ensures { IsTrue result ↔ IsMultiple crc24b bits.now }
 {

@@ -54,8 +54,8 @@ fn fill<T: Copy>(row: &mut Slots<T>, values: &[T])
 impl<T: Copy> Cells<T> {
     ghost use Rattle.cell_shares.specs.Shares.{name_of, cell_values, share_values, AreAllOf};
 
-    /// Cells with these values, for `windows` shares: 1 to 64, a divisor of the number of values, which
-    /// isn't 0. Where memory runs out, the values are dropped.
+    /// Returns cells with these values, for `windows` shares: 1 to 64, a divisor of the number of values,
+    /// which isn't 0. Where memory runs out, the values are dropped.
     pub fn new(alloc: Global, values: List<T>, windows: usize) -> Result<Cells<T>, NoMemory>
         requires some { values ≢ [] }
         requires least { 1 ≤ windows }
@@ -86,7 +86,7 @@ impl<T: Copy> Cells<T> {
         })
     }
 
-    /// The value of cell `n`, which is below K.
+    /// Returns the value of cell `n`, which is below K.
     #[tactic(auto, using(crate::proofs::Changed::cell_read))]
     pub fn get(&self, n: usize) -> T
         requires { n < length (cell_values self.now) }
@@ -103,7 +103,7 @@ impl<T: Copy> Cells<T> {
         self.part.tell_apart(&mut other.part);
     }
 
-    /// The M shares of an order, in order of their numbers. An interleaved order has size K.
+    /// Returns the M shares of an order, in order of their numbers. An interleaved order has size K.
     pub fn split(self, order: Order) -> Vec<Share<T>>
         requires order { IsOrderOf (name_of self).count order }
         ensures shares { AreAllOf (name_of self) order result.items }

@@ -9,7 +9,7 @@ use crate::cells::Cells;
 use crate::order::Order;
 use crate::share::Share;
 
-/// The cells of all shares of one split, in order: each has the value that its share holds.
+/// Returns the cells of all shares of one split, in order: each has the value that its share holds.
 pub fn join<T: Copy>(shares: Vec<Share<T>>) -> Cells<T>
     requires shares { (name : Name) × (order : Order) × AreAllOf name order shares.items }
     ensures name { (name : Name) (order : Order) → AreAllOf name order shares.items

@@ -16,8 +16,8 @@ pub enum Order {
 impl Order {
     ghost use Rattle.cell_shares.specs.Orders.{place_in, IsOrderOf};
 
-    /// The place of position `i`, which is below `size`; an interleaver has `size` places. It divides once
-    /// where the order is interleaved.
+    /// Returns the place of position `i`, which is below `size`; an interleaver has `size` places. It divides
+    /// once where the order is interleaved.
     pub fn place(&self, size: usize, i: usize) -> usize
         requires order { IsOrderOf size self.now }
         requires position { i < size }

@@ -30,7 +30,7 @@ impl<T> Model for Part<T> {
 impl<T> Part<T> {
     ghost use Rattle.cell_shares.specs.Buffers.{IsPartOf, IsArranged};
 
-    /// All places of a row that has a value in each.
+    /// Returns all places of a row that has a value in each.
     pub(crate) fn of(row: Slots<T>) -> Part<T>
         requires { IsFull row }
         ensures { IsPartOf (slots_ptr row) (slots_len row) (numbered 0 (slots_items row)) result }
@@ -39,7 +39,7 @@ impl<T> Part<T> {
         Part { ptr: parts.0 }
     }
 
-    /// The row of all `count` places.
+    /// Returns the row of all `count` places.
     pub(crate) fn into_row(self, count: usize) -> Slots<T>
         requires { (count ≡ self.count) × (places self.cells ≡ range_with_len 0 count) }
         ensures { (slots_ptr result ≡ self.ptr) × (slots_len result ≡ count) }
@@ -48,7 +48,7 @@ impl<T> Part<T> {
         unsafe { Slots::from_raw_parts(ptr, count) }
     }
 
-    /// The same cells in another order: cell i is the one at the order's i-th place.
+    /// Returns the same cells in another order: cell i is the one at the order's i-th place.
     pub(crate) fn arrange(self, _order: &Order) -> Part<T>
         requires { Shuffled (places self.cells) (order_places _order.now self.count) }
         ensures { IsArranged _order.now self result }
@@ -57,7 +57,7 @@ impl<T> Part<T> {
         Part { ptr }
     }
 
-    /// The first cells, `_width` of them, and the others.
+    /// Returns the first cells, `_width` of them, and the others.
     pub(crate) fn cut(self, _width: usize) -> (Part<T>, Part<T>)
         ensures { IsPartOf self.ptr self.count (take _width self.cells) result.0
             × IsPartOf self.ptr self.count (drop _width self.cells) result.1 }
@@ -68,7 +68,7 @@ impl<T> Part<T> {
         (first, others)
     }
 
-    /// The cells of both parts, those of `self` first.
+    /// Returns the cells of both parts, those of `self` first.
     pub(crate) fn glue(self, other: Part<T>) -> Part<T>
         requires { (other.ptr ≡ self.ptr) × (other.count ≡ self.count) }
         ensures { IsPartOf self.ptr self.count (self.cells ++ other.cells) result }
@@ -78,7 +78,7 @@ impl<T> Part<T> {
         Part { ptr }
     }
 
-    /// The value of cell `_j`, which is at `place`.
+    /// Returns the value of cell `_j`, which is at `place`.
     pub(crate) fn get(&self, _j: usize, place: usize) -> &T
         requires { (place < self.now.count) × ((x : T) × IsCell self.now.cells _j place x) }
         ensures { IsCell self.now.cells _j place result.now }

@@ -45,7 +45,7 @@ impl<T: Copy> Share<T> {
     ghost use Rattle.cell_shares.specs.Shares.{share_name, share_order, share_number};
     ghost use Rattle.cell_shares.specs.Shares.{share_values, share_place};
 
-    /// The share of a number, which has these cells, and the right to free the buffer if it is the
+    /// Returns the share of a number, which has these cells, and the right to free the buffer if it is the
     /// first.
     pub(crate) fn new(
         part: Part<T>,
@@ -69,7 +69,7 @@ impl<T: Copy> Share<T> {
         }
     }
 
-    /// The value of cell `j`, which is below the width. In an interleaved order it costs a division.
+    /// Returns the value of cell `j`, which is below the width. In an interleaved order it costs a division.
     #[tactic(auto, using(crate::proofs::Positions::place_is))]
     pub fn get(&self, j: usize) -> T
         requires { j < length (share_values self.now) }
@@ -79,7 +79,7 @@ impl<T: Copy> Share<T> {
         self.get_at(j, place)
     }
 
-    /// The value of cell `j`, which is below the width, for a caller that has the cell's place
+    /// Returns the value of cell `j`, which is below the width, for a caller that has the cell's place
     /// `order(t W + j)`, as from a table or by additions. It divides nowhere.
     #[tactic(auto, using(crate::proofs::Positions::at_place, crate::proofs::Changed::cell_read))]
     pub fn get_at(&self, j: usize, place: usize) -> T

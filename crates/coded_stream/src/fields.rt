@@ -31,7 +31,7 @@ pub enum Fields {
     },
 }
 
-/// The buffer that a header's number for it means.
+/// Returns the buffer that a header's number for it means.
 fn buffer_of(limit: u32) -> Buffer
     ensures { limit_of result ≡ limit_of_code limit }
 {
@@ -42,7 +42,7 @@ fn buffer_of(limit: u32) -> Buffer
     }
 }
 
-/// Whether a buffer fits the plan of every length from 1 to `tb`.
+/// Returns whether a buffer fits the plan of every length from 1 to `tb`.
 fn fits_lengths(buffer: Buffer, tb: usize) -> bool
     requires some { 1 ≤ tb }
     requires few { tb ≤ MOST_BYTES }
@@ -54,8 +54,7 @@ fn fits_lengths(buffer: Buffer, tb: usize) -> bool
     }
 }
 
-/// The buffer of a header's number for it, where that is accepted with payloads of up to `tb`
-/// bytes.
+/// Returns the buffer of a header's number for it, where that is accepted with payloads of up to `tb` bytes.
 fn read_buffer(limit: u32, tb: usize) -> Option<Buffer>
     requires some { 1 ≤ tb }
     requires few { tb ≤ MOST_BYTES }
@@ -69,7 +68,7 @@ fn read_buffer(limit: u32, tb: usize) -> Option<Buffer>
     }
 }
 
-/// A field that isn't accepted, but for the magic and the kind.
+/// Returns a field that isn't accepted, but for the magic and the kind.
 fn bad_field(place: u64) -> Fields
     ensures { result ≡ Fields.Bad 3 place }
 {
@@ -79,8 +78,7 @@ fn bad_field(place: u64) -> Fields
     }
 }
 
-/// The fields of version One from the number of transmissions on. `good` tells whether G is
-/// accepted.
+/// Returns the fields of version One from the number of transmissions on. `good` tells whether G is accepted.
 fn read_first_sizes(unit: &[u8], good: bool) -> Fields
     requires whole { length unit.now ≡ 18 }
     requires good { good ≡ has_good_g unit.now }
@@ -103,7 +101,7 @@ fn read_first_sizes(unit: &[u8], good: bool) -> Fields
     }
 }
 
-/// The fields of version One after the kind, checked in order of place.
+/// Returns the fields of version One after the kind, checked in order of place.
 fn read_one(unit: &[u8]) -> Fields
     requires { length unit.now ≡ 18 }
     ensures { AreRead Version.One (further_fields Version.One unit.now) unit.now result }
@@ -118,7 +116,7 @@ fn read_one(unit: &[u8]) -> Fields
     }
 }
 
-/// The same of version Two.
+/// Returns the same of version Two.
 fn read_two(unit: &[u8]) -> Fields
     requires { length unit.now ≡ 12 }
     ensures { AreRead Version.Two (further_fields Version.Two unit.now) unit.now result }
@@ -137,7 +135,7 @@ fn read_two(unit: &[u8]) -> Fields
     }
 }
 
-/// The fields of the first unit, checked in order of place.
+/// Returns the fields of the first unit, checked in order of place.
 pub fn read_fields(version: Version, unit: &[u8], want: Want) -> Fields
     requires { length unit.now ≡ first_size version }
     ensures { AreRead version (fields version want unit.now) unit.now result }

@@ -17,7 +17,7 @@ pub enum HeaderTransmission {
     Bad { at: usize },
 }
 
-/// A transmission of version One, for which the first unit has the rate matching.
+/// Returns a transmission of version One, for which the first unit has the rate matching.
 fn read_of_one(unit: &[u8], buffer: Buffer, bytes: &[u8]) -> HeaderTransmission
     requires whole { length unit.now ≡ 18 }
     requires one { length bytes.now ≡ 1 }
@@ -38,7 +38,7 @@ fn read_of_one(unit: &[u8], buffer: Buffer, bytes: &[u8]) -> HeaderTransmission
     }
 }
 
-/// A transmission of version Two.
+/// Returns a transmission of version Two.
 fn read_of_two(unit: &[u8], buffer: Buffer, bytes: &[u8]) -> HeaderTransmission
     requires seven { length bytes.now ≡ 7 }
     requires buffer { limit_of buffer ≡ limit_in Version.Two unit.now }
@@ -67,7 +67,7 @@ fn read_of_two(unit: &[u8], buffer: Buffer, bytes: &[u8]) -> HeaderTransmission
     }
 }
 
-/// The transmission of these bytes of the second unit, after a first unit with this buffer.
+/// Returns the transmission of these bytes of the second unit, after a first unit with this buffer.
 pub fn read_header_transmission(
     version: Version,
     unit: &[u8],

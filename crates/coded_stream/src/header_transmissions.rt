@@ -16,7 +16,7 @@ pub enum HeaderTransmissions {
     Bad { at: usize },
 }
 
-/// The transmissions, one to eight, of these bytes, after a first unit with this buffer.
+/// Returns the transmissions, one to eight, of these bytes, after a first unit with this buffer.
 pub fn read_header_transmissions(
     version: Version,
     unit: &[u8],

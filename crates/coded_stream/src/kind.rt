@@ -24,7 +24,7 @@ pub enum Want {
 }
 
 impl Kind {
-    /// The kind as the header has it.
+    /// Returns the kind as the header has it.
     pub(crate) fn code(self) -> u8
         ensures { result ≡ kind_code self }
     {
@@ -34,7 +34,7 @@ impl Kind {
         }
     }
 
-    /// The kind of a code.
+    /// Returns the kind of a code.
     pub(crate) fn of(code: u8) -> Kind
         ensures { result ≡ kind_of code }
     {
@@ -43,7 +43,7 @@ impl Kind {
 }
 
 impl Want {
-    /// Whether a code is that of a kind that is wanted.
+    /// Returns whether a code is that of a kind that is wanted.
     pub(crate) fn takes(self, code: u8) -> bool
         ensures { result ≡ is_wanted self code }
     {

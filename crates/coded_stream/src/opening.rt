@@ -34,7 +34,7 @@ pub enum Second {
     Fault,
 }
 
-/// The version of a stream that begins so.
+/// Returns the version of a stream that begins so.
 fn version_of(unit: &[u8]) -> Version
     requires { 4 ≤ length unit.now }
     ensures { result ≡ version_of unit.now }

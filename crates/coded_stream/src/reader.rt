@@ -92,28 +92,28 @@ impl StreamReader {
         }
     }
 
-    /// The header that was read.
+    /// Returns the header that was read.
     pub fn header(&self) -> &Header
         ensures { header_of result.now ≡ self.now.header }
     {
         &self.header
     }
 
-    /// The number of bytes taken from the stream, while the reader is live.
+    /// Returns the number of bytes taken from the stream, while the reader is live.
     pub fn place(&self) -> u64
         ensures { result ≡ self.now.place }
     {
         self.place
     }
 
-    /// How often `next_block` answered a block.
+    /// Returns how often `next_block` answered a block.
     pub fn blocks(&self) -> usize
         ensures { result ≡ self.now.blocks }
     {
         self.blocks
     }
 
-    /// Whether the stream may go on: until `next_block` answers `None`, `Bad` or `Fault`.
+    /// Returns whether the stream may go on: until `next_block` answers `None`, `Bad` or `Fault`.
     pub fn is_live(&self) -> bool
         ensures { result ≡ self.now.live }
     {

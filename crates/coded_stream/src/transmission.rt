@@ -21,7 +21,7 @@ pub enum Transmission {
     Fault,
 }
 
-/// The bytes of a transmission of `g` bits.
+/// Returns the bytes of a transmission of `g` bits.
 pub fn transmission_size(kind: Kind, g: usize) -> usize
     ensures { result ≡ transmission_size kind g }
 {
@@ -31,7 +31,7 @@ pub fn transmission_size(kind: Kind, g: usize) -> usize
     }
 }
 
-/// The unused low bits of the last byte of `g` bits.
+/// Returns the unused low bits of the last byte of `g` bits.
 fn spare_bits(g: usize) -> u32
     requires { g ≤ 1000000 }
     ensures { result ≡ spare_bits g }
@@ -39,7 +39,7 @@ fn spare_bits(g: usize) -> u32
     (8 * g.div_ceil(8) - g) as u32
 }
 
-/// Whether an unused low bit of a transmission's last byte is 1.
+/// Returns whether an unused low bit of a transmission's last byte is 1.
 fn has_bad_bit(kind: Kind, g: usize, bytes: &[u8]) -> bool
     requires some { 1 ≤ length bytes.now }
     requires few { g ≤ 1000000 }

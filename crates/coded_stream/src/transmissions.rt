@@ -12,7 +12,7 @@ use crate::header::Header;
 use crate::transmission::{Transmission, read_transmission, transmission_size};
 use edge_io::Source;
 
-/// G of a transmission.
+/// Returns G of a transmission.
 #[tactic(auto, using(crate::proofs::Sizes::match_bounded, crate::proofs::Turns::length_of))]
 fn length_at(header: &Header, turn: usize) -> usize
     requires { turn < length header.now.sends }
@@ -23,7 +23,7 @@ fn length_at(header: &Header, turn: usize) -> usize
     header.sends.at(turn).0.g()
 }
 
-/// The bytes of the transmissions of a block, at most 8,000,000.
+/// Returns the bytes of the transmissions of a block, at most 8,000,000.
 pub fn block_size(header: &Header) -> usize
     ensures value { result ≡ block_size header.now.kind (lengths (header_of header.now)) }
     ensures few { result ≤ 8000000 }

@@ -33,7 +33,7 @@ pub fn read_unit<S: Source>(source: &mut S, unit: &mut [u8]) -> Unit
     }
 }
 
-/// The number of four bytes of a unit.
+/// Returns the number of four bytes of a unit.
 #[tactic(auto, unfolding(crate::specs::Header::word))]
 pub fn word(unit: &[u8], at: usize) -> u32
     requires { at + 4 ≤ length unit.now }
@@ -42,7 +42,7 @@ pub fn word(unit: &[u8], at: usize) -> u32
     u32::from_be_bytes([unit[at], unit[at + 1], unit[at + 2], unit[at + 3]])
 }
 
-/// The number of two bytes of a unit.
+/// Returns the number of two bytes of a unit.
 #[tactic(auto, unfolding(crate::specs::Header::half_word))]
 pub fn half_word(unit: &[u8], at: usize) -> u16
     requires { at + 2 ≤ length unit.now }

@@ -13,7 +13,7 @@ pub enum Version {
 }
 
 impl Version {
-    /// The number of the first four bytes.
+    /// Returns the number of the first four bytes.
     pub(crate) fn magic(self) -> u32
         ensures { result ≡ magic self }
     {
@@ -23,7 +23,7 @@ impl Version {
         }
     }
 
-    /// The bytes of the header's first unit.
+    /// Returns the bytes of the header's first unit.
     pub(crate) fn first_size(self) -> usize
         ensures value { result ≡ first_size self }
         ensures some { 12 ≤ result }
@@ -35,7 +35,7 @@ impl Version {
         }
     }
 
-    /// The bytes that describe a transmission in the header's second unit.
+    /// Returns the bytes that describe a transmission in the header's second unit.
     pub(crate) fn described_size(self) -> usize
         ensures value { result ≡ described_size self }
         ensures some { 1 ≤ result }
@@ -47,7 +47,7 @@ impl Version {
         }
     }
 
-    /// The bytes of the second unit, of so many transmissions, one to eight.
+    /// Returns the bytes of the second unit, of so many transmissions, one to eight.
     pub(crate) fn second_size(self, count: usize) -> usize
         requires { count ≤ 8 }
         ensures value { result ≡ count * described_size self }

@@ -12,7 +12,7 @@ use edge_io::{Sink, SinkFault, write_all};
 use rate_match::{Buffer, Match, Sends};
 use std::alloc::{AllocError, Global};
 
-/// The number for the soft buffer of all transmissions.
+/// Returns the number for the soft buffer of all transmissions.
 fn limit_code(sends: &Sends) -> u32
     ensures { result ≡ limit_code (common sends.now).limit }
 {
@@ -22,7 +22,7 @@ fn limit_code(sends: &Sends) -> u32
     }
 }
 
-/// The header of version One but for the redundancy versions.
+/// Returns the header of version One but for the redundancy versions.
 fn first_of_one(header: &Header) -> [u8; 18]
     ensures { result ≡ first_text Version.One (header_of header.now) }
 {
@@ -52,7 +52,7 @@ fn first_of_one(header: &Header) -> [u8; 18]
     ]
 }
 
-/// The header of version Two but for the transmissions.
+/// Returns the header of version Two but for the transmissions.
 fn first_of_two(header: &Header) -> [u8; 12]
     ensures { result ≡ first_text Version.Two (header_of header.now) }
 {
@@ -88,7 +88,7 @@ fn write_first<D: Sink>(sink: &mut D, header: &Header) -> Result<(), SinkFault>
     }
 }
 
-/// The bytes of a transmission of version Two.
+/// Returns the bytes of a transmission of version Two.
 #[tactic(auto, unfolding(crate::specs::Header::word_text))]
 fn transmission_of_two(m: &Match, rv: u8) -> [u8; 7]
     ensures { result ≡ transmission_text Version.Two (record { m = m.now; rv = rv }) }
@@ -159,7 +159,7 @@ pub fn write_length<D: Sink>(sink: &mut D, length: u32) -> Result<(), SinkFault>
     write_all(sink, &length.to_be_bytes())
 }
 
-/// The length word of a block, or for 0 the end word.
+/// Returns the length word of a block, or for 0 the end word.
 #[tactic(auto, unfolding(crate::specs::Header::word_text))]
 pub fn length_word(alloc: Global, length: u32) -> Result<Vec<u8>, AllocError>
     ensures { IfOk result (λ text. text.items ≡ word_text length) }

@@ -22,7 +22,7 @@ pub struct CodedBlocks {
     pub sends: Sends,
 }
 
-/// G, Q_m and N_L in one form.
+/// Returns G, Q_m and N_L in one form.
 fn lists_of(form: Form, operands: &[&str]) -> Option<Lists>
     ensures lists { result ≡ lists_of form (texts_of operands.now) }
     ensures given { IfSome result AreListsGiven }
@@ -37,7 +37,7 @@ fn lists_of(form: Form, operands: &[&str]) -> Option<Lists>
     }
 }
 
-/// What the operands give of the blocks and their transmissions, with G, Q_m and N_L in one form.
+/// Returns what the operands give of the blocks and their transmissions, with G, Q_m and N_L in one form.
 pub fn asked_of(form: Form, operands: &[&str]) -> Option<Asked>
     ensures asked { result ≡ asked_of form (texts_of operands.now) }
     ensures given { IfSome result AreGiven }
@@ -53,7 +53,7 @@ pub fn asked_of(form: Form, operands: &[&str]) -> Option<Asked>
     }
 }
 
-/// The blocks of these operands.
+/// Returns the blocks of these operands.
 pub fn blocks_given(asked: &Asked) -> Result<CodedBlocks, WordRefusal>
     requires { AreGiven asked.now }
     ensures blocks { result ≡ blocks_given asked.now }

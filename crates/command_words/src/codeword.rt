@@ -12,7 +12,7 @@ use crate::transmission_tables::{G_NUMBER, QM_NUMBER, RV_OF_ONE};
 use crate::words::Command;
 use rate_match::{Buffer, Match};
 
-/// The codeword of these operands.
+/// Returns the codeword of these operands.
 fn codeword_given(g: &Operand, qm: &Operand, rv: &Operand) -> Result<Command, WordRefusal>
     requires g { IsGiven g_number g.now.numbers }
     requires qm { IsGiven qm_number qm.now.numbers }
@@ -31,7 +31,7 @@ fn codeword_given(g: &Operand, qm: &Operand, rv: &Operand) -> Result<Command, Wo
     }
 }
 
-/// What the words after `codeword` ask for.
+/// Returns what the words after `codeword` ask for.
 pub fn codeword_of(operands: &[&str]) -> Result<Command, WordRefusal>
     ensures command { result ≡ codeword_of (texts_of operands.now) }
     ensures lawful { IfOk result IsLawful }

@@ -13,7 +13,7 @@ use crate::tables::ENCODE;
 use crate::transmissions::Asked;
 use crate::words::Command;
 
-/// The stream of these blocks.
+/// Returns the stream of these blocks.
 fn encode_given(asked: &Asked) -> Result<Command, WordRefusal>
     requires { AreGiven asked.now }
     ensures command { result ≡ encode_with (blocks_given asked.now) }
@@ -29,7 +29,7 @@ fn encode_given(asked: &Asked) -> Result<Command, WordRefusal>
     }
 }
 
-/// What the words after `encode` ask for.
+/// Returns what the words after `encode` ask for.
 pub fn encode_of(operands: &[&str]) -> Result<Command, WordRefusal>
     ensures command { result ≡ encode_of (texts_of operands.now) }
     ensures lawful { IfOk result IsLawful }

@@ -26,7 +26,7 @@ impl Taken {
         }
     }
 
-    /// The numbers, or 7 where some weren't accepted.
+    /// Returns the numbers, or 7 where some weren't accepted.
     fn finish(self) -> Result<Numbers, u8>
         ensures { result ≡ finished self }
     {
@@ -51,8 +51,8 @@ impl Taken {
     }
 }
 
-/// The numbers of a list, or 6 where one isn't spelt, or 7 where one isn't accepted or there are
-/// too many.
+/// Returns the numbers of a list, or 6 where one isn't spelt, or 7 where one isn't accepted or there are too
+/// many.
 #[tactic(auto, using(crate::proofs::Listed::listed_here, crate::proofs::Listed::listed_last))]
 fn list_of_numbers(rule: &Rule, text: &str) -> Result<Numbers, u8>
     ensures { result ≡ gathered rule.now none_taken (listed text.now) }
@@ -71,8 +71,8 @@ fn list_of_numbers(rule: &Rule, text: &str) -> Result<Numbers, u8>
     taken.finish()
 }
 
-/// The numbers that a text spells, or 6 where it spells none, or 7 where one isn't accepted or
-/// there are too many.
+/// Returns the numbers that a text spells, or 6 where it spells none, or 7 where one isn't accepted or there
+/// are too many.
 #[tactic(auto, using(crate::proofs::Gathered::all_numbers))]
 pub fn numbers_of(rule: &Rule, text: &str) -> Result<Numbers, u8>
     ensures { result ≡ numbers_of rule.now text.now }

@@ -40,7 +40,7 @@ fn rule_of(rules: &[Rule], name: &str) -> Option<Rule>
     None
 }
 
-/// What comes after the name, where the word has that name.
+/// Returns what comes after the name, where the word has that name.
 fn value_of<'a>(word: &'a str, name: &str) -> Option<&'a str>
     ensures { text_of_option result ≡ value_under name.now word.now }
 {
@@ -50,7 +50,7 @@ fn value_of<'a>(word: &'a str, name: &str) -> Option<&'a str>
     }
 }
 
-/// Whether one of the words has that name.
+/// Returns whether one of the words has that name.
 fn is_given(name: &str, words: &[&str]) -> bool
     ensures { result ≡ list_any (is_named name.now) (texts_of words.now) }
 {
@@ -62,7 +62,7 @@ fn is_given(name: &str, words: &[&str]) -> bool
     false
 }
 
-/// Why a word is refused, after the words before it.
+/// Returns why a word is refused, after the words before it.
 fn fault_of(rules: &[Rule], before: &[&str], word: &str) -> Option<u8>
     ensures { result ≡ fault_of rules.now (texts_of before.now) word.now }
 {
@@ -80,7 +80,7 @@ fn fault_of(rules: &[Rule], before: &[&str], word: &str) -> Option<u8>
     }
 }
 
-/// The first of the operands that is refused by itself or by those before it.
+/// Returns the first of the operands that is refused by itself or by those before it.
 pub fn first_fault(rules: &[Rule], operands: &[&str]) -> Option<WordRefusal>
     ensures { result ≡ first_fault rules.now [] (texts_of operands.now) }
 {
@@ -95,7 +95,7 @@ pub fn first_fault(rules: &[Rule], operands: &[&str]) -> Option<WordRefusal>
     None
 }
 
-/// The numbers that are taken where a rule's name isn't given.
+/// Returns the numbers that are taken where a rule's name isn't given.
 fn default_of(rule: &Rule) -> Option<Operand>
     requires { HasDefault rule.now }
     ensures value { result ≡ default_of rule.now.default }
@@ -107,7 +107,7 @@ fn default_of(rule: &Rule) -> Option<Operand>
     Some(Operand { place: 0, numbers })
 }
 
-/// The numbers of a value at a place, where they are accepted.
+/// Returns the numbers of a value at a place, where they are accepted.
 #[tactic(auto, using(crate::proofs::Ranged::numbers_given))]
 fn accepted(rule: &Rule, place: usize, value: &str) -> Option<Operand>
     ensures value { result ≡ accepted place (numbers_of rule.now value.now) }
@@ -119,7 +119,7 @@ fn accepted(rule: &Rule, place: usize, value: &str) -> Option<Operand>
     }
 }
 
-/// What the operands give for a rule, or its default.
+/// Returns what the operands give for a rule, or its default.
 pub fn given(rule: &Rule, operands: &[&str]) -> Option<Operand>
     requires { HasDefault rule.now }
     ensures value { result ≡ given rule.now (texts_of operands.now) }
@@ -133,7 +133,7 @@ pub fn given(rule: &Rule, operands: &[&str]) -> Option<Operand>
     default_of(rule)
 }
 
-/// The one number that the operands give for a rule, or its default.
+/// Returns the one number that the operands give for a rule, or its default.
 #[tactic(auto, using(crate::proofs::Ranged::first_ranged))]
 pub fn number_given(rule: &Rule, operands: &[&str]) -> Option<u64>
     requires { HasDefault rule.now }
@@ -146,7 +146,8 @@ pub fn number_given(rule: &Rule, operands: &[&str]) -> Option<u64>
     }
 }
 
-/// A name that is required isn't given; the place is the number of words, the command among them.
+/// Returns the refusal of a name that is required and isn't given; the place is the number of words, the
+/// command among them.
 pub fn missing(operands: &[&str]) -> WordRefusal
     ensures { result ≡ missing (texts_of operands.now) }
 {

@@ -83,7 +83,7 @@ pub enum Form {
 }
 
 impl Form {
-    /// The most numbers.
+    /// Returns the most numbers.
     pub fn most(self) -> usize
         ensures value { result ≡ most self }
         ensures few { result ≤ 8 }
@@ -129,7 +129,7 @@ pub struct Rule {
 }
 
 impl Rule {
-    /// The same rule for numbers in another form.
+    /// Returns the same rule for numbers in another form.
     pub fn in_form(self, form: Form) -> Rule
         ensures { result ≡ in_form form self }
     {

@@ -22,7 +22,7 @@ pub struct DecodingNumbers {
     pub limit: usize,
 }
 
-/// The numbers of the channel.
+/// Returns the numbers of the channel.
 pub fn channel_numbers(operands: &[&str]) -> Option<ChannelNumbers>
     ensures value { result ≡ channel_numbers (texts_of operands.now) }
     ensures lawful { IfSome result (λ numbers. IsChannel numbers.amp numbers.noise) }
@@ -40,7 +40,7 @@ pub fn channel_numbers(operands: &[&str]) -> Option<ChannelNumbers>
     }
 }
 
-/// The numbers of the decoding.
+/// Returns the numbers of the decoding.
 pub fn decoding_numbers(operands: &[&str]) -> Option<DecodingNumbers>
     ensures value { result ≡ decoding_numbers (texts_of operands.now) }
     ensures lawful { IfSome result (λ numbers. IsDecoding numbers.windows numbers.limit) }

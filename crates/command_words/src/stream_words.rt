@@ -10,7 +10,7 @@ use crate::settings::{ChannelNumbers, channel_numbers, decoding_numbers};
 use crate::tables::{BATCH, CHANNEL, DECODE, PIPES_NUMBER, UPGRADE, WORKERS_NUMBER};
 use crate::words::Command;
 
-/// What the words after `decode` ask for.
+/// Returns what the words after `decode` ask for.
 pub fn decode_of(operands: &[&str]) -> Result<Command, WordRefusal>
     ensures command { result ≡ decode_of (texts_of operands.now) }
     ensures lawful { IfOk result IsLawful }
@@ -30,7 +30,7 @@ pub fn decode_of(operands: &[&str]) -> Result<Command, WordRefusal>
     }
 }
 
-/// What the words after `batch` ask for.
+/// Returns what the words after `batch` ask for.
 pub fn batch_of(operands: &[&str]) -> Result<Command, WordRefusal>
     ensures command { result ≡ batch_of (texts_of operands.now) }
     ensures lawful { IfOk result IsLawful }
@@ -50,7 +50,7 @@ pub fn batch_of(operands: &[&str]) -> Result<Command, WordRefusal>
     }
 }
 
-/// The numbers of the channel, where the operands give nothing else.
+/// Returns the numbers of the channel, where the operands give nothing else.
 fn channel_asked(operands: &[&str]) -> Result<ChannelNumbers, WordRefusal>
     ensures value { result ≡ channel_asked (texts_of operands.now) }
     ensures lawful { IfOk result (λ numbers. IsChannel numbers.amp numbers.noise) }
@@ -64,7 +64,7 @@ fn channel_asked(operands: &[&str]) -> Result<ChannelNumbers, WordRefusal>
     }
 }
 
-/// What the words after `channel` ask for.
+/// Returns what the words after `channel` ask for.
 pub fn channel_of(operands: &[&str]) -> Result<Command, WordRefusal>
     ensures command { result ≡ channel_of (texts_of operands.now) }
     ensures lawful { IfOk result IsLawful }
@@ -79,7 +79,7 @@ pub fn channel_of(operands: &[&str]) -> Result<Command, WordRefusal>
     }
 }
 
-/// What the words after `points` ask for.
+/// Returns what the words after `points` ask for.
 pub fn points_of(operands: &[&str]) -> Result<Command, WordRefusal>
     ensures command { result ≡ points_of (texts_of operands.now) }
     ensures lawful { IfOk result IsLawful }
@@ -94,7 +94,7 @@ pub fn points_of(operands: &[&str]) -> Result<Command, WordRefusal>
     }
 }
 
-/// What the words after `upgrade` ask for.
+/// Returns what the words after `upgrade` ask for.
 pub fn upgrade_of(operands: &[&str]) -> Result<Command, WordRefusal>
     ensures command { result ≡ upgrade_of (texts_of operands.now) }
     ensures lawful { IfOk result IsLawful }

@@ -37,7 +37,7 @@ impl Operand {
         self.numbers.len() == 1 || self.numbers.len() == count
     }
 
-    /// The number of transmission `i` of so many.
+    /// Returns the number of transmission `i` of so many.
     fn each(&self, i: usize, count: usize) -> u64
         requires some { 1 ≤ length self.now.numbers }
         requires each { is_each count self.now ≡ true }
@@ -53,7 +53,7 @@ impl Operand {
 }
 
 impl Lists {
-    /// The first list that has neither one number nor so many.
+    /// Returns the first list that has neither one number nor so many.
     pub fn uneven(&self, count: usize) -> Option<usize>
         ensures { result ≡ place_of (uneven_list count self.now) }
     {
@@ -68,7 +68,7 @@ impl Lists {
         }
     }
 
-    /// The version of the container that holds these lists.
+    /// Returns the version of the container that holds these lists.
     pub fn version(&self) -> Version
         ensures { result ≡ version_in self.now }
     {
@@ -80,7 +80,7 @@ impl Lists {
     }
 }
 
-/// The soft buffer of N_IR values, or the full one.
+/// Returns the soft buffer of N_IR values, or the full one.
 fn buffer(nir: u64) -> Buffer
     requires { nir ≤ 1000000 }
     ensures { limit_of result ≡ limit_asked nir }
@@ -92,7 +92,7 @@ fn buffer(nir: u64) -> Buffer
     }
 }
 
-/// The rate matching of these numbers, where G is a multiple of N_L * Q_m.
+/// Returns the rate matching of these numbers, where G is a multiple of N_L * Q_m.
 #[tactic(auto, using(crate::proofs::Ranged::modulation_is_qm, crate::proofs::Ranged::layers_are_nl))]
 fn matching(qm: u64, nl: u64, g: u64, nir: u64) -> Option<Match>
     requires qm { in_range modulations qm ≡ true }
@@ -105,7 +105,7 @@ fn matching(qm: u64, nl: u64, g: u64, nir: u64) -> Option<Match>
     Match::new(qm as u8, nl as u8, g as u32, buffer(nir)).ok()
 }
 
-/// Transmission `i`, where G is a multiple of N_L * Q_m.
+/// Returns transmission `i`, where G is a multiple of N_L * Q_m.
 fn transmission_given(asked: &Asked, i: usize) -> Option<Sending>
     requires given { AreGiven asked.now }
     requires even { uneven_list (length asked.now.rv.numbers) asked.now.lists ≡ None }
@@ -125,7 +125,7 @@ fn transmission_given(asked: &Asked, i: usize) -> Option<Sending>
     }
 }
 
-/// The transmissions, where for each G is a multiple of N_L * Q_m.
+/// Returns the transmissions, where for each G is a multiple of N_L * Q_m.
 pub fn transmissions_given(asked: &Asked) -> Option<Sends>
     requires given { AreGiven asked.now }
     requires even { uneven_list (length asked.now.rv.numbers) asked.now.lists ≡ None }

@@ -15,7 +15,7 @@ use crate::transmissions::Asked;
 use crate::words::Command;
 use coded_stream::Version;
 
-/// The trial of so many of these blocks.
+/// Returns the trial of so many of these blocks.
 fn trial_given(
     asked: &Asked,
     channel: ChannelNumbers,
@@ -46,7 +46,7 @@ fn trial_given(
     }
 }
 
-/// What the words after `trial` ask for.
+/// Returns what the words after `trial` ask for.
 pub fn trial_of(operands: &[&str]) -> Result<Command, WordRefusal>
     ensures command { result ≡ trial_of (texts_of operands.now) }
     ensures lawful { IfOk result IsLawful }

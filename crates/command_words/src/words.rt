@@ -83,7 +83,7 @@ pub enum Command {
     },
 }
 
-/// What the words after a command's name ask for.
+/// Returns what the words after a command's name ask for.
 fn command_with(name: CommandName, operands: &[&str]) -> Result<Command, WordRefusal>
     ensures command { result ≡ command_with (Some name) (texts_of operands.now) }
     ensures lawful { IfOk result IsLawful }
@@ -101,7 +101,7 @@ fn command_with(name: CommandName, operands: &[&str]) -> Result<Command, WordRef
     }
 }
 
-/// What the words ask for, or the first of them that is refused.
+/// Returns what the words ask for, or the first of them that is refused.
 pub fn read_words(words: &[&str]) -> Result<Command, WordRefusal>
     ensures command { result ≡ command_of (texts_of words.now) }
     ensures lawful { IfOk result IsLawful }

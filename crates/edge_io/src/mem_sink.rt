@@ -39,9 +39,9 @@ impl Model for MemSink {
 }
 
 impl MemSink {
-    /// A sink that holds nothing and has no room. A write takes the least of `piece`, the length
-    /// of what it is given and the room that is left. Writes are numbered from 0. Those whose
-    /// number is in `failing` fail, and those that are given something with no room left.
+    /// Returns a sink that holds nothing and has no room. A write takes the least of `piece`, the length of
+    /// what it is given and the room that is left. Writes are numbered from 0. Those whose number is in
+    /// `failing` fail, and those that are given something with no room left.
     pub fn new(alloc: Global, piece: usize, failing: List<u64>) -> Self
         requires { 1 ≤ piece }
         ensures { result ≡ record {
@@ -73,14 +73,14 @@ impl MemSink {
         Ok(())
     }
 
-    /// The bytes that are held.
+    /// Returns the bytes that are held.
     pub fn bytes(&self) -> &[u8]
         ensures { result.now ≡ self.now.bytes }
     {
         self.bytes.as_slice()
     }
 
-    /// Whether the next write is to fail.
+    /// Returns whether the next write is to fail.
     fn is_refused(&self, piece: &[u8]) -> bool
         ensures { IsTrue result ↔ Refuses self.now piece.now }
     {

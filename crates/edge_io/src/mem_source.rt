@@ -33,8 +33,8 @@ impl Model for MemSource {
 }
 
 impl MemSource {
-    /// A source of these bytes. A call gives the least of `piece`, the buffer's length and what
-    /// is left. Calls are numbered from 0, and those whose number is in `failing` fail.
+    /// Returns a source of these bytes. A call gives the least of `piece`, the buffer's length and what is
+    /// left. Calls are numbered from 0, and those whose number is in `failing` fail.
     pub fn new(bytes: List<u8>, piece: usize, failing: List<u64>) -> Self
         requires { 1 ≤ piece }
         ensures { result ≡ record {
@@ -54,7 +54,7 @@ impl MemSource {
         }
     }
 
-    /// The bytes that are left.
+    /// Returns the bytes that are left.
     pub fn left(&self) -> &[u8]
         ensures { result.now ≡ self.now.left }
     {

@@ -20,7 +20,7 @@ impl Model for SteadySource {
 }
 
 impl SteadySource {
-    /// A source of these bytes.
+    /// Returns a source of these bytes.
     pub fn new(bytes: List<u8>) -> Self
         ensures { result ≡ bytes }
     {

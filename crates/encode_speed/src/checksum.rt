@@ -5,7 +5,7 @@ ghost use Rattle.encode_speed.specs.Checksum.{basis, digit, mixed};
 
 use lte_bits::{Bit, Cell};
 
-/// The byte that stands for a cell.
+/// Returns the byte that stands for a cell.
 fn digit(cell: Cell) -> u32
     ensures { result ≡ digit cell }
 {
@@ -16,14 +16,14 @@ fn digit(cell: Cell) -> u32
     }
 }
 
-/// A checksum with a cell more.
+/// Returns a checksum with a cell more.
 fn mixed(sum: u32, cell: Cell) -> u32
     ensures { result ≡ mixed sum cell }
 {
     (sum ^ digit(cell)).wrapping_mul(16_777_619)
 }
 
-/// The 32-bit FNV-1a checksum of cells, one byte each: 0, 1, and 2 for `Null`.
+/// Returns the 32-bit FNV-1a checksum of cells, one byte each: 0, 1, and 2 for `Null`.
 pub fn checksum(cells: &[Cell]) -> u32
     ensures { result ≡ fold mixed basis cells.now }
 {
@@ -32,7 +32,7 @@ pub fn checksum(cells: &[Cell]) -> u32
         .fold(2_166_136_261, |sum, cell| mixed(sum, *cell))
 }
 
-/// That of bits, as cells.
+/// Returns the checksum of bits, as cells.
 pub fn bit_checksum(bits: &[Bit]) -> u32
     ensures { result ≡ fold (λ sum bit. mixed sum (cell_of bit)) basis bits.now }
 {

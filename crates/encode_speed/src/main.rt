@@ -15,14 +15,14 @@ use std::process::ExitCode;
 use std::time::Duration;
 use std::{env, io};
 
-/// The time of a word `seconds=N`.
+/// Returns the time of a word `seconds=N`.
 fn time_of(word: &str) -> Option<Duration> {
     let seconds = word.strip_prefix("seconds=")?.parse::<u16>().ok()?;
     Some(Duration::from_secs(u64::from(seconds)))
 }
 
-/// The time that the words ask for, no time where there are none, and `None` where they say
-/// something else.
+/// Returns the time that the words ask for, no time where there are none, and `None` where they say something
+/// else.
 fn asked_time(rt: &HostRuntime) -> io::Result<Option<Duration>> {
     let mut words = env::args(rt)?.skip(1);
     let Some(word) = words.next() else {

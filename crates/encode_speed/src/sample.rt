@@ -13,7 +13,7 @@ pub const SIZE: usize = 6144;
 /// The bytes of the transport block: 13 code blocks of 5,824 bits.
 pub const BYTES: usize = 9422;
 
-/// One where i * i mod 7 is less than 3.
+/// Returns a one where i * i mod 7 is less than 3.
 fn sample_bit(i: usize) -> Bit
     requires { i < SIZE }
     ensures { result ≡ sample_bit i }
@@ -21,7 +21,7 @@ fn sample_bit(i: usize) -> Bit
     if i * i % 7 < 3 { Bit::One } else { Bit::Zero }
 }
 
-/// The block of `k` bits.
+/// Returns the block of `k` bits.
 #[tactic(auto, unfolding(crate::specs::Sample::sample))]
 pub fn sample(alloc: Global, k: usize) -> Result<Block, NoMemory>
     requires { k ≤ SIZE }
@@ -39,7 +39,7 @@ pub fn sample(alloc: Global, k: usize) -> Result<Block, NoMemory>
     })
 }
 
-/// i * i mod 251.
+/// Returns i * i mod 251.
 fn sample_byte(i: usize) -> u8
     requires { i < BYTES }
     ensures { result ≡ sample_byte i }
@@ -47,7 +47,7 @@ fn sample_byte(i: usize) -> u8
     (i * i % 251) as u8
 }
 
-/// A payload of `n` bytes.
+/// Returns a payload of `n` bytes.
 #[tactic(auto, unfolding(crate::specs::Sample::sample_payload))]
 pub fn sample_payload(alloc: Global, n: usize) -> Result<Vec<u8>, NoMemory>
     requires { n ≤ BYTES }
@@ -61,7 +61,7 @@ pub fn sample_payload(alloc: Global, n: usize) -> Result<Vec<u8>, NoMemory>
     Ok(bytes)
 }
 
-/// 90,000 bits of 64QAM on one layer, and the whole soft buffer.
+/// Returns 90,000 bits of 64QAM on one layer, and the whole soft buffer.
 pub fn matching() -> Match
     ensures { result ≡ matching }
 {

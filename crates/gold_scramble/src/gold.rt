@@ -38,7 +38,7 @@ impl Model for Gold {
 }
 
 impl Gold {
-    /// The generator whose next bit is c(0): the first 1,600 places of x1 and x2 are left out.
+    /// Returns the generator whose next bit is c(0): the first 1,600 places of x1 and x2 are left out.
     pub fn new(init: Init) -> Gold
         ensures { result ≡ started init }
     {
@@ -52,7 +52,7 @@ impl Gold {
         gold
     }
 
-    /// The next `count` bits, at most 28, the first as the highest.
+    /// Returns the next `count` bits, at most 28, the first as the highest.
     #[inline]
     fn next_bits(&mut self, count: u32) -> u32
         requires { count ≤ 28 }
@@ -68,7 +68,7 @@ impl Gold {
         ((x1 ^ x2) >> 31) as u32
     }
 
-    /// The next bit.
+    /// Returns the next bit.
     pub fn next_bit(&mut self) -> Bit
         ensures bit { result ≡ coming self.old 0 }
         ensures moved { self.new ≡ moved self.old 1 }
@@ -79,7 +79,7 @@ impl Gold {
         }
     }
 
-    /// The next 32 bits, the first as the highest.
+    /// Returns the next 32 bits, the first as the highest.
     pub fn next_word(&mut self) -> u32
         ensures bits { result ≡ number (places (coming self.old) 0 32) }
         ensures moved { self.new ≡ moved self.old 32 }

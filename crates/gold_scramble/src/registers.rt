@@ -3,7 +3,7 @@ ghost use Rattle.std.specs.Prelude.{◌≡◌, ◌+◌, ◌^◌, ◌<◌, ◌≤
 ghost use Rattle.gold_scramble.specs.Places.{highest_first, places};
 ghost use Rattle.gold_scramble.specs.Sequence.{place, x1_recurrence, x2_recurrence};
 
-/// 31 places of x1, and the `count` places after them, at most 28.
+/// Returns 31 places of x1, and the `count` places after them, at most 28.
 #[inline]
 pub fn x1_continued(register: u32, count: u32) -> u64
     requires register { register < 2 ^ 31 }
@@ -17,7 +17,7 @@ pub fn x1_continued(register: u32, count: u32) -> u64
     (x << count) | (next & ((1 << count) - 1))
 }
 
-/// 31 places of x2, and the `count` places after them, at most 28.
+/// Returns 31 places of x2, and the `count` places after them, at most 28.
 #[inline]
 pub fn x2_continued(register: u32, count: u32) -> u64
     requires register { register < 2 ^ 31 }

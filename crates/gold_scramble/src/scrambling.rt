@@ -7,7 +7,7 @@ use crate::gold::Gold;
 use crate::initial::Init;
 use lte_bits::{Bit, Soft};
 
-/// The bit of weight 2^i of a word.
+/// Returns the bit of weight 2^i of a word.
 #[inline]
 fn digit(word: u32, i: usize) -> Bit
     requires { i < 32 }
@@ -19,7 +19,7 @@ fn digit(word: u32, i: usize) -> Bit
     }
 }
 
-/// The sum of two bits.
+/// Returns the sum of two bits.
 #[inline]
 fn plus(a: Bit, b: Bit) -> Bit
     ensures { result ≡ plus a b }
@@ -50,7 +50,7 @@ pub fn scramble_bits(bits: &mut [Bit], init: Init)
     }
 }
 
-/// A soft value, turned by a bit.
+/// Returns a soft value, turned by a bit.
 #[inline]
 fn turn(soft: Soft, by: Bit) -> Soft
     ensures { result ≡ turned_value by soft }

@@ -17,7 +17,7 @@ const NOISE: u8 = 20;
 
 const SEED: u64 = 1;
 
-/// The soft values that come of transmission `number`, which sends redundancy version `rv`.
+/// Returns the soft values that come of transmission `number`, which sends redundancy version `rv`.
 #[tactic(auto, using(soft_channel::proofs::Lengths::length_noisy))]
 fn received(
     alloc: Global,

@@ -37,7 +37,7 @@ pub fn put_borders<const N: usize>(borders: &[Border], m: &mut [[i16; N]; 8])
     put_numbers(borders, 7, &mut m[7]);
 }
 
-/// The border in lane `t`.
+/// Returns the border in lane `t`.
 fn lane_border<const N: usize>(m: &[[i16; N]; 8], t: usize) -> Border
     requires lane { t < N }
     requires shape { AreMetrics N m.now }
@@ -49,7 +49,7 @@ fn lane_border<const N: usize>(m: &[[i16; N]; 8], t: usize) -> Border
     ])
 }
 
-/// Leaves the border of each lane.
+/// Writes the border of each lane.
 pub fn take_borders<const N: usize>(m: &[[i16; N]; 8], borders: &mut [Border])
     requires lanes { length borders.old ≡ N }
     requires borders { AreBorders N m.now }

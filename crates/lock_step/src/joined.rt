@@ -10,7 +10,7 @@ ghost use Rattle.lock_step.specs.Vectors.{IsSmall, IsVector, AreRelative, better
 use crate::lanes::{self, better, difference, larger, loaded, scaled, store};
 use std::simd::prelude::*;
 
-/// The greatest number of a path by bit 0, without what the bit itself earns.
+/// Returns the greatest number of a path by bit 0, without what the bit itself earns.
 #[inline]
 fn through_zero<const N: usize>(
     before: &[[i16; N]; 8],
@@ -35,7 +35,7 @@ fn through_zero<const N: usize>(
     larger(lanes::sum(zero, loaded(p)), one)
 }
 
-/// The greatest number of a path by bit 1.
+/// Returns the greatest number of a path by bit 1.
 #[inline]
 fn through_one<const N: usize>(
     before: &[[i16; N]; 8],
@@ -60,7 +60,7 @@ fn through_one<const N: usize>(
     larger(lanes::sum(zero, loaded(p)), one)
 }
 
-/// How much better 0 is than 1 at a position, by all but what the bit itself earns.
+/// Returns how much better 0 is than 1 at a position, by all but what the bit itself earns.
 #[inline]
 pub fn extrinsic<const N: usize>(
     before: &[[i16; N]; 8],
@@ -79,7 +79,7 @@ pub fn extrinsic<const N: usize>(
     difference(zero, one)
 }
 
-/// Leaves the new cell of a position, and the extrinsic value with what an input bit 0 earns, which is
+/// Writes the new cell of a position, and the extrinsic value with what an input bit 0 earns, which is
 /// negative exactly where the decided bit is 1.
 #[inline]
 pub fn join<const N: usize>(

@@ -8,7 +8,7 @@ ghost use Rattle.lock_step.specs.Vectors.{IsSmall, IsVector};
 
 use std::simd::prelude::*;
 
-/// The numbers of a row.
+/// Returns the numbers of a row.
 #[inline]
 pub fn loaded<const N: usize>(row: &[i16; N]) -> Simd<i16, N>
     requires { IsVector N 32767 row.now }
@@ -26,7 +26,7 @@ pub fn store<const N: usize>(lanes: Simd<i16, N>, row: &mut [i16; N])
     lanes.copy_to_slice(row);
 }
 
-/// The sums of two numbers.
+/// Returns the sums of two numbers.
 #[inline]
 pub fn sum<const N: usize>(a: Simd<i16, N>, b: Simd<i16, N>) -> Simd<i16, N>
     requires first { IsVector N 32767 a }
@@ -38,7 +38,7 @@ pub fn sum<const N: usize>(a: Simd<i16, N>, b: Simd<i16, N>) -> Simd<i16, N>
     a.strict_add(b)
 }
 
-/// The differences of two numbers.
+/// Returns the differences of two numbers.
 #[inline]
 pub fn difference<const N: usize>(a: Simd<i16, N>, b: Simd<i16, N>) -> Simd<i16, N>
     requires first { IsVector N 32767 a }
@@ -50,7 +50,7 @@ pub fn difference<const N: usize>(a: Simd<i16, N>, b: Simd<i16, N>) -> Simd<i16,
     a.strict_sub(b)
 }
 
-/// The greater of two numbers.
+/// Returns the greater of two numbers.
 #[inline]
 pub fn larger<const N: usize>(a: Simd<i16, N>, b: Simd<i16, N>) -> Simd<i16, N>
     requires first { IsVector N 32767 a }
@@ -61,7 +61,7 @@ pub fn larger<const N: usize>(a: Simd<i16, N>, b: Simd<i16, N>) -> Simd<i16, N>
     a.simd_max(b)
 }
 
-/// The nearest numbers from -682 to 682.
+/// Returns the nearest numbers from -682 to 682.
 #[inline]
 fn near<const N: usize>(a: Simd<i16, N>) -> Simd<i16, N>
     requires { IsVector N 32767 a }
@@ -71,7 +71,7 @@ fn near<const N: usize>(a: Simd<i16, N>) -> Simd<i16, N>
     a.simd_min(Simd::splat(682)).simd_max(Simd::splat(-682))
 }
 
-/// Three quarters of the numbers, rounded toward zero.
+/// Returns three quarters of the numbers, rounded toward zero.
 #[inline]
 fn three_quarters<const N: usize>(a: Simd<i16, N>) -> Simd<i16, N>
     requires { IsVector N 682 a }
@@ -81,7 +81,7 @@ fn three_quarters<const N: usize>(a: Simd<i16, N>) -> Simd<i16, N>
     a.strict_mul(Simd::splat(3)) / Simd::splat(4)
 }
 
-/// Three quarters of the numbers, rounded toward zero and clamped to -511..=511.
+/// Returns three quarters of the numbers, rounded toward zero and clamped to -511..=511.
 #[inline]
 pub fn scaled<const N: usize>(a: Simd<i16, N>) -> Simd<i16, N>
     requires { IsVector N 32767 a }
@@ -92,7 +92,7 @@ pub fn scaled<const N: usize>(a: Simd<i16, N>) -> Simd<i16, N>
     three_quarters(near(a))
 }
 
-/// The greater of two sums.
+/// Returns the greater of two sums.
 #[inline]
 pub fn better<const N: usize>(
     a: &[i16; N],
@@ -109,7 +109,7 @@ pub fn better<const N: usize>(
     larger(sum(loaded(a), loaded(x)), sum(loaded(b), loaded(y)))
 }
 
-/// Leaves the greater of two sums.
+/// Writes the greater of two sums.
 #[inline]
 pub fn greater<const N: usize>(
     a: &[i16; N],
@@ -127,7 +127,7 @@ pub fn greater<const N: usize>(
     store(better(a, x, b, y), out);
 }
 
-/// Leaves the sums of small numbers.
+/// Writes the sums of small numbers.
 #[inline]
 pub fn add<const N: usize>(a: &[i16; N], b: &[i16; N], out: &mut [i16; N])
     requires first { IsSmall N 638 a.now }

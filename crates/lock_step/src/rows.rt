@@ -48,7 +48,7 @@ fn sweep_forward<const N: usize>(
     }
 }
 
-/// Leaves the new cells of a position and their sums, and the metrics before it.
+/// Writes the new cells of a position and their sums, and the metrics before it.
 fn step_back<const N: usize>(
     before: &[[i16; N]; 8],
     m: &mut [[i16; N]; 8],
@@ -80,7 +80,7 @@ fn step_back<const N: usize>(
     backward(&after, &x, par, m);
 }
 
-/// Leaves the new cells with their sums, and the metrics before the first position.
+/// Writes the new cells with their sums, and the metrics before the first position.
 fn sweep_backward<const N: usize>(
     rows: &[[[i16; N]; 8]],
     m: &mut [[i16; N]; 8],

@@ -23,7 +23,7 @@ impl<const N: usize> Model for LaneWork<N> {
 }
 
 impl<const N: usize> LaneWork<N> {
-    /// Room for windows of up to `width` positions; `width` is 8 to 768.
+    /// Allocates for windows of up to `width` positions; `width` is 8 to 768.
     pub fn new(alloc: Global, width: usize) -> Result<LaneWork<N>, NoMemory>
         requires lanes { IsLaneCount N }
         requires least { 8 ≤ width }
@@ -35,7 +35,7 @@ impl<const N: usize> LaneWork<N> {
         })
     }
 
-    /// The greatest width for which there is room.
+    /// Returns the greatest width for which there is room.
     pub fn room(&self) -> usize
         ensures { result ≡ self.now }
     {

@@ -57,14 +57,14 @@ impl<T> Model for List<T> {
 impl<T> List<T> {
     ghost use Rattle.lte_bits.specs.Lists.{LendsElements};
 
-    /// The values of a vector.
+    /// Returns the values of a vector.
     pub fn from_vec(items: Vec<T>) -> List<T>
         ensures { result ≡ items.items }
     {
         List { values: items }
     }
 
-    /// The values as a vector.
+    /// Returns the values as a vector.
     pub fn into_vec(self) -> Vec<T>
         ensures { result.items ≡ self }
     {
@@ -72,14 +72,14 @@ impl<T> List<T> {
         values
     }
 
-    /// The values.
+    /// Returns the values.
     pub fn as_slice(&self) -> &[T]
         ensures { result.now ≡ self.now }
     {
         self.values.as_slice()
     }
 
-    /// The values, for writing.
+    /// Returns the values, for writing.
     pub fn as_mut_slice(&mut self) -> &mut [T]
         ensures* writes_back { sem 𝓛 (LendsElements T.row self.entry result) }
         ensures value { result.now ≡ self.old }
@@ -91,7 +91,7 @@ impl<T> List<T> {
 impl<T: Copy> List<T> {
     ghost use Rattle.lte_bits.specs.Lists.{resized};
 
-    /// Leaves the first `n` values, followed by as many `v` as are missing to `n`.
+    /// Keeps the first `n` values, followed by as many `v` as are missing to `n`.
     pub fn resize(&mut self, n: usize, v: T) -> Result<(), NoMemory>
         ensures ok { OnOk result (self.new ≡ resized self.old n v) }
         ensures err { OnErr result (self.new ≡ self.old) }

@@ -28,7 +28,7 @@ static ROWS: [[Bit; 4]; 16] = [
     [Bit::One, Bit::One, Bit::One, Bit::One],
 ];
 
-/// The four bits of a number, the highest first.
+/// Returns the four bits of a number, the highest first.
 fn row(n: usize) -> [Bit; 4]
     requires { n < 16 }
     ensures { result ≡ four_bits n }
@@ -49,7 +49,7 @@ fn write_unpacked(bits: &mut [Bit], bytes: &[u8])
     }
 }
 
-/// The bits of each byte, the highest first.
+/// Returns the bits of each byte, the highest first.
 pub fn unpack(alloc: Global, bytes: &[u8]) -> Result<List<Bit>, NoMemory>
     ensures { IfOk result (λ bits. bits ≡ unpacked bytes.now) }
 {
@@ -59,7 +59,7 @@ pub fn unpack(alloc: Global, bytes: &[u8]) -> Result<List<Bit>, NoMemory>
     Ok(List::from_vec(bits))
 }
 
-/// The byte with eight digits, the highest first.
+/// Returns the byte with eight digits, the highest first.
 pub fn byte_of(digits: &[Bit; 8]) -> u8
     ensures { result ≡ number digits.now }
 {
@@ -68,7 +68,7 @@ pub fn byte_of(digits: &[Bit; 8]) -> u8
     (digits.wrapping_mul(0x8040_2010_0804_0201) >> 56) as u8
 }
 
-/// At most eight bits, filled up with `Zero`.
+/// Returns at most eight bits, filled up with `Zero`.
 fn filled_up(bits: &[Bit]) -> [Bit; 8]
     requires { length bits.now ≤ 8 }
     ensures { result ≡ resized bits.now 8 Bit.Zero }
@@ -92,7 +92,7 @@ fn write_packed(bytes: &mut [u8], bits: &[Bit])
     }
 }
 
-/// The bits as bytes, the highest first. The unused low bits of the last byte are 0.
+/// Returns the bits as bytes, the highest first. The unused low bits of the last byte are 0.
 pub fn pack(alloc: Global, bits: &[Bit]) -> Result<List<u8>, NoMemory>
     ensures { IfOk result (λ bytes. bytes ≡ packed bits.now) }
 {

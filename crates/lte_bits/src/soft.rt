@@ -27,14 +27,14 @@ impl Soft {
     /// The soft value that says nothing.
     pub const ZERO: Soft = Soft { value: 0 };
 
-    /// The number, and -127 for -128.
+    /// Returns the number, and -127 for -128.
     pub fn from_i8(v: i8) -> Soft
         ensures { result ≡ clamped 127 v }
     {
         Soft { value: v.max(-127) }
     }
 
-    /// The number, -127 to 127.
+    /// Returns the number, -127 to 127.
     pub fn value(self) -> i8
         ensures value { result ≡ self }
         ensures range { IsWithin 127 result }
@@ -42,7 +42,7 @@ impl Soft {
         self.value
     }
 
-    /// The sum, clamped to -127 to 127.
+    /// Returns the sum, clamped to -127 to 127.
     pub fn add_sat(self, other: Soft) -> Soft
         ensures { result ≡ clamped 127 (self +ℤ other) }
     {

@@ -198,7 +198,7 @@ pub const ROWS: [Row; 188] = [
     Row(6144, 263, 480),
 ];
 
-/// The rows of the table, in order of K, and so the sizes of code blocks.
+/// Returns the rows of the table, in order of K, and so the sizes of code blocks.
 pub fn table() -> &'static [Row]
     ensures rows { result.now ≡ ROWS }
     ensures sizes { map (λ row. row.0) result.now ≡ sizes }

@@ -12,7 +12,7 @@ pub struct Closed<P: Piece> {
 }
 
 impl<P: Piece> Closed<P> {
-    /// The half at which the board was stopped.
+    /// Returns the half at which the board was stopped.
     pub fn half(&self) -> u32
         ensures { result ≡ self.now.half }
     {

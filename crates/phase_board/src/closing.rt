@@ -14,7 +14,7 @@ impl<P: Piece> Board<P> {
     ghost use Rattle.phase_board.specs.Steps.{DrawnOnce};
     ghost use Rattle.phase_board.specs.Closings.{closed_job, AllDrawnAndDone};
 
-    /// The common value of a stopped board. Other seats were joined, or are dropped idle.
+    /// Returns the common value of a stopped board. Other seats were joined, or are dropped idle.
     pub fn close(self, seat: Idle<P>) -> (P::Common, Closed<P>)
         requires board { IsIdleOf self seat }
         requires over { IsStopped (idle_view seat).found }

@@ -76,7 +76,7 @@ impl<P: Piece> Board<P> {
     ghost use Rattle.phase_board.specs.Boards.{board_job};
     ghost use Rattle.phase_board.specs.Seats.{IsIdleOf, idle_view};
 
-    /// A board at half 0 and its first seat, from 1 to 64 pieces that are ready for it.
+    /// Returns a board at half 0 and its first seat, from 1 to 64 pieces that are ready for it.
     pub fn new(
         alloc: Global,
         pieces: Vec<P>,

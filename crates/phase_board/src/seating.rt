@@ -10,7 +10,7 @@ impl<P: Piece> Board<P> {
     ghost use Rattle.phase_board.specs.Seats.{IsIdleOf, idle_view};
     ghost use Rattle.phase_board.specs.Steps.{twin, merged};
 
-    /// The same seat, and a new one with empty lists and no looks that has seen the same words.
+    /// Returns the same seat, and a new one with empty lists and no looks that has seen the same words.
     pub fn split_seat(&self, seat: Idle<P>) -> (Idle<P>, Idle<P>)
         requires { IsIdleOf self.now seat }
         ensures board { IsIdleOf self.now result.0 × IsIdleOf self.now result.1 }
@@ -22,7 +22,7 @@ impl<P: Piece> Board<P> {
         (Idle { seat, found }, Idle { seat: other, found })
     }
 
-    /// One seat that knows what either knew. The looks and the loaded word are those of `into`.
+    /// Returns one seat that knows what either knew. The looks and the loaded word are those of `into`.
     pub fn join_seat(&self, into: Idle<P>, other: Idle<P>) -> Idle<P>
         requires into { IsIdleOf self.now into }
         requires other { IsIdleOf self.now other }

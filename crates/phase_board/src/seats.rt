@@ -72,7 +72,7 @@ pub enum Finish<P: Piece> {
 impl<P: Piece> Idle<P> {
     ghost use Rattle.phase_board.specs.Seats.{idle_view};
 
-    /// Whether the word that the seat found says that the board is stopped.
+    /// Returns whether the word that the seat found says that the board is stopped.
     pub fn saw_over(&self) -> bool
         ensures { IsTrue result ↔ IsStopped (idle_view self.now).found }
     {
@@ -81,14 +81,14 @@ impl<P: Piece> Idle<P> {
 }
 
 impl<P: Piece> Working<P> {
-    /// The half of its window.
+    /// Returns the half of its window.
     pub fn half(&self) -> u32
         ensures { result ≡ self.now.half }
     {
         self.half
     }
 
-    /// Its window, from 0.
+    /// Returns its window, from 0.
     pub fn window(&self) -> u32
         ensures { result ≡ self.now.window }
     {
@@ -97,7 +97,7 @@ impl<P: Piece> Working<P> {
 }
 
 impl<P: Piece> Turning<P> {
-    /// The half whose windows are done.
+    /// Returns the half whose windows are done.
     pub fn half(&self) -> u32
         ensures { result ≡ self.now.half }
     {

@@ -5,7 +5,7 @@ ghost use Rattle.std.specs.Prelude.{◌≡◌, ◌≤◌, ◌*◌, ◌-ℤ◌, p
 ghost use Rattle.lte_bits.specs.Softs.{IsWithin, clamped};
 ghost use Rattle.qam_points.specs.Coordinate.{coordinate_value};
 
-/// The part of a coordinate that lies within a bound of 0.
+/// Returns the part of a coordinate that lies within a bound of 0.
 #[inline]
 fn within(bound: u16, t: i32) -> i32
     requires bound { bound ≤ 762 }
@@ -17,7 +17,7 @@ fn within(bound: u16, t: i32) -> i32
     t.clamp(-bound, bound)
 }
 
-/// The value of the first of a coordinate's two bits, which is its sign.
+/// Returns the value of the first of a coordinate's two bits, which is its sign.
 #[inline]
 pub fn first_of_two(t: i32, amp: u8) -> i32
     requires t { IsWithin 5000 t }
@@ -28,7 +28,7 @@ pub fn first_of_two(t: i32, amp: u8) -> i32
     2 * t - within(2 * u16::from(amp), t)
 }
 
-/// The value of the second of its two bits, which is its size.
+/// Returns the value of the second of its two bits, which is its size.
 #[inline]
 pub fn second_of_two(t: i32, amp: u8) -> i32
     requires t { IsWithin 5000 t }
@@ -39,7 +39,7 @@ pub fn second_of_two(t: i32, amp: u8) -> i32
     2 * i32::from(amp) - t.abs()
 }
 
-/// The value of the first of a coordinate's three bits, which is its sign.
+/// Returns the value of the first of a coordinate's three bits, which is its sign.
 #[inline]
 pub fn first_of_three(t: i32, amp: u8) -> i32
     requires t { IsWithin 5000 t }
@@ -51,8 +51,8 @@ pub fn first_of_three(t: i32, amp: u8) -> i32
     4 * t - within(2 * amp, t) - within(4 * amp, t) - within(6 * amp, t)
 }
 
-/// By how much its size is below the middle of all sizes. Its second and third bit have the values of the two
-/// bits of a coordinate there.
+/// Returns by how much its size is below the middle of all sizes. Its second and third bit have the values of
+/// the two bits of a coordinate there.
 #[inline]
 pub fn rest_of_three(t: i32, amp: u8) -> i32
     requires t { IsWithin 4000 t }

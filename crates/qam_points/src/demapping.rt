@@ -9,7 +9,7 @@ use crate::point::Point;
 use lte_bits::{List, NoMemory, Soft};
 use std::alloc::Global;
 
-/// A value, clamped.
+/// Returns a value, clamped.
 #[inline]
 fn soft(value: i32) -> Soft
     ensures { result ≡ clamped 127 value }
@@ -17,7 +17,7 @@ fn soft(value: i32) -> Soft
     Soft::from_i8(value.clamp(-127, 127) as i8)
 }
 
-/// The soft values of a point of two bits.
+/// Returns the soft values of a point of two bits.
 fn two_values(y: Point) -> [Soft; 2]
     requires near { IsNearby y }
     ensures { (amp : ℕ) → 0 < amp → result ≡ soft_values 2 amp y }
@@ -25,7 +25,7 @@ fn two_values(y: Point) -> [Soft; 2]
     [soft(y.i), soft(y.q)]
 }
 
-/// The soft values of a point of four bits.
+/// Returns the soft values of a point of four bits.
 fn four_values(y: Point, amp: u8) -> [Soft; 4]
     requires near { IsNearby y }
     requires amp { (1 ≤ amp) × (amp ≤ 127) }
@@ -39,7 +39,7 @@ fn four_values(y: Point, amp: u8) -> [Soft; 4]
     ]
 }
 
-/// The soft values of a point of six bits.
+/// Returns the soft values of a point of six bits.
 fn six_values(y: Point, amp: u8) -> [Soft; 6]
     requires near { IsNearby y }
     requires amp { (1 ≤ amp) × (amp ≤ 127) }
@@ -57,7 +57,7 @@ fn six_values(y: Point, amp: u8) -> [Soft; 6]
     ]
 }
 
-/// The soft values of the `qm` bits, 2, 4 or 6, of each received point. The points were sent with an
+/// Returns the soft values of the `qm` bits, 2, 4 or 6, of each received point. The points were sent with an
 /// amplitude of 1 to 127, and the coordinates of what is received are from -4000 to 4000. A value is by how
 /// much the nearest point whose bit is 1 is further, by its squared distance, than the nearest whose bit is
 /// 0, divided by four times the amplitude, rounded toward zero, and clamped.

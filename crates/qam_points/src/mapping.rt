@@ -7,7 +7,7 @@ use crate::point::Point;
 use lte_bits::{Bit, List, NoMemory};
 use std::alloc::Global;
 
-/// 1 for a 0, and -1 for a 1.
+/// Returns 1 for a 0, and -1 for a 1.
 fn sign(bit: Bit) -> i32
     ensures value { result ≡ sign bit }
     ensures range { IsWithin 1 result }
@@ -18,7 +18,7 @@ fn sign(bit: Bit) -> i32
     }
 }
 
-/// A coordinate of two bits.
+/// Returns a coordinate of two bits.
 fn level_of_two(a: Bit, b: Bit) -> i32
     ensures value { result ≡ sign a *ℤ (pos 2 -ℤ sign b) }
     ensures range { IsWithin 3 result }
@@ -26,14 +26,14 @@ fn level_of_two(a: Bit, b: Bit) -> i32
     sign(a) * (2 - sign(b))
 }
 
-/// A coordinate of three bits.
+/// Returns a coordinate of three bits.
 fn level_of_three(a: Bit, b: Bit, c: Bit) -> i32
     ensures { result ≡ sign a *ℤ (pos 4 -ℤ sign b *ℤ (pos 2 -ℤ sign c)) }
 {
     sign(a) * (4 - level_of_two(b, c))
 }
 
-/// The point of 2, 4 or 6 bits.
+/// Returns the point of 2, 4 or 6 bits.
 fn point(bits: &[Bit]) -> Point
     requires { IsOrder (length bits.now) }
     ensures { result ≡ point bits.now }
@@ -55,7 +55,7 @@ fn point(bits: &[Bit]) -> Point
     }
 }
 
-/// The points of bits, `qm` bits each: 2, 4 or 6, which divides their number.
+/// Returns the points of bits, `qm` bits each: 2, 4 or 6, which divides their number.
 pub fn map(alloc: Global, bits: &[Bit], qm: u8) -> Result<List<Point>, NoMemory>
     requires order { IsOrder qm }
     requires whole { length bits.now % qm ≡ 0 }

@@ -6,8 +6,8 @@ ghost use Rattle.qpp_table.specs.Qpp.{size_in, width, bank_at, row_at};
 
 use crate::interleaver::{Interleaver, Qpp};
 
-/// The bank and the row of place `j` of window `t`, where `m` windows of one width W divide the
-/// size: the quotient and the remainder by W of the place from which it takes its value.
+/// Returns the bank and the row of place `j` of window `t`, where `m` windows of one width W divide the size:
+/// the quotient and the remainder by W of the place from which it takes its value.
 ///
 /// Place `j` has one row in all windows, and a bank of its own in each.
 pub fn bank_row(q: &Qpp, m: usize, t: usize, j: usize) -> (usize, usize)

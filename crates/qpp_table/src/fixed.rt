@@ -15,7 +15,7 @@ pub struct FixedQpp<const K: usize, const F1: usize, const F2: usize> {
 }
 
 impl<const K: usize, const F1: usize, const F2: usize> FixedQpp<K, F1, F2> {
-    /// The interleaver, and `None` exactly where its numbers aren't lawful: K is at least 1, F1 is a
+    /// Returns the interleaver, and `None` exactly where its numbers aren't lawful: K is at least 1, F1 is a
     /// unit modulo K, and F2^7 is 0 modulo K.
     pub fn new() -> Option<Self>
         ensures { IsSome result ↔ Lawful K F1 F2 }
@@ -27,8 +27,8 @@ impl<const K: usize, const F1: usize, const F2: usize> FixedQpp<K, F1, F2> {
         }
     }
 
-    /// Leaves in `out` the place from which each place of a block takes its bit, where the table's
-    /// row of size K has these factors.
+    /// Writes to `out` the place from which each place of a block takes its bit, where the table's row of
+    /// size K has these factors.
     pub(crate) fn fill(out: &mut [u16])
         requires row { find (λ r. r.0 == K) ROWS ≡ Some (record { 0 = K; 1 = F1; 2 = F2 }) }
         requires room { length out.old ≡ K }

@@ -12,11 +12,11 @@ pub trait Interleaver {
 
     ghost place_of: { Self → ℕ → ℕ };
 
-    /// The number of places.
+    /// Returns the number of places.
     fn size(&self) -> usize
         ensures { result ≡ size_of self.now };
 
-    /// The place from which place `i` takes its value; `i` is below the size.
+    /// Returns the place from which place `i` takes its value; `i` is below the size.
     fn at(&self, i: usize) -> usize
         requires { i < size_of self.now }
         ensures { result ≡ place_of self.now i };
@@ -49,7 +49,7 @@ pub struct Qpp {
 impl Qpp {
     ghost use Rattle.qpp_table.specs.Qpp.{row_in};
 
-    /// The interleaver of a row of the table.
+    /// Returns the interleaver of a row of the table.
     pub(crate) fn of_row(row: Row) -> Qpp
         requires { IsRow row }
         ensures { row_in result ≡ row }
@@ -61,14 +61,14 @@ impl Qpp {
         }
     }
 
-    /// The factor of the linear term.
+    /// Returns the factor of the linear term.
     pub fn f1(&self) -> usize
         ensures { result ≡ (row_in self.now).1 }
     {
         self.f1
     }
 
-    /// The factor of the square.
+    /// Returns the factor of the square.
     pub fn f2(&self) -> usize
         ensures { result ≡ (row_in self.now).2 }
     {

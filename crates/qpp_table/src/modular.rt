@@ -2,7 +2,7 @@
 ghost use Rattle.std.specs.Prelude.{◌≡◌, ◌*◌, ◌%◌, ◌^◌, ◌<◌, ◌↔◌, IsTrue};
 ghost use Rattle.model_sender.specs.Interleaver.{IsUnit};
 
-/// The product modulo `k`.
+/// Returns the product modulo `k`.
 pub fn product_modulo(k: usize, a: usize, b: usize) -> usize
     requires { 0 < k }
     ensures value { result ≡ a * b % k }
@@ -11,7 +11,7 @@ pub fn product_modulo(k: usize, a: usize, b: usize) -> usize
     (a as u128 * b as u128 % k as u128) as usize
 }
 
-/// Whether `f` has an inverse modulo `k`, which it has where 1 is their greatest common divisor.
+/// Returns whether `f` has an inverse modulo `k`, which it has where 1 is their greatest common divisor.
 pub fn is_unit(k: usize, f: usize) -> bool
     requires { 0 < k }
     ensures { IsTrue result ↔ IsUnit k f }
@@ -26,7 +26,7 @@ pub fn is_unit(k: usize, f: usize) -> bool
     a == 1
 }
 
-/// Whether the seventh power of `f` is 0 modulo `k`.
+/// Returns whether the seventh power of `f` is 0 modulo `k`.
 pub fn is_nilpotent(k: usize, f: usize) -> bool
     requires { 0 < k }
     ensures { IsTrue result ↔ (f ^ 7 % k ≡ 0) }

@@ -11,14 +11,14 @@ use crate::groups::{
 use crate::interleaver::Qpp;
 use model_sender::{Row, table};
 
-/// The first of some rows that has the size `k`.
+/// Returns the first of some rows that has the size `k`.
 fn find_row(rows: &[Row], k: usize) -> Option<Row>
     ensures { result ≡ find (λ row. row.0 == k) rows.now }
 {
     rows.iter().copied().find(|row| row.0 == k)
 }
 
-/// The interleaver of size `k`, and `None` exactly where `k` isn't one of the 188 sizes.
+/// Returns the interleaver of size `k`, and `None` exactly where `k` isn't one of the 188 sizes.
 pub fn qpp(k: usize) -> Option<Qpp>
     ensures some { IsSome result ↔ Contains sizes k }
     ensures row { IfSome result (λ q. row_in q ≡ row_of k) }
@@ -31,8 +31,8 @@ pub fn qpp(k: usize) -> Option<Qpp>
     }
 }
 
-/// Leaves in `out` the place from which each place of a block takes its bit. `k` is one of the 188
-/// sizes, and `out` has length `k`.
+/// Writes to `out` the place from which each place of a block takes its bit. `k` is one of the 188 sizes, and
+/// `out` has length `k`.
 #[tactic(auto, unfolding(crate::specs::Groups::addresses_of))]
 pub fn addresses(k: usize, out: &mut [u16])
     requires size { Contains sizes k }

@@ -1,7 +1,7 @@
 //! The walk along the places of an interleaver by additions.
 ghost use Rattle.std.specs.Prelude.{◌≡◌, ℕ, ◌+◌, ◌*◌, ◌%◌, ◌^◌, ◌<◌, ◌≤◌};
 
-/// The sum modulo `k` of two numbers below it.
+/// Returns the sum modulo `k` of two numbers below it.
 fn sum_modulo(k: usize, a: usize, b: usize) -> usize
     requires size { k < 2 ^ 63 }
     requires first { a < k }
@@ -30,7 +30,7 @@ pub struct Walk {
 impl Walk {
     ghost use Rattle.qpp_table.specs.Walk.{size_along, IsAt};
 
-    /// The value of place 0, where K is `size`.
+    /// Returns the value of place 0, where K is `size`.
     #[inline]
     pub fn new(size: usize, f1: usize, f2: usize) -> Walk
         requires some { 1 ≤ size }
@@ -48,7 +48,7 @@ impl Walk {
         }
     }
 
-    /// The value of the next place.
+    /// Returns the value of the next place.
     #[inline]
     pub fn next(self) -> Walk
         ensures size { size_along result ≡ size_along self }

@@ -3,7 +3,7 @@ ghost use Rattle.std.specs.Prelude.{ℕ, ◌*◌, ◌≤◌, Contains};
 ghost use Prim.Native.Nat.{◌∣◌};
 ghost use Rattle.model_sender.specs.Interleaver.{sizes};
 
-/// The greatest number of windows, at most `m`, that divide a block of `k` places and are at least 8
+/// Returns the greatest number of windows, at most `m`, that divide a block of `k` places and are at least 8
 /// wide. `k` is one of the 188 sizes, and `m` is 1 to 64.
 pub fn win(k: usize, m: usize) -> usize
     requires size { Contains sizes k }

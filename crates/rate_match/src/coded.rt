@@ -49,7 +49,8 @@ impl<'a> Coded<'a> {
         Ok(Coded { payload, streams })
     }
 
-    /// The G bits that redundancy version `rv`, 0 to 3, sends, where the buffer fits the payload's plan.
+    /// Returns the G bits that redundancy version `rv`, 0 to 3, sends, where the buffer fits the payload's
+    /// plan.
     pub fn codeword(&self, alloc: Global, m: &Match, rv: u8) -> Result<List<Bit>, NoMemory>
         requires fits { Fits m.now (plan_of (length self.now)) }
         requires version { rv ≤ 3 }

@@ -11,7 +11,7 @@ use segmentation::{cut, plan, size};
 use std::alloc::Global;
 use turbo_encode::{Order, encode_in_order};
 
-/// The G bits that redundancy version `rv`, 0 to 3, sends of a payload of 1 to 18,722 bytes, whose
+/// Returns the G bits that redundancy version `rv`, 0 to 3, sends of a payload of 1 to 18,722 bytes, whose
 /// plan the buffer fits. One code block's streams are held at a time.
 pub fn codeword(alloc: Global, payload: &[u8], m: &Match, rv: u8) -> Result<List<Bit>, NoMemory>
     requires some { 1 ≤ length payload.now }

@@ -12,7 +12,7 @@ const COLUMN_ORDER: [usize; 32] = [
     11, 27, 7, 23, 15, 31,
 ];
 
-/// The column that is read after `i` others.
+/// Returns the column that is read after `i` others.
 fn column(i: usize) -> usize
     requires { i < 32 }
     ensures value { result ≡ slice_index column_order i }
@@ -21,7 +21,7 @@ fn column(i: usize) -> usize
     COLUMN_ORDER[i]
 }
 
-/// The bit at place `p` of stream `number` after its padding, where `nulls` of the stream are NULL.
+/// Returns the bit at place `p` of stream `number` after its padding, where `nulls` of the stream are NULL.
 fn padded_spot(ring: Ring, number: u8, nulls: usize, p: usize) -> Option<Spot>
     requires stream { number ≤ 2 }
     requires few { nulls ≤ 6144 }
@@ -50,7 +50,7 @@ pub struct Cursor {
 }
 
 impl Cursor {
-    /// Place `n`.
+    /// Returns place `n`.
     pub fn at(ring: Ring, n: usize) -> Cursor
         requires { n < ring.size }
         ensures { result ≡ cursor_at ring.rows n }
@@ -65,7 +65,7 @@ impl Cursor {
         }
     }
 
-    /// Place `n`, where the reading of a stream begins.
+    /// Returns place `n`, where the reading of a stream begins.
     fn first(n: usize) -> Cursor
         ensures { result ≡ record { n = n; column = 0; by_rows = 0 } }
     {
@@ -76,7 +76,7 @@ impl Cursor {
         }
     }
 
-    /// Place `n`, at which the stream is read one place further than here.
+    /// Returns place `n`, at which the stream is read one place further than here.
     fn further(self, ring: Ring, n: usize) -> Cursor
         requires lawful { self ≡ cursor_at ring.rows self.n }
         requires next { order_of ring.rows n ≡ order_of ring.rows self.n + 1 }
@@ -98,7 +98,7 @@ impl Cursor {
         }
     }
 
-    /// The next place, round the circle.
+    /// Returns the next place, round the circle.
     pub fn next(self, ring: Ring) -> Cursor
         requires within { self.n < ring.size }
         requires lawful { self ≡ cursor_at ring.rows self.n }
@@ -117,7 +117,7 @@ impl Cursor {
         }
     }
 
-    /// The bit that stands here.
+    /// Returns the bit that stands here.
     pub fn spot(self, ring: Ring) -> Option<Spot>
         requires within { self.n < ring.size }
         requires lawful { self ≡ cursor_at ring.rows self.n }
@@ -136,8 +136,8 @@ impl Cursor {
         }
     }
 
-    /// How many places from here on, `most` at most, hold bits of one column and stand in the ring. Where
-    /// it is 0, a bit may stand here all the same.
+    /// Returns how many places from here on, `most` at most, hold bits of one column and stand in the ring.
+    /// Where it is 0, a bit may stand here all the same.
     pub fn run(self, ring: Ring, most: usize) -> usize
         requires within { self.n < ring.size }
         requires lawful { self ≡ cursor_at ring.rows self.n }
@@ -158,7 +158,7 @@ impl Cursor {
         column.min(ring.size - self.n).min(most)
     }
 
-    /// How many rows of the column the place is below, that stands `i` places further on.
+    /// Returns how many rows of the column the place is below, that stands `i` places further on.
     fn rows_down(self, ring: Ring, i: usize) -> usize
         requires { i ≤ 18528 }
         ensures { result ≡ rows_down ring.rows self i }
@@ -170,7 +170,7 @@ impl Cursor {
         }
     }
 
-    /// The place `i` further on in the same column.
+    /// Returns the place `i` further on in the same column.
     pub fn down(self, ring: Ring, i: usize) -> Cursor
         requires within { self.n + i < ring.size }
         requires lawful { self ≡ cursor_at ring.rows self.n }
@@ -184,7 +184,7 @@ impl Cursor {
         }
     }
 
-    /// The bit that stands `i` places further on in the same column.
+    /// Returns the bit that stands `i` places further on in the same column.
     pub fn spot_down(self, ring: Ring, i: usize) -> Spot
         requires within { self.n + i < ring.size }
         requires above { padding ring.k ≤ self.by_rows }

@@ -9,8 +9,8 @@ use crate::numbers::rows_of;
 use segmentation::planning::plan;
 use segmentation::plans::Plan;
 
-/// Whether the buffer is full, or its part for each code block holds all of the first stream of
-/// the largest block.
+/// Returns whether the buffer is full, or its part for each code block holds all of the first stream of the
+/// largest block.
 pub fn fits_buffer(buffer: Buffer, plan: &Plan) -> bool
     ensures { IsTrue result ↔ FitsIn (limit_of buffer) plan.now.c plan.now.k_plus }
 {
@@ -20,14 +20,14 @@ pub fn fits_buffer(buffer: Buffer, plan: &Plan) -> bool
     }
 }
 
-/// `fits_buffer` of the buffer of a matching.
+/// Returns `fits_buffer` of the buffer of a matching.
 pub fn fits_plan(m: &Match, plan: &Plan) -> bool
     ensures { IsTrue result ↔ Fits m.now plan.now }
 {
     fits_buffer(m.buffer(), plan)
 }
 
-/// Whether `fits_plan` holds for the plan of every length from 1 to `tb`, which is 1 to 18,722. A
+/// Returns whether `fits_plan` holds for the plan of every length from 1 to `tb`, which is 1 to 18,722. A
 /// longer transport block needs no less, so that the plan of `tb` tells.
 pub fn fits(m: &Match, tb: usize) -> bool
     requires some { 1 ≤ tb }

@@ -74,7 +74,7 @@ impl Buffer {
 }
 
 impl Match {
-    /// The matching of these numbers. `BadQm`, `BadNl` and `BadG` come in this order, each exactly
+    /// Returns the matching of these numbers. `BadQm`, `BadNl` and `BadG` come in this order, each exactly
     /// where the number isn't accepted.
     pub fn new(qm: u8, nl: u8, g: u32, buffer: Buffer) -> Result<Match, BadMatch>
         ensures { result ≡ matched qm nl g (limit_of buffer) }
@@ -96,7 +96,7 @@ impl Match {
         })
     }
 
-    /// Q_m.
+    /// Returns Q_m.
     pub fn qm(&self) -> u8
         ensures value { result ≡ self.now.qm }
         ensures lawful { IsMatch self.now }
@@ -104,7 +104,7 @@ impl Match {
         self.qm
     }
 
-    /// N_L.
+    /// Returns N_L.
     pub fn nl(&self) -> u8
         ensures value { result ≡ self.now.nl }
         ensures lawful { IsMatch self.now }
@@ -112,7 +112,7 @@ impl Match {
         self.nl
     }
 
-    /// G.
+    /// Returns G.
     pub fn g(&self) -> usize
         ensures value { result ≡ self.now.g }
         ensures lawful { IsMatch self.now }
@@ -120,7 +120,7 @@ impl Match {
         self.g as usize
     }
 
-    /// Whether the soft buffer is that of another matching.
+    /// Returns whether the soft buffer is that of another matching.
     pub(crate) fn shares_buffer(&self, other: &Match) -> bool
         ensures same { IsTrue result ↔ (self.now.limit ≡ other.now.limit) }
         ensures lawful { IsMatch self.now }
@@ -128,7 +128,7 @@ impl Match {
         self.limit == other.limit
     }
 
-    /// The soft buffer.
+    /// Returns the soft buffer.
     pub fn buffer(&self) -> Buffer
         ensures value { limit_of result ≡ self.now.limit }
         ensures lawful { IsMatch self.now }

@@ -24,7 +24,7 @@ pub struct Ring {
     pub ghost within: { size ≤ buffer_size k },
 }
 
-/// The first N_cb places of the circular buffer of block `r`, from which it is sent. `r` is below C,
+/// Returns the first N_cb places of the circular buffer of block `r`, from which it is sent. `r` is below C,
 /// and the buffer fits the plan.
 pub fn ring_of(m: &Match, plan: &Plan, r: usize) -> Ring
     requires block { r < plan.now.c }

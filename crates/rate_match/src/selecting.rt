@@ -19,9 +19,9 @@ use model_sender::Spot;
 use segmentation::plans::Plan;
 use std::alloc::Global;
 
-/// The bit of d0, d1 or d2 that stands at place `n` of the circular buffer of a block of `k` bits,
-/// the first `fill` of which are fillers. `None` comes exactly where NULL stands there. K is one of
-/// the 188 sizes, `fill` is below K, and `n` is below K_w.
+/// Returns the bit of d0, d1 or d2 that stands at place `n` of the circular buffer of a block of `k` bits,
+/// the first `fill` of which are fillers. `None` comes exactly where NULL stands there. K is one of the 188
+/// sizes, `fill` is below K, and `n` is below K_w.
 pub fn spot(k: usize, fill: usize, n: usize) -> Option<Spot>
     requires size { Contains sizes k }
     requires fills { fill < k }
@@ -39,7 +39,7 @@ pub fn spot(k: usize, fill: usize, n: usize) -> Option<Spot>
     Cursor::at(ring, n).spot(ring)
 }
 
-/// Stream 0, 1 or 2.
+/// Returns stream 0, 1 or 2.
 fn stream_of(streams: &Streams, number: u8) -> &[Cell]
     ensures { result.now ≡ stream_of streams.now number }
 {
@@ -59,7 +59,7 @@ fn bit_of_cell(cell: Cell) -> Bit
     }
 }
 
-/// The bit at a spot of the streams.
+/// Returns the bit at a spot of the streams.
 fn bit_at(streams: &Streams, spot: Spot) -> Bit
     requires { spot.index < length (stream_of streams.now spot.stream) }
     ensures { result ≡ bit_of_cell (cell_at streams.now (Some spot)) }
@@ -134,9 +134,9 @@ pub(crate) fn push_piece(
     Ok(())
 }
 
-/// The E_r bits that redundancy version `rv` sends of block `r`, whose coded streams these are: of
-/// the block's length, NULL at its fillers in d0 and d1, and nowhere in d2. `r` is below C, the
-/// buffer fits the plan, and `rv` is 0 to 3.
+/// Returns the E_r bits that redundancy version `rv` sends of block `r`, whose coded streams these are: of
+/// the block's length, NULL at its fillers in d0 and d1, and nowhere in d2. `r` is below C, the buffer fits
+/// the plan, and `rv` is 0 to 3.
 pub fn select(
     alloc: Global,
     streams: &Streams,

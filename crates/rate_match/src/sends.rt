@@ -42,7 +42,7 @@ impl Model for Sends {
 }
 
 impl Sends {
-    /// A single transmission. `None` comes exactly where the redundancy version is above 3.
+    /// Returns a single transmission. `None` comes exactly where the redundancy version is above 3.
     pub fn one(m: Match, rv: u8) -> Option<Sends>
         ensures some { IsSome result ↔ (rv ≤ 3) }
         ensures value { IfSome result (λ sends. sends ≡ record { m = m; rv = rv } ∷ []) }
@@ -72,7 +72,7 @@ impl Sends {
         true
     }
 
-    /// How many transmissions there are.
+    /// Returns how many transmissions there are.
     pub fn len(&self) -> usize
         ensures value { result ≡ length self.now }
         ensures lawful { AreSendings self.now }
@@ -80,7 +80,7 @@ impl Sends {
         self.held
     }
 
-    /// The soft buffer of all of them.
+    /// Returns the soft buffer of all of them.
     pub fn buffer(&self) -> Buffer
         ensures value { limit_of result ≡ (common self.now).limit }
         ensures lawful { AreSendings self.now }
@@ -88,7 +88,7 @@ impl Sends {
         self.values[0].m.buffer()
     }
 
-    /// Transmission `i`; `i` is below the length.
+    /// Returns transmission `i`; `i` is below the length.
     pub fn at(&self, i: usize) -> (Match, u8)
         requires { i < length self.now }
         ensures value { slice_get self.now i ≡ Some (record { m = result.0; rv = result.1 }) }
@@ -98,7 +98,7 @@ impl Sends {
         (sending.m, sending.rv)
     }
 
-    /// Whether all the matchings are equal.
+    /// Returns whether all the matchings are equal.
     pub fn even(&self) -> bool
         ensures even { IsTrue result ↔ AreEven self.now }
         ensures lawful { AreSendings self.now }

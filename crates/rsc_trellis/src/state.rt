@@ -23,7 +23,7 @@ impl Model for State {
     ghost inverse = { λ s. record { a1 = s.a1; a2 = s.a2; a3 = s.a3 } };
 }
 
-/// A bit that is `One` where the test holds.
+/// Returns a bit that is `One` where the test holds.
 fn bit(is_one: bool) -> Bit
     ensures { result ≡ (if is_one then Bit.One else Bit.Zero) }
 {
@@ -41,7 +41,7 @@ impl State {
         a3: Bit::Zero,
     };
 
-    /// The state with a number, and `None` exactly above 7.
+    /// Returns the state with a number, and `None` exactly above 7.
     pub fn new(s: u8) -> Option<State>
         ensures none { IsNone result ↔ (7 < s) }
         ensures number { IfSome result (λ state. state_number state ≡ s) }
@@ -56,14 +56,14 @@ impl State {
         })
     }
 
-    /// The state with these last three values of the register, the newest first.
+    /// Returns the state with these last three values of the register, the newest first.
     pub const fn from_bits(a1: Bit, a2: Bit, a3: Bit) -> State
         ensures { result ≡ (record { a1 = a1; a2 = a2; a3 = a3 }) }
     {
         State { a1, a2, a3 }
     }
 
-    /// The state's number, 0 to 7.
+    /// Returns the state's number, 0 to 7.
     pub fn number(self) -> u8
         ensures value { result ≡ state_number self }
         ensures small { result < 8 }

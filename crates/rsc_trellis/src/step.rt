@@ -7,14 +7,14 @@ ghost use Rattle.rsc_trellis.specs.Steps.{state_before, input_before};
 use crate::state::State;
 use lte_bits::Bit;
 
-/// The sum of two bits.
+/// Returns the sum of two bits.
 pub(crate) fn plus(a: Bit, b: Bit) -> Bit
     ensures { result ≡ plus a b }
 {
     if a == b { Bit::Zero } else { Bit::One }
 }
 
-/// The state after the input `u`.
+/// Returns the state after the input `u`.
 pub fn next(s: State, u: Bit) -> State
     ensures { result ≡ next s u }
 {
@@ -25,14 +25,15 @@ pub fn next(s: State, u: Bit) -> State
     }
 }
 
-/// The parity bit of the input `u`.
+/// Returns the parity bit of the input `u`.
 pub fn parity(s: State, u: Bit) -> Bit
     ensures { result ≡ parity s u }
 {
     plus(plus(u, s.a1), s.a2)
 }
 
-/// The one state from which an input leads to `s` and whose oldest value is `oldest`, with that input.
+/// Returns the one state from which an input leads to `s` and whose oldest value is `oldest`, with that
+/// input.
 pub fn previous(s: State, oldest: Bit) -> (State, Bit)
     ensures oldest { result.0.a3 ≡ oldest }
     ensures leads { next result.0 result.1 ≡ s }

@@ -9,7 +9,7 @@ use crate::{Open, Round, Status, Stop, Work};
 use edge_io::{Sink, Source};
 use std::alloc::Global;
 
-/// How a run ends that was done.
+/// Returns how a run ends that was done.
 fn done(failed: bool) -> Status
     ensures { result ≡ done failed }
 {

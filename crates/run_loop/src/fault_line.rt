@@ -20,7 +20,7 @@ fn write_each<R: Sink>(report: &mut R, pieces: &[&[u8]])
     }
 }
 
-/// A text, a number, ` at ` and a place.
+/// Writes a text, a number, ` at ` and a place.
 fn write_place<R: Sink>(report: &mut R, text: &[u8], number: u8, place: u64)
     ensures told { AddsLine (R.held report.old) (R.held report.new)
         (place_line text.now number place) (R.faults report.old) (R.faults report.new) }

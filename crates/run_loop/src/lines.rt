@@ -24,7 +24,7 @@ pub fn end_line(line: &mut Vec<u8>) -> Result<(), NoMemory>
     Ok(())
 }
 
-/// `end blocks N`.
+/// Returns the line `end blocks N`.
 pub fn blocks_line(alloc: Global, count: usize) -> Result<Vec<u8>, NoMemory>
     ensures { IfOk result (λ line. line.items ≡ blocks_line count) }
 {

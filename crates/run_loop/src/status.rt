@@ -40,7 +40,7 @@ impl From<NoMemory> for Status {
 }
 
 impl Status {
-    /// The exit status of the program.
+    /// Returns the exit status of the program.
     pub fn exit(&self) -> u8
         ensures { result ≡ exit_of self.now }
     {

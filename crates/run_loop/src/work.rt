@@ -47,7 +47,7 @@ pub struct Round {
 }
 
 impl Round {
-    /// A round without parts.
+    /// Returns a round without parts.
     pub fn stopped(alloc: Global, stop: Stop) -> Self
         ensures parts { result.parts.items ≡ [] }
         ensures stop { result.stop ≡ stop }

@@ -11,7 +11,7 @@ use block_crc::{crc24a, crc24b};
 use lte_bits::{Bit, Block, List, NoMemory, unpack};
 use std::alloc::Global;
 
-/// S: the fillers, the payload's bits and their check bits.
+/// Returns S: the fillers, the payload's bits and their check bits.
 fn sequence(alloc: Global, payload: &[u8], fillers: usize) -> Result<Vec<Bit>, NoMemory>
     requires length { length payload.now ≤ 18722 }
     requires few { fillers ≤ 6144 }
@@ -27,7 +27,7 @@ fn sequence(alloc: Global, payload: &[u8], fillers: usize) -> Result<Vec<Bit>, N
     Ok(sequence)
 }
 
-/// How many bits of S block `r` takes.
+/// Returns how many bits of S block `r` takes.
 fn share(plan: &Plan, r: usize) -> usize
     requires { r < plan.now.c }
     ensures { result ≡ share plan.now r }
@@ -35,7 +35,7 @@ fn share(plan: &Plan, r: usize) -> usize
     size(plan, r) - check_length(plan.c)
 }
 
-/// Bits of S, followed by check bits of their own where there are several blocks.
+/// Returns bits of S, followed by check bits of their own where there are several blocks.
 fn checked(alloc: Global, c: usize, share: &[Bit]) -> Result<List<Bit>, NoMemory>
     requires { length share.now ≤ 6144 }
     ensures { IfOk result (λ bits. bits ≡ checked c share.now) }
@@ -48,7 +48,7 @@ fn checked(alloc: Global, c: usize, share: &[Bit]) -> Result<List<Bit>, NoMemory
     Ok(List::from_vec(bits))
 }
 
-/// The code blocks of a payload, whose length the plan is for.
+/// Returns the code blocks of a payload, whose length the plan is for.
 pub fn cut(alloc: Global, payload: &[u8], plan: &Plan) -> Result<List<Block>, NoMemory>
     requires { plan.now.bytes ≡ length payload.now }
     ensures blocks { IfOk result (λ list. list ≡ blocks plan.now payload.now) }

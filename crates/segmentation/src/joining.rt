@@ -12,7 +12,7 @@ use block_crc::checks_a;
 use lte_bits::{Bit, Block, NoMemory, pack};
 use std::alloc::Global;
 
-/// The bits of a block, without its fillers and its own check bits.
+/// Returns the bits of a block, without its fillers and its own check bits.
 fn carried(block: &Block, own: usize) -> &[Bit]
     requires { block.now.fill + own ≤ length block.now.bits }
     ensures { result.now
@@ -22,7 +22,7 @@ fn carried(block: &Block, own: usize) -> &[Bit]
     &bits[block.fill..bits.len() - own]
 }
 
-/// The bits of the blocks, one after the other, without their fillers and own check bits.
+/// Returns the bits of the blocks, one after the other, without their fillers and own check bits.
 fn whole(alloc: Global, blocks: &[Block], plan: &Plan) -> Result<Vec<Bit>, NoMemory>
     requires { AreBlocksOf plan.now blocks.now }
     ensures { IfOk result (λ bits. bits.items ≡ whole plan.now blocks.now) }
@@ -35,9 +35,9 @@ fn whole(alloc: Global, blocks: &[Block], plan: &Plan) -> Result<Vec<Bit>, NoMem
     Ok(whole)
 }
 
-/// The payload of the C code blocks of a plan, each of its size and with its fillers. Fillers and
-/// the blocks' own check bits are dropped. `payload` is the first `bytes` bytes, and `holds` tells
-/// whether they and the 24 bits after them are a multiple of CRC24A.
+/// Returns the payload of the C code blocks of a plan, each of its size and with its fillers. Fillers and the
+/// blocks' own check bits are dropped. `payload` is the first `bytes` bytes, and `holds` tells whether they
+/// and the 24 bits after them are a multiple of CRC24A.
 pub fn uncut(alloc: Global, blocks: &[Block], plan: &Plan) -> Result<Uncut, NoMemory>
     requires { AreBlocksOf plan.now blocks.now }
     ensures payload { IfOk result (λ u. u.payload

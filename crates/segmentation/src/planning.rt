@@ -30,7 +30,7 @@ impl fmt::Display for BadLength {
 
 impl Error for BadLength {}
 
-/// C, the number of code blocks for `bits` bits.
+/// Returns C, the number of code blocks for `bits` bits.
 fn block_count(bits: usize) -> usize
     ensures { result ≡ count_of bits }
 {
@@ -41,14 +41,14 @@ fn block_count(bits: usize) -> usize
     }
 }
 
-/// L, the check bits that each of `c` code blocks carries.
+/// Returns L, the check bits that each of `c` code blocks carries.
 pub(crate) fn check_length(c: usize) -> usize
     ensures { result ≡ check_length c }
 {
     if c > 1 { CHECK_BITS } else { 0 }
 }
 
-/// C-, the number of blocks of size K-.
+/// Returns C-, the number of blocks of size K-.
 fn smaller_count(c: usize, n: usize, k_plus: usize, k_minus: usize) -> usize
     requires few { c ≤ 25 }
     requires size { k_plus ≤ 6144 }
@@ -63,7 +63,7 @@ fn smaller_count(c: usize, n: usize, k_plus: usize, k_minus: usize) -> usize
     }
 }
 
-/// The plan of a transport block of `bytes` bytes.
+/// Returns the plan of a transport block of `bytes` bytes.
 fn planned(bytes: usize) -> Plan
     requires some { 1 ≤ bytes }
     requires few { bytes ≤ 18722 }
@@ -88,8 +88,8 @@ fn planned(bytes: usize) -> Plan
     }
 }
 
-/// The plan of a transport block of `bytes` bytes. `BadLength` comes exactly where `bytes` is
-/// outside 1 to 18,722.
+/// Returns the plan of a transport block of `bytes` bytes. `BadLength` comes exactly where `bytes` is outside
+/// 1 to 18,722.
 pub fn plan(bytes: usize) -> Result<Plan, BadLength>
     ensures planned { IsOk result ↔ ((1 ≤ bytes) × (bytes ≤ 18722)) }
     ensures refused { IsErr result ↔ ((bytes ≡ 0) ⊎ (18722 < bytes)) }
@@ -103,7 +103,7 @@ pub fn plan(bytes: usize) -> Result<Plan, BadLength>
     }
 }
 
-/// The bits of block `r`, K- or K+; `r` is below C.
+/// Returns the bits of block `r`, K- or K+; `r` is below C.
 pub fn size(plan: &Plan, r: usize) -> usize
     requires { r < plan.now.c }
     ensures value { result ≡ size plan.now r }
@@ -116,7 +116,7 @@ pub fn size(plan: &Plan, r: usize) -> usize
     }
 }
 
-/// The fillers of block `r`, F in block 0 and none in the others; `r` is below C.
+/// Returns the fillers of block `r`, F in block 0 and none in the others; `r` is below C.
 pub fn fill(plan: &Plan, r: usize) -> usize
     requires { r < plan.now.c }
     ensures { result ≡ fill plan.now r }

@@ -5,14 +5,14 @@ ghost use Rattle.model_sender.specs.Segmentation.{larger_size, smaller_size};
 
 use model_sender::{Row, table};
 
-/// The first size that is not below `low`.
+/// Returns the first size that is not below `low`.
 fn first_from(rows: &[Row], low: usize) -> Option<usize>
     ensures { result ≡ find (λ size. nat_le low size) (map (λ row. row.0) rows.now) }
 {
     rows.iter().map(|row| row.0).find(|size| low <= *size)
 }
 
-/// The last size below `limit`.
+/// Returns the last size below `limit`.
 fn last_below(rows: &[Row], limit: usize) -> Option<usize>
     ensures { result ≡ find (λ size. nat_lt size limit) (map (λ row. row.0) (reverse rows.now)) }
 {
@@ -22,7 +22,7 @@ fn last_below(rows: &[Row], limit: usize) -> Option<usize>
         .find(|size| *size < limit)
 }
 
-/// K+, the least size of which `c` hold `n` bits.
+/// Returns K+, the least size of which `c` hold `n` bits.
 pub(crate) fn larger_size(c: usize, n: usize) -> usize
     requires some { 1 ≤ c }
     requires room { n ≤ c * 6144 }
@@ -31,7 +31,7 @@ pub(crate) fn larger_size(c: usize, n: usize) -> usize
     first_from(table(), n.div_ceil(c)).unwrap()
 }
 
-/// K-, the greatest size below K+, where there are several blocks.
+/// Returns K-, the greatest size below K+, where there are several blocks.
 pub(crate) fn smaller_size(c: usize, k_plus: usize) -> usize
     requires { c ≢ 1 → 40 < k_plus }
     ensures { result ≡ smaller_size c k_plus }

@@ -7,14 +7,14 @@ use block_crc::{checks_a, checks_b};
 use lte_bits::Bit;
 use window_decode::{CheckKind, Ext};
 
-/// The bit of a place: 0 at a filler.
+/// Returns the bit of a place: 0 at a filler.
 pub fn decided(filler: bool, one: bool) -> Bit
     ensures { result ≡ if filler then Bit.Zero else if one then Bit.One else Bit.Zero }
 {
     if one && !filler { Bit::One } else { Bit::Zero }
 }
 
-/// Leaves the decided bits of the cells of all places, with the first `fill` of them 0.
+/// Writes the decided bits of the cells of all places, with the first `fill` of them 0.
 pub fn decide(cells: &[Ext], fill: usize, bits: &mut [Bit])
     requires fill { fill ≤ length cells.now }
     requires long { length bits.old ≡ length cells.now }
@@ -26,7 +26,7 @@ pub fn decide(cells: &[Ext], fill: usize, bits: &mut [Bit])
     }
 }
 
-/// Whether a check holds over all bits.
+/// Returns whether a check holds over all bits.
 pub fn holds(kind: CheckKind, bits: &[Bit]) -> bool
     ensures { IsTrue result ↔ IsMultiple (generator kind) bits.now }
 {

@@ -24,13 +24,13 @@ pub trait HalfDecoder: Drop {
         ensures streams { streams result ≡ streams self }
         ensures shape { shape result ≡ shape self };
 
-    /// Leaves the decided bits by place, with fillers 0. There is room for K bits.
+    /// Writes the decided bits by place, with fillers 0. There is room for K bits.
     fn decide(&self, bits: &mut [Bit])
         requires { length bits.old ≡ (shape self.now).k }
         ensures { bits.new ≡ decided_bits (shape self.now).f (before self.now).cells };
 }
 
-/// Iteration `n`, from 1.
+/// Does iteration `n`, from 1.
 fn iteration<H: HalfDecoder>(decoder: H, n: usize) -> H
     requires first { 1 ≤ n }
     requires last { n ≤ 16 }
@@ -42,7 +42,7 @@ fn iteration<H: HalfDecoder>(decoder: H, n: usize) -> H
     decoder.half(2 * n - 2).half(2 * n - 1)
 }
 
-/// The result with decided bits of an iteration.
+/// Returns the result with decided bits of an iteration.
 pub fn result_in(fill: usize, bits: Vec<Bit>, iterations: usize, passed: bool) -> CodeResult
     ensures { result ≡ record {
       block = record { fill = fill; bits = bits.items };

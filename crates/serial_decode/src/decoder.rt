@@ -31,7 +31,7 @@ impl<'a> SerialDecoder<'a> {
     ghost use Rattle.serial_decode.specs.Views.{AreStreams};
     ghost use Rattle.serial_decode.specs.Progress.{before_of};
 
-    /// A code block before its first half.
+    /// Returns a code block before its first half.
     pub fn new(
         alloc: Global,
         streams: &'a SoftStreams,

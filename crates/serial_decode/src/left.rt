@@ -24,7 +24,7 @@ impl Model for BordersLeft {
 }
 
 impl BordersLeft {
-    /// Before the first half nothing is known.
+    /// Returns the borders before the first half, of which nothing is known.
     pub fn none() -> BordersLeft
         ensures { result ≡ none_left }
     {
@@ -35,8 +35,8 @@ impl BordersLeft {
     }
 }
 
-/// The border with which window `t` of so many ends: that after the last position, or the one that the
-/// next window left.
+/// Returns the border with which window `t` of so many ends: that after the last position, or the one that
+/// the next window left.
 pub fn end_of(windows: usize, left: &[BordersLeft], tail: Border, t: usize) -> Border
     requires window { t < windows }
     requires left { length left.now ≡ windows }

@@ -8,7 +8,7 @@ use lte_bits::{NoMemory, Soft};
 use qpp_table::addresses;
 use std::alloc::Global;
 
-/// The places 0 to k - 1 in their own order.
+/// Returns the places 0 to k - 1 in their own order.
 pub fn own_order(alloc: Global, k: usize) -> Result<Vec<u16>, NoMemory>
     requires { k ≤ 6144 }
     ensures { IfOk result (λ places. places.items ≡ map (λ i. i) (range_with_len 0 k)) }
@@ -20,7 +20,7 @@ pub fn own_order(alloc: Global, k: usize) -> Result<Vec<u16>, NoMemory>
     Ok(places)
 }
 
-/// The places in the order of the interleaver of size `k`, which is one of the 188 sizes.
+/// Returns the places in the order of the interleaver of size `k`, which is one of the 188 sizes.
 pub fn second_order(alloc: Global, k: usize) -> Result<Vec<u16>, NoMemory>
     requires { Contains sizes k }
     ensures { IfOk result (λ places. places.items ≡ map (place k) (range_with_len 0 k)) }
@@ -30,7 +30,7 @@ pub fn second_order(alloc: Global, k: usize) -> Result<Vec<u16>, NoMemory>
     Ok(places)
 }
 
-/// The values at some places.
+/// Returns the values at some places.
 pub fn picked(alloc: Global, values: &[Soft], places: &[u16]) -> Result<Vec<Soft>, NoMemory>
     requires { (i : ℕ) → i < length places.now → slice_index places.now i < length values.now }
     ensures { IfOk result (λ out. out.items ≡ map (at values.now) places.now) }
@@ -42,7 +42,7 @@ pub fn picked(alloc: Global, values: &[Soft], places: &[u16]) -> Result<Vec<Soft
     Ok(out)
 }
 
-/// The `width` values from `from` on.
+/// Returns the `width` values from `from` on.
 pub fn part<T>(values: &[T], from: usize, width: usize) -> &[T]
     requires { from + width ≤ length values.now }
     ensures { result.now ≡ take width (drop from values.now) }

@@ -6,7 +6,7 @@ ghost use Rattle.serial_decode.specs.Views.{AreStreams};
 use lte_bits::SoftStreams;
 use window_decode::{Border, Shape};
 
-/// The tail border of half `h`: the soft values of the first coder's tail bits in even halves, of the
+/// Returns the tail border of half `h`: the soft values of the first coder's tail bits in even halves, of the
 /// second coder's in odd ones (36.212 5.1.3.2.2).
 pub fn tail_of(streams: &SoftStreams, shape: &Shape, h: usize) -> Border
     requires { AreStreams streams.now shape.now }

@@ -32,7 +32,7 @@ impl<'a> Views<'a> {
     ghost use Rattle.std.specs.Prelude.{◌<◌, IfOk, length, map};
     ghost use Rattle.model_receiver.specs.HalfIteration.{positions, window_width, order, parity_at, tail_border};
 
-    /// The views of a code block. The streams have length K + 4, and the shape's fillers.
+    /// Returns the views of a code block. The streams have length K + 4, and the shape's fillers.
     pub fn new(
         alloc: Global,
         streams: &'a SoftStreams,
@@ -55,7 +55,7 @@ impl<'a> Views<'a> {
         })
     }
 
-    /// The place of each position in half `h`.
+    /// Returns the place of each position in half `h`.
     pub fn places(&self, h: usize) -> &[u16]
         ensures { result.now ≡ by_position self.now.shape (order self.now.shape.k h) }
     {
@@ -66,7 +66,7 @@ impl<'a> Views<'a> {
         }
     }
 
-    /// The systematic value of each position in half `h`.
+    /// Returns the systematic value of each position in half `h`.
     pub fn systematic(&self, h: usize) -> &[Soft]
         ensures { result.now
             ≡ by_position self.now.shape (systematic_at self.now.streams.now self.now.shape.k h) }
@@ -78,7 +78,7 @@ impl<'a> Views<'a> {
         }
     }
 
-    /// The parity value of each position in half `h`.
+    /// Returns the parity value of each position in half `h`.
     pub fn parity(&self, h: usize) -> &[Soft]
         ensures { result.now ≡ by_position self.now.shape (parity_at self.now.streams.now h) }
     {
@@ -89,14 +89,14 @@ impl<'a> Views<'a> {
         }
     }
 
-    /// The border after the last position in half `h`.
+    /// Returns the border after the last position in half `h`.
     pub fn tail(&self, h: usize) -> Border
         ensures { result ≡ tail_border self.now.streams.now self.now.shape.k h }
     {
         tail_of(self.streams, &self.shape, h)
     }
 
-    /// The number of positions of a window.
+    /// Returns the number of positions of a window.
     pub fn width(&self) -> usize
         ensures value { result ≡ window_width self.now.shape }
         ensures whole { AreWhole self.now.shape }
@@ -104,7 +104,7 @@ impl<'a> Views<'a> {
         self.shape.k() / self.shape.windows()
     }
 
-    /// The number of windows of a half.
+    /// Returns the number of windows of a half.
     pub fn windows(&self) -> usize
         ensures value { result ≡ self.now.shape.windows }
         ensures whole { AreWhole self.now.shape }
@@ -112,7 +112,7 @@ impl<'a> Views<'a> {
         self.shape.windows()
     }
 
-    /// Window `t` of half `h` as a strip; `t` is below the number of windows, and there are K cells.
+    /// Returns window `t` of half `h` as a strip; `t` is below the number of windows, and there are K cells.
     pub fn strip(&self, h: usize, t: usize, cells: Vec<Ext>) -> ListStrip<'_>
         requires window { t < self.now.shape.windows }
         requires cells { length cells.items ≡ self.now.shape.k }

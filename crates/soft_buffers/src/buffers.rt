@@ -38,7 +38,7 @@ impl Model for HarqBuffers {
     ghost invariant = { IsKept };
 }
 
-/// The cells of a block of `k` bits before the first transmission.
+/// Returns the cells of a block of `k` bits before the first transmission.
 fn fresh_cells(alloc: Global, k: usize) -> Result<List<Soft>, NoMemory>
     requires { k ≤ 6144 }
     ensures { IfOk result (λ cells. cells ≡ replicate (3 * (k + 4)) (pos 0)) }
@@ -47,7 +47,7 @@ fn fresh_cells(alloc: Global, k: usize) -> Result<List<Soft>, NoMemory>
 }
 
 impl HarqBuffers {
-    /// The buffers of a transport block of this plan, which the soft buffer fits, before the first
+    /// Returns the buffers of a transport block of this plan, which the soft buffer fits, before the first
     /// transmission: every cell is 0.
     pub fn new(alloc: Global, plan: &Plan, buffer: Buffer) -> Result<HarqBuffers, NoMemory>
         requires { FitsIn (limit_of buffer) plan.now.c plan.now.k_plus }
@@ -66,8 +66,8 @@ impl HarqBuffers {
         })
     }
 
-    /// The buffers of a transport block of this plan, which the soft buffer fits, with the cells that stand
-    /// first in `cells`, block after block.
+    /// Returns the buffers of a transport block of this plan, which the soft buffer fits, with the cells that
+    /// stand first in `cells`, block after block.
     pub fn from_cells(
         alloc: Global,
         plan: &Plan,
@@ -87,7 +87,7 @@ impl HarqBuffers {
         })
     }
 
-    /// All cells, block after block.
+    /// Returns all cells, block after block.
     pub fn cells(&self, alloc: Global) -> Result<List<Soft>, NoMemory>
         ensures { IfOk result (λ cells. cells ≡ flat_map (λ block. block) self.now.cells) }
     {
@@ -110,8 +110,8 @@ impl HarqBuffers {
         add_codeword(self.blocks.as_mut_slice(), &self.plan, m, rv, softs);
     }
 
-    /// The soft streams of block `r`, which is below C: its cells, with 127 at the fillers of d0 and 0 at
-    /// those of d1.
+    /// Returns the soft streams of block `r`, which is below C: its cells, with 127 at the fillers of d0 and
+    /// 0 at those of d1.
     pub fn streams(&self, alloc: Global, r: usize) -> Result<SoftStreams, NoMemory>
         requires { r < self.now.plan.c }
         ensures cells { IfOk result (λ streams. streams ≡ streams_of_cells (size self.now.plan r)

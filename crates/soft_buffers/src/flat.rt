@@ -9,7 +9,7 @@ use segmentation::plans::Plan;
 use segmentation::size;
 use std::alloc::Global;
 
-/// The cells of block `r`, which is below C.
+/// Returns the cells of block `r`, which is below C.
 fn cells_in(plan: &Plan, r: usize) -> usize
     requires { r < plan.now.c }
     ensures value { result ≡ cells_in plan.now r }
@@ -19,7 +19,7 @@ fn cells_in(plan: &Plan, r: usize) -> usize
     3 * (size(plan, r) + 4)
 }
 
-/// The cells of all code blocks of a transport block, at most 461,100.
+/// Returns the cells of all code blocks of a transport block, at most 461,100.
 pub fn cell_count(plan: &Plan) -> usize
     ensures { result ≡ cell_count plan.now }
 {
@@ -30,7 +30,7 @@ pub fn cell_count(plan: &Plan) -> usize
     count
 }
 
-/// The cells of each block, which stand first in `cells`.
+/// Returns the cells of each block, which stand first in `cells`.
 pub(crate) fn divided(
     alloc: Global,
     plan: &Plan,
@@ -49,7 +49,7 @@ pub(crate) fn divided(
     Ok(blocks)
 }
 
-/// The cells of all blocks, one after the other.
+/// Returns the cells of all blocks, one after the other.
 pub(crate) fn joined(alloc: Global, blocks: &[List<Soft>]) -> Result<List<Soft>, NoMemory>
     ensures { IfOk result (λ cells. cells ≡ flat_map (λ block. block) blocks.now) }
 {

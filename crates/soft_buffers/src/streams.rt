@@ -6,7 +6,7 @@ ghost use Rattle.soft_buffers.specs.Buffers.{streams_of_cells};
 use lte_bits::{List, NoMemory, Soft, SoftStreams};
 use std::alloc::Global;
 
-/// The cells, the first `fill` of which are replaced by `filler`.
+/// Returns the cells, the first `fill` of which are replaced by `filler`.
 fn begun_with(
     alloc: Global,
     fill: usize,
@@ -23,8 +23,8 @@ fn begun_with(
     Ok(List::from_vec(stream))
 }
 
-/// The streams of a block of `k` bits with these cells: 127 stands at the fillers of d0, and 0 at those
-/// of d1.
+/// Returns the streams of a block of `k` bits with these cells: 127 stands at the fillers of d0, and 0 at
+/// those of d1.
 pub fn streams_of(
     alloc: Global,
     k: usize,

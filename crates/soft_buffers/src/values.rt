@@ -11,7 +11,7 @@ ghost use Rattle.soft_buffers.specs.Runs.{with_values};
 use lte_bits::Soft;
 use rate_match::{Cursor, Ring, Spot};
 
-/// Where the cell of a bit stands among those of a block of `k` bits.
+/// Returns where the cell of a bit stands among those of a block of `k` bits.
 fn cell_index(k: usize, spot: Spot) -> usize
     requires few { k ≤ 6144 }
     requires stream { spot.stream ≤ 2 }
@@ -22,7 +22,7 @@ fn cell_index(k: usize, spot: Spot) -> usize
     usize::from(spot.stream) * (k + 4) + spot.index
 }
 
-/// A cell with one value more.
+/// Returns a cell with one value more.
 fn added(cell: Soft, value: Soft) -> Soft
     ensures { result ≡ added cell value }
 {

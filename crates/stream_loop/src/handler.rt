@@ -32,16 +32,16 @@ pub trait Handler: Drop {
     // What has to be known of it before it is handed a block.
     ghost able: { Self → Type 0 } = { λ _. Unit {0} };
 
-    /// Which streams it takes.
+    /// Returns which streams it takes.
     fn want(&self) -> Want
         ensures { result ≡ (handling self.now).want };
 
-    /// The header of the stream that it writes, for that of the stream that it reads; none where it
+    /// Returns the header of the stream that it writes, for that of the stream that it reads; none where it
     /// writes no stream.
     fn header(&self, header: &Header) -> Option<Header>
         ensures { option_map header_of result ≡ (handling self.now).header (header_of header.now) };
 
-    /// What a block comes to: its number, from 0, the bytes of its payload, and the bytes of its
+    /// Returns what a block comes to: its number, from 0, the bytes of its payload, and the bytes of its
     /// transmissions, one transmission after the other.
     fn block(
         &self,
@@ -58,7 +58,7 @@ pub trait Handler: Drop {
         ensures { IfOk result (λ x. handled_of x ≡ (handling self.now).block (header_of header.now)
             number (block_of payload bytes.now)) };
 
-    /// The report's last line, after so many blocks, at most 4,096, of which so many failed.
+    /// Returns the report's last line, after so many blocks, at most 4,096, of which so many failed.
     fn last(&self, alloc: Global, blocks: usize, failed: usize) -> Result<Vec<u8>, NoMemory>
         requires few { blocks ≤ 4096 }
         requires failed { failed ≤ blocks }

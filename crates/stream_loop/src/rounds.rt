@@ -24,7 +24,7 @@ pub struct StreamRounds<H: Handler> {
     pub failed: usize,
 }
 
-/// How a run ends where its reader stops.
+/// Returns how a run ends where its reader stops.
 pub fn status_of(stop: StreamStop) -> Status
     ensures { result ≡ status_of stop }
 {
@@ -35,7 +35,7 @@ pub fn status_of(stop: StreamStop) -> Status
     }
 }
 
-/// What closes `out`.
+/// Returns what closes `out`.
 fn closing<H: Handler>(alloc: Global, handler: &H, header: &Header) -> Result<Vec<u8>, NoMemory>
     ensures { IfOk result (λ text. text.items
         ≡ closing_text ((H.handling handler.now).header (header_of header.now))) }
@@ -46,7 +46,7 @@ fn closing<H: Handler>(alloc: Global, handler: &H, header: &Header) -> Result<Ve
     }
 }
 
-/// The end after so many blocks, of which so many failed.
+/// Returns the end after so many blocks, of which so many failed.
 fn ending<H: Handler>(
     alloc: Global,
     handler: &H,
@@ -67,7 +67,7 @@ fn ending<H: Handler>(
     })
 }
 
-/// The round of what a block of so many bytes came to.
+/// Returns the round of what a block of so many bytes came to.
 fn of_handled(alloc: Global, handled: Handled, size: usize) -> Result<Round, NoMemory>
     ensures { IfOk result (IsAlone (record {
       text = handled.text.items;
@@ -90,7 +90,7 @@ fn of_handled(alloc: Global, handled: Handled, size: usize) -> Result<Round, NoM
     })
 }
 
-/// The round of a block that was read, and whether the block failed.
+/// Returns the round of a block that was read, and whether the block failed.
 fn going<H: Handler>(
     alloc: Global,
     handler: &H,
@@ -113,7 +113,7 @@ fn going<H: Handler>(
     Ok((round, failed))
 }
 
-/// The number of failed blocks after one more.
+/// Returns the number of failed blocks after one more.
 fn counted(before: usize, failed: bool) -> usize
     requires { before < 4096 }
     ensures { result ≡ before + one_if failed }

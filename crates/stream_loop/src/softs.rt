@@ -5,14 +5,14 @@ ghost use Rattle.stream_loop.specs.SoftBytes.{soft_of, softs_of, byte_of, bytes_
 use lte_bits::{List, NoMemory, Soft};
 use std::alloc::Global;
 
-/// The soft value of a byte in two's complement.
+/// Returns the soft value of a byte in two's complement.
 fn soft_of(byte: u8) -> Soft
     ensures { result ≡ soft_of byte }
 {
     Soft::from_i8(byte.cast_signed())
 }
 
-/// Leaves the soft values of bytes. Its loop has no branch but its end, so that several bytes are read at
+/// Writes the soft values of bytes. Its loop has no branch but its end, so that several bytes are read at
 /// once.
 fn read_softs(bytes: &[u8], softs: &mut [Soft])
     requires { length softs.old ≡ length bytes.now }
@@ -23,7 +23,7 @@ fn read_softs(bytes: &[u8], softs: &mut [Soft])
     }
 }
 
-/// The soft values of bytes in two's complement, where -128 is read as -127.
+/// Returns the soft values of bytes in two's complement, where -128 is read as -127.
 pub fn softs_of(alloc: Global, bytes: &[u8]) -> Result<List<Soft>, NoMemory>
     ensures { IfOk result (λ softs. softs ≡ softs_of bytes.now) }
 {
@@ -32,7 +32,7 @@ pub fn softs_of(alloc: Global, bytes: &[u8]) -> Result<List<Soft>, NoMemory>
     Ok(List::from_vec(softs))
 }
 
-/// The byte of a soft value, in two's complement.
+/// Returns the byte of a soft value, in two's complement.
 fn byte_of(soft: Soft) -> u8
     ensures { result ≡ byte_of soft }
 {

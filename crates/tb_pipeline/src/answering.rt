@@ -12,7 +12,7 @@ use std::alloc::Global;
 use std::snapshot::Snapshot;
 use std::sync::Wait;
 
-/// The jobs as clauses see them.
+/// Returns the jobs as clauses see them.
 fn seen<J>(alloc: Global, jobs: &[J]) -> Result<Vec<Snapshot<J>>, NoMemory>
     ensures { IfOk result (λ all. values_of all.items ≡ jobs.now) }
 {
@@ -23,7 +23,7 @@ fn seen<J>(alloc: Global, jobs: &[J]) -> Result<Vec<Snapshot<J>>, NoMemory>
     Ok(all)
 }
 
-/// A queue with room for an answer of each job, and a pass of it.
+/// Returns a queue with room for an answer of each job, and a pass of it.
 pub(crate) fn ask<J: Job, R: Wait>(
     rt: &R,
     alloc: Global,
@@ -47,7 +47,7 @@ where
     unreachable!()
 }
 
-/// A slot for the answer of each job, with nothing in it.
+/// Returns a slot for the answer of each job, with nothing in it.
 pub(crate) fn empty_slots<J: Job>(
     alloc: Global,
     jobs: &[J],

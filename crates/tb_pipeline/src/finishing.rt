@@ -6,7 +6,7 @@ ghost use Rattle.tb_pipeline.specs.Slips.{AreSlotsOf};
 use crate::job::{Job, Start};
 use crate::slots::swap_at;
 
-/// The answer in the slot of a job. Where none came the job is done here.
+/// Returns the answer in the slot of a job. Where none came the job is done here.
 fn answer_in<J: Job, G: Start>(job: &J, number: usize, slot: Option<J::Done>, start: &G) -> J::Done
     requires { IfSome slot (λ done. J.answers job.now done) }
     ensures { J.answers job.now result }

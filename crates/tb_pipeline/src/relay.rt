@@ -14,7 +14,8 @@ use std::sync::Wait;
 use std::thread;
 
 impl Relay {
-    /// A relay of the numbers below `count`, 1 to 64, and its hands, 1 to 8. Only this call allocates.
+    /// Returns a relay of the numbers below `count`, 1 to 64, and its hands, 1 to 8. Only this call
+    /// allocates.
     pub fn new<R: Wait>(
         rt: &R,
         alloc: Global,

@@ -5,7 +5,7 @@ ghost use Rattle.crossbeam_queue.specs.Passes.{IsPassOf, view};
 use crate::job::Job;
 use crate::slip::{Answers, Teller, Twin};
 
-/// The teller, and another that knows the same jobs.
+/// Returns the teller, and another that knows the same jobs.
 pub(crate) fn another<J: Job>(answers: &Answers<J>, teller: Teller<J>) -> (Teller<J>, Teller<J>)
     requires queue { IsPassOf answers.now.queue teller.pass }
     requires asked { (jobs : List J) × (view teller.pass ≡ Some jobs) }

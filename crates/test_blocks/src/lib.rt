@@ -12,7 +12,7 @@ use std::alloc::Global;
 use std::test::Fail;
 use turbo_encode::encode;
 
-/// Zeros, a one after them, and then the bits of these bytes.
+/// Returns zeros, a one after them, and then the bits of these bytes.
 pub fn zeros_and_one(alloc: Global, zeros: usize, after: &[u8]) -> Result<Vec<Bit>, NoMemory> {
     let mut bits = Vec::new(alloc);
     bits.resize(zeros, Bit::Zero)?;
@@ -29,8 +29,9 @@ pub fn push_equal(values: &mut Vec<Soft>, count: usize, value: i8) -> Result<(),
     Ok(())
 }
 
-/// What redundancy version 0 sends, with Q_m = 2 and over a full buffer, of code block `r` of a payload of so
-/// many bytes, where the block has these bits: 20 for each 0 and -20 for each 1. G is for all blocks.
+/// Returns what redundancy version 0 sends, with Q_m = 2 and over a full buffer, of code block `r` of a
+/// payload of so many bytes, where the block has these bits: 20 for each 0 and -20 for each 1. G is for all
+/// blocks.
 pub fn sent_of_block(
     alloc: Global,
     bytes: usize,

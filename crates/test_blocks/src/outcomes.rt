@@ -1,7 +1,8 @@
 //! What is received of a transport block.
 use model_receiver::TbOutcome;
 
-/// How many bytes an outcome delivers, all 0, and its transmissions and iterations: no byte where it failed.
+/// Returns how many bytes an outcome delivers, all 0, and its transmissions and iterations: no byte where it
+/// failed.
 pub fn told(outcome: &TbOutcome) -> (usize, usize, usize) {
     match outcome {
         TbOutcome::Delivered {

@@ -15,7 +15,7 @@ const DECODERS: [&str; 4] = [
     "batch pipes=8 limit=3",
 ];
 
-/// A stream of a block that is delivered and one that fails.
+/// Returns a stream of a block that is delivered and one that fails.
 fn two_blocks(alloc: Global) -> Result<Vec<u8>, Fail> {
     let values = failing_values(alloc)?;
     Ok(joined(

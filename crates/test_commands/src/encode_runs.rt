@@ -4,7 +4,7 @@ use std::test::Fail;
 use test_runs::{END, HARD, LENGTH_2, TWO, expect_run, joined, run_of, sound};
 use turbo_run::Status;
 
-/// The header of one transmission of G bits, with Q_m = 2, and payloads of at most 2 bytes.
+/// Returns the header of one transmission of G bits, with Q_m = 2, and payloads of at most 2 bytes.
 fn header(g: u8, rv: u8) -> [u8; 19] {
     let mut header = HARD;
     header[13] = g;
@@ -79,7 +79,7 @@ fn blocks_up_to_4096_are_taken(rt: HostRuntime) -> Result<(), Fail> {
     Ok(())
 }
 
-/// A check sum of bytes in order.
+/// Returns a check sum of bytes in order.
 fn check_sum(bytes: &[u8]) -> u64 {
     let mut sum = 0u64;
     for byte in bytes {

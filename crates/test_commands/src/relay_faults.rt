@@ -14,7 +14,7 @@ const COMMANDS: [(&str, usize); 4] = [
 
 const HEADER: usize = 19;
 
-/// A hard stream of one block.
+/// Returns a hard stream of one block.
 fn sent(alloc: Global) -> Result<Vec<u8>, AllocError> {
     joined(alloc, &[&HARD, &LENGTH_2, &[0; 17], &END])
 }

@@ -7,7 +7,7 @@ use std::test::Fail;
 use turbo_encode::encode;
 use window_decode::{CheckKind, Shape};
 
-/// Soft values of cells: 20 for a 0, -20 for a 1.
+/// Returns soft values of cells: 20 for a 0, -20 for a 1.
 fn softs(alloc: Global, cells: &[Cell]) -> Result<List<Soft>, NoMemory> {
     let mut values = Vec::new(alloc);
     for cell in cells {

@@ -25,7 +25,7 @@ fn put<const N: usize, const B: usize>(row: &mut [i16; N], lane: usize, number: 
     }
 }
 
-/// Rows that have numbers from -B to B in one lane, and 0 in the others.
+/// Returns rows that have numbers from -B to B in one lane, and 0 in the others.
 fn rows<const N: usize, const B: usize>(
     alloc: Global,
     lane: usize,
@@ -43,7 +43,7 @@ fn rows<const N: usize, const B: usize>(
     Ok(rows)
 }
 
-/// Soft values as wider numbers.
+/// Returns soft values as wider numbers.
 fn wide(values: [i8; 8]) -> [i16; 8] {
     let mut numbers = [0; 8];
     for (number, value) in numbers.iter_mut().zip(values) {

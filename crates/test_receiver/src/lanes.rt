@@ -12,14 +12,14 @@ use std::process::Abort;
 use std::test::Fail;
 use window_decode::{Border, CheckKind, Ext, Shape};
 
-/// 64 cells in eight banks.
+/// Returns 64 cells in eight banks.
 fn eight_banks(alloc: Global, cells: Vec<Ext>) -> Result<Banks<8>, NoMemory>
     requires { length cells.items ≡ 64 }
 {
     Banks::<8>::new(alloc, List::from_vec(cells))
 }
 
-/// Eight banks whose cells have their places as values.
+/// Returns eight banks whose cells have their places as values.
 fn numbered_banks(rt: &impl Abort, alloc: Global) -> Result<Banks<8>, NoMemory> {
     let mut places = [0; 64];
     for (n, place) in places.iter_mut().enumerate() {

@@ -9,13 +9,13 @@ const SEED: u64 = 0x0102_0304_0506_0708;
 
 const BLOCK: u32 = 0x0102;
 
-/// What is received of `count` equal bits.
+/// Returns what is received of `count` equal bits.
 fn received(alloc: Global, bit: Bit, count: usize) -> Result<List<Soft>, NoMemory> {
     let bits = vec![in alloc; bit; count]?;
     noisy(alloc, bits.as_slice(), 40, 20, 5, 0, 0)
 }
 
-/// Soft values of numbers.
+/// Returns soft values of numbers.
 fn softs(alloc: Global, numbers: &[i8]) -> Result<Vec<Soft>, NoMemory> {
     let mut values = Vec::with_capacity(alloc, numbers.len())?;
     for number in numbers {

@@ -12,7 +12,7 @@ const O: Bit = Bit::Zero;
 
 const I: Bit = Bit::One;
 
-/// Whether these are the soft values of a received point.
+/// Returns whether these are the soft values of a received point.
 fn has_values(alloc: Global, y: Point, qm: u8, amp: u8, values: &[i8]) -> Result<bool, NoMemory>
     requires order { IsOrder qm }
     requires amp { (1 ≤ amp) × (amp ≤ 127) }

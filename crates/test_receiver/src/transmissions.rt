@@ -16,7 +16,7 @@ struct Sent<'a> {
     values: &'a [i8],
 }
 
-/// The streams of the first block of a payload of so many bytes after the transmissions.
+/// Returns the streams of the first block of a payload of so many bytes after the transmissions.
 fn received(
     rt: &impl Abort,
     alloc: Global,

@@ -50,7 +50,7 @@ impl Strip for Values {
     }
 }
 
-/// The strip with these values, of one length.
+/// Returns the strip with these values, of one length.
 pub fn strip(rt: &impl Abort, sys: Vec<Soft>, par: Vec<Soft>, cells: Vec<Ext>) -> Values {
     assert!(rt; sys.len() == cells.len() && par.len() == cells.len());
     Values { sys, par, cells }
@@ -78,7 +78,7 @@ pub fn exts(alloc: Global, numbers: &[i16]) -> Result<Vec<Ext>, NoMemory> {
     Ok(cells)
 }
 
-/// Whether a border has these numbers, in order of the states' numbers.
+/// Returns whether a border has these numbers, in order of the states' numbers.
 pub fn has_numbers(border: Border, want: [i16; 8]) -> bool {
     for (n, number) in (0..8).zip(want) {
         match State::new(n) {

@@ -28,7 +28,8 @@ pub const LENGTH_2: [u8; 4] = [0, 0, 0, 2];
 
 pub const END: [u8; 4] = [0; 4];
 
-/// The header of a soft stream of payloads of at most 766 bytes, with G = 18840 and redundancy version 0.
+/// Returns the header of a soft stream of payloads of at most 766 bytes, with G = 18840 and redundancy
+/// version 0.
 pub fn large_header(alloc: Global, transmissions: u8) -> Result<Vec<u8>, AllocError> {
     let numbers = [
         1,

@@ -11,7 +11,8 @@ pub fn list_of<T: Copy>(alloc: Global, items: &[T]) -> Result<List<T>, AllocErro
     Ok(List::from_vec(Vec::from_slice(alloc, items)?))
 }
 
-/// A sink with room for so many bytes, which takes them a piece at a time. Its calls of these numbers fail.
+/// Returns a sink with room for so many bytes, which takes them a piece at a time. Its calls of these numbers
+/// fail.
 pub fn sink_of(
     alloc: Global,
     room: usize,
@@ -27,7 +28,7 @@ pub fn sink_of(
     }
 }
 
-/// The words of a line.
+/// Returns the words of a line.
 pub fn words_of(alloc: Global, line: &str) -> Result<Vec<&str>, AllocError> {
     let mut words = Vec::new(alloc);
     for word in line.split_whitespace() {
@@ -36,7 +37,7 @@ pub fn words_of(alloc: Global, line: &str) -> Result<Vec<&str>, AllocError> {
     Ok(words)
 }
 
-/// The pieces, one after the other.
+/// Returns the pieces, one after the other.
 pub fn joined(alloc: Global, pieces: &[&[u8]]) -> Result<Vec<u8>, AllocError> {
     let mut bytes = Vec::new(alloc);
     for piece in pieces {
@@ -45,7 +46,7 @@ pub fn joined(alloc: Global, pieces: &[&[u8]]) -> Result<Vec<u8>, AllocError> {
     Ok(bytes)
 }
 
-/// Bytes that count up, and begin again after 255.
+/// Returns bytes that count up, and begin again after 255.
 pub fn counted(alloc: Global, count: u32) -> Result<Vec<u8>, AllocError> {
     let mut bytes = Vec::new(alloc);
     for i in 0..count {

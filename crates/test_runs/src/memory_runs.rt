@@ -24,7 +24,7 @@ pub struct Ran {
     pub left: usize,
 }
 
-/// Edges that don't fail.
+/// Returns edges that don't fail.
 pub fn sound(piece: usize) -> Edges<'static> {
     Edges {
         piece,
@@ -59,8 +59,8 @@ pub fn run_of(
     })
 }
 
-/// How many bytes a run that ended so leaves of its source: all where it had nothing to read, and none where
-/// the input is read to its end. No number is known of other endings.
+/// Returns how many bytes a run that ended so leaves of its source: all where it had nothing to read, and
+/// none where the input is read to its end. No number is known of other endings.
 fn left_by(line: &str, ran: &Ran) -> Option<usize> {
     match ran.status {
         Status::BadWords { .. } => Some(ran.had),

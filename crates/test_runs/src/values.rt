@@ -6,20 +6,20 @@ use std::test::Fail;
 use stream_loop::push_bytes;
 use test_blocks::{sent_of_block, zeros_and_one};
 
-/// The bytes of soft values.
+/// Returns the bytes of soft values.
 pub fn bytes_of(alloc: Global, values: &[Soft]) -> Result<Vec<u8>, NoMemory> {
     let mut bytes = Vec::new(alloc);
     push_bytes(&mut bytes, values)?;
     Ok(bytes)
 }
 
-/// What is sent of a code block of 39 zeros and a one, which fails its check, over G = 132.
+/// Returns what is sent of a code block of 39 zeros and a one, which fails its check, over G = 132.
 pub fn failing_values(alloc: Global) -> Result<Vec<u8>, Fail> {
     let values = sent_of_block(alloc, 2, 132, 0, zeros_and_one(alloc, 39, &[])?)?;
     Ok(bytes_of(alloc, values.as_slice())?)
 }
 
-/// A soft stream of so many blocks of one byte, with G = 2 and all values 0.
+/// Returns a soft stream of so many blocks of one byte, with G = 2 and all values 0.
 pub fn small_blocks(alloc: Global, count: usize) -> Result<Vec<u8>, AllocError> {
     let mut bytes = Vec::from_slice(alloc, &SOFT)?;
     bytes[9] = 1;

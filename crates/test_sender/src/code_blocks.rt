@@ -69,7 +69,7 @@ fn turn_one(blocks: &mut [Block], r: usize, place: usize)
     }
 }
 
-/// Whether the check bits hold after a bit of the blocks of a payload was turned.
+/// Returns whether the check bits hold after a bit of the blocks of a payload was turned.
 fn holds_after(alloc: Global, payload: &[u8], r: usize, place: usize) -> Result<bool, Fail> {
     let p = plan(payload.len())?;
     let mut blocks = cut(alloc, payload, &p)?;

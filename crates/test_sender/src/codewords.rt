@@ -96,7 +96,7 @@ fn codewords_of_an_independent_encoder(rt: HostRuntime) -> Result<(), Fail> {
     Ok(())
 }
 
-/// The 32-bit FNV-1a checksum of bits, one byte each.
+/// Returns the 32-bit FNV-1a checksum of bits, one byte each.
 fn checksum(bits: &[Bit]) -> u32 {
     bits.iter().fold(2_166_136_261, |sum, bit| {
         (sum ^ u32::from(*bit)).wrapping_mul(16_777_619)

@@ -8,7 +8,7 @@ use qpp_table::{FixedQpp, Interleaver, addresses, bank_row, qpp, win, windows_st
 use std::alloc::{AllocError, Global};
 use std::test::Fail;
 
-/// The sizes: 40 to 512 by 8, to 1024 by 16, to 2048 by 32 and to 6144 by 64.
+/// Returns the sizes: 40 to 512 by 8, to 1024 by 16, to 2048 by 32 and to 6144 by 64.
 fn is_size(k: usize) -> bool {
     match k {
         40..=512 => k % 8 == 0,
@@ -19,7 +19,7 @@ fn is_size(k: usize) -> bool {
     }
 }
 
-/// Whether each number below `n` is among the addresses.
+/// Returns whether each number below `n` is among the addresses.
 fn are_all_below(alloc: Global, addresses: &[u16], n: usize) -> Result<bool, AllocError> {
     let mut seen = vec![in alloc; false; n]?;
     for address in addresses {
@@ -46,7 +46,7 @@ fn each_of_the_188_sizes_is_permuted(rt: HostRuntime) -> Result<(), Fail> {
     Ok(())
 }
 
-/// The sum of the values times their places, counted from 1, modulo 2^32.
+/// Returns the sum of the values times their places, counted from 1, modulo 2^32.
 fn sum_in_order(values: &[u16]) -> u32 {
     let mut place = 0u32;
     let mut sum = 0u32;
@@ -90,7 +90,7 @@ fn the_numbers_of_the_table_have_known_sums(rt: HostRuntime) {
     assert_eq!(rt; sums, [17_068, 28_162, 1_963_992, 3_333_390]);
 }
 
-/// The bank and the row of place 1 of window `t` of four.
+/// Returns the bank and the row of place 1 of window `t` of four.
 fn place_one(q: &Qpp, t: usize) -> (usize, usize)
     requires size { size_in q.now ≡ 40 }
     requires window { t < 4 }
@@ -114,7 +114,7 @@ fn place_one_of_four_windows_of_forty(rt: HostRuntime) -> Result<(), Fail> {
     Ok(())
 }
 
-/// The value of place `i`, where the numbers are lawful and it is a place.
+/// Returns the value of place `i`, where the numbers are lawful and it is a place.
 fn value<const K: usize, const F1: usize, const F2: usize>(i: usize) -> Option<usize> {
     let q = FixedQpp::<K, F1, F2>::new()?;
     if i < q.size() { Some(q.at(i)) } else { None }

@@ -5,7 +5,7 @@ use qpp_table::qpp;
 use std::test::Fail;
 use turbo_encode::encode;
 
-/// The cell of a bit after the fillers.
+/// Returns the cell of a bit after the fillers.
 fn expected(bit: Bit, is_filler: bool) -> Cell {
     match bit {
         _ if is_filler => Cell::Null,
@@ -14,7 +14,7 @@ fn expected(bit: Bit, is_filler: bool) -> Cell {
     }
 }
 
-/// Whether the cells are the first of some bits, `Null` at the first `fill` places.
+/// Returns whether the cells are the first of some bits, `Null` at the first `fill` places.
 fn are_cells_of(cells: &[Cell], bits: &[Bit], fill: usize) -> bool {
     cells.len() <= bits.len()
         && cells

@@ -62,7 +62,7 @@ impl Seen {
     }
 }
 
-/// A code block of `k` bits, the last 24 of which check the others.
+/// Returns a code block of `k` bits, the last 24 of which check the others.
 fn code_block(alloc: Global, k: usize) -> Result<Block, NoMemory>
     requires { (32 ≤ k) × (k ≤ 6144) }
 {
@@ -76,7 +76,7 @@ fn code_block(alloc: Global, k: usize) -> Result<Block, NoMemory>
     })
 }
 
-/// What is received of a stream without fillers.
+/// Returns what is received of a stream without fillers.
 fn received(alloc: Global, cells: &[Cell], noise: u8, stream: u8) -> Result<List<Soft>, NoMemory>
     requires noise { noise ≤ 127 }
     requires stream { stream ≤ 2 }
@@ -112,7 +112,7 @@ fn are_equal(one: &CodeResult, other: &CodeResult) -> bool {
     one.block == other.block && one.iterations == other.iterations && one.passed == other.passed
 }
 
-/// What the three decoders make of a code block alike.
+/// Returns what the three decoders make of a code block alike.
 fn decode_alike<R: Threads + Wait + Sync + Abort>(
     rt: &R,
     alloc: Global,
@@ -129,7 +129,7 @@ fn decode_alike<R: Threads + Wait + Sync + Abort>(
     Ok(alone)
 }
 
-/// The streams of a code block after noise.
+/// Returns the streams of a code block after noise.
 fn noisy_streams(alloc: Global, block: &Block, noise: u8) -> Result<SoftStreams, NoMemory>
     requires size { Contains sizes (length block.now.bits) }
     requires noise { noise ≤ 127 }

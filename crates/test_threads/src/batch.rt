@@ -47,7 +47,7 @@ fn run_of<H: Threads + Wait + Sync>(
     })
 }
 
-/// The soft stream that is received of blocks of `tb` bytes of an input.
+/// Returns the soft stream that is received of blocks of `tb` bytes of an input.
 fn received<H: Threads + Wait + Sync + AllocGlobal>(
     rt: &H,
     encode: &str,

@@ -33,7 +33,7 @@ impl Piece for Tile {
     ghost ended = { λ _ _ _. Unit {0} };
 }
 
-/// A board of so many tiles with the common value 7, and its first seat.
+/// Returns a board of so many tiles with the common value 7, and its first seat.
 fn new_board(
     rt: &impl Abort,
     alloc: Global,

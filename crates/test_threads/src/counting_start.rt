@@ -16,7 +16,7 @@ pub struct CountingStart {
 }
 
 impl CountingStart {
-    /// A start for so many jobs.
+    /// Returns a start for so many jobs.
     pub fn new(alloc: Global, jobs: usize) -> Result<CountingStart, AllocError> {
         let mut begun = Vec::new(alloc);
         for _ in 0..jobs {
@@ -29,13 +29,13 @@ impl CountingStart {
         })
     }
 
-    /// Whether each job was begun once, and no other.
+    /// Returns whether each job was begun once, and no other.
     pub fn saw_each_once(&self) -> bool {
         let once = |count: &AtomicU64| count.load(Ordering::SeqCst) == 1;
         self.begun.iter().all(once) && self.others.load(Ordering::SeqCst) == 0
     }
 
-    /// Whether each worker that was held saw the next job begin.
+    /// Returns whether each worker that was held saw the next job begin.
     pub fn went_on(&self) -> bool {
         self.gave_up.load(Ordering::SeqCst) == 0
     }

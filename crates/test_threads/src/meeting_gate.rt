@@ -16,7 +16,7 @@ pub struct MeetingGate {
 }
 
 impl MeetingGate {
-    /// A gate for so many workers.
+    /// Returns a gate for so many workers.
     pub fn new(wanted: u64) -> MeetingGate {
         MeetingGate {
             wanted,
@@ -25,7 +25,7 @@ impl MeetingGate {
         }
     }
 
-    /// Whether so many workers were inside at once.
+    /// Returns whether so many workers were inside at once.
     pub fn met(&self) -> bool {
         self.all_entered() && self.gave_up.load(Ordering::SeqCst) == 0
     }

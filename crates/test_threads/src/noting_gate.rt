@@ -15,7 +15,7 @@ pub struct NotingGate {
 }
 
 impl NotingGate {
-    /// A gate for a code block of so many windows.
+    /// Returns a gate for a code block of so many windows.
     pub fn new(alloc: Global, windows: usize) -> Result<NotingGate, AllocError> {
         let mut entered = Vec::new(alloc);
         for _ in 0..windows.saturating_mul(HALVES) {
@@ -28,7 +28,7 @@ impl NotingGate {
         })
     }
 
-    /// Whether each window of the first halves was entered once, and no other.
+    /// Returns whether each window of the first halves was entered once, and no other.
     pub fn saw_each_once(&self, halves: usize) -> bool {
         let most = self.windows.saturating_mul(halves);
         let as_due = self.entered.iter().enumerate().all(|(place, count)| {

@@ -13,7 +13,7 @@ use std::test::Fail;
 use std::thread;
 use std::thread::Threads;
 
-/// The numbers below `n`.
+/// Returns the numbers below `n`.
 fn numbers(alloc: Global, n: usize) -> Result<List<usize>, NoMemory>
     ensures { IfOk result (λ list. length list ≡ n) }
 {
@@ -24,7 +24,7 @@ fn numbers(alloc: Global, n: usize) -> Result<List<usize>, NoMemory>
     Ok(List::from_vec(values))
 }
 
-/// Whether `cells` are the numbers below `n`, but for `v` at place `at`.
+/// Returns whether `cells` are the numbers below `n`, but for `v` at place `at`.
 fn are_numbers(cells: &Cells<usize>, n: usize, at: usize, v: usize) -> bool
     requires { n ≡ length (cell_values cells.now) }
 {
@@ -54,7 +54,7 @@ fn size_40_in_four_windows(rt: HostRuntime) -> Result<(), Fail> {
     Ok(())
 }
 
-/// Cells 0 to 47, split in an order and joined.
+/// Returns cells 0 to 47, split in an order and joined.
 fn split_and_joined(alloc: Global, windows: usize, order: Order) -> Result<Cells<usize>, NoMemory>
     requires least { 1 ≤ windows }
     requires most { windows ≤ 64 }
@@ -108,7 +108,7 @@ fn sign_all<R: Threads + Sync>(
     );
 }
 
-/// Whether each of 40 cells tells its place in an order for four shares.
+/// Returns whether each of 40 cells tells its place in an order for four shares.
 fn are_signed(cells: &Cells<(usize, usize)>, order: &Order) -> bool
     requires cells { length (cell_values cells.now) ≡ 40 }
     requires order { IsOrderOf 40 order.now }

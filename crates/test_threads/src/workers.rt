@@ -13,7 +13,7 @@ use turbo_encode::encode;
 use window_decode::{CheckKind, Shape};
 use window_workers::{NoGate, decode_block_shared, open_board, serve, take_result};
 
-/// Streams of 44 zeros.
+/// Returns streams of 44 zeros.
 fn zeros(alloc: Global) -> Result<SoftStreams, NoMemory>
     ensures fill { IfOk result (λ s. s.fill ≡ 0) }
     ensures d0 { IfOk result (λ s. length s.d0 ≡ 44) }
@@ -28,7 +28,7 @@ fn zeros(alloc: Global) -> Result<SoftStreams, NoMemory>
     })
 }
 
-/// A code block of 488 bits, ones where the place is 1, 2 or 4 modulo 7, and 24 check bits.
+/// Returns a code block of 488 bits, ones where the place is 1, 2 or 4 modulo 7, and 24 check bits.
 fn code_block(alloc: Global) -> Result<Block, NoMemory> {
     let mut bits = Vec::new(alloc);
     for i in 0..488u32 {
@@ -45,7 +45,7 @@ fn code_block(alloc: Global) -> Result<Block, NoMemory> {
     })
 }
 
-/// Soft values of cells: 20 for a 0 and -20 for a 1, but for each eleventh, which is the other way.
+/// Returns soft values of cells: 20 for a 0 and -20 for a 1, but for each eleventh, which is the other way.
 fn softs(alloc: Global, cells: &[Cell]) -> Result<List<Soft>, NoMemory> {
     let mut values = Vec::new(alloc);
     for (i, cell) in cells.iter().enumerate() {

@@ -36,7 +36,7 @@ fn write_filled(cells: &mut [Cell], bits: &[Bit], fill: usize)
     write_nulls(cells, fill);
 }
 
-/// Room for `k` cells and the tail, of which the `k` have their places.
+/// Allocates for `k` cells and the tail, of which the `k` have their places.
 pub fn room(alloc: Global, k: usize) -> Result<Vec<Cell>, NoMemory>
     requires { k < 2 ^ 63 }
     ensures { IfOk result (λ cells. length cells.items ≡ k) }
@@ -46,7 +46,7 @@ pub fn room(alloc: Global, k: usize) -> Result<Vec<Cell>, NoMemory>
     Ok(cells)
 }
 
-/// The cells of a block's own bits, `Null` at the first `fill` places, with room for the tail.
+/// Returns the cells of a block's own bits, `Null` at the first `fill` places, with room for the tail.
 pub fn systematic(alloc: Global, bits: &[Bit], fill: usize) -> Result<Vec<Cell>, NoMemory>
     ensures { IfOk result (λ cells. cells.items ≡ null_filled fill bits.now) }
 {
@@ -55,7 +55,7 @@ pub fn systematic(alloc: Global, bits: &[Bit], fill: usize) -> Result<Vec<Cell>,
     Ok(cells)
 }
 
-/// The cells, followed by those of the tail's bits.
+/// Returns the cells, followed by those of the tail's bits.
 pub fn ended(mut cells: Vec<Cell>, tail: [Bit; TAIL]) -> Result<List<Cell>, NoMemory>
     ensures { IfOk result (λ stream. stream ≡ cells.items ++ cells_of tail) }
 {

@@ -20,7 +20,7 @@ pub struct Ends {
     pub second: State,
 }
 
-/// The bits at four places.
+/// Returns the bits at four places.
 fn bits_at(bits: &[Bit], places: &[u16; 4]) -> [Bit; 4]
     requires { (i : ℕ) → i < length places.now → slice_index places.now i < length bits.now }
     ensures { result ≡ map (at bits.now) places.now }
@@ -80,7 +80,7 @@ fn write_parities(first: &mut [Cell], second: &mut [Cell], bits: &[Bit], places:
     }
 }
 
-/// The same, with `Null` at the first `fill` places of the first coder.
+/// Returns the same, with `Null` at the first `fill` places of the first coder.
 pub fn code(
     first: &mut [Cell],
     second: &mut [Cell],

@@ -10,7 +10,7 @@ use crate::tails::Tails;
 use lte_bits::{Block, NoMemory, Streams};
 use std::alloc::Global;
 
-/// The three coded streams of a code block of K bits, each of K + 4 cells. K is one of the 188 sizes
+/// Returns the three coded streams of a code block of K bits, each of K + 4 cells. K is one of the 188 sizes
 /// (36.212, table 5.1.3-3). `d0` and `d1` are `Null` at the fillers, and `d2` nowhere (5.1.3.2). The bits at
 /// the fillers' places are coded as they are: the standard asks that they be `Zero`.
 pub fn encode(alloc: Global, block: &Block) -> Result<Streams, NoMemory>
@@ -21,7 +21,7 @@ pub fn encode(alloc: Global, block: &Block) -> Result<Streams, NoMemory>
     encode_in_order(alloc, block, &order)
 }
 
-/// The same, by the order of the block's size, which serves many blocks.
+/// Returns the same, by the order of the block's size, which serves many blocks.
 pub fn encode_in_order(alloc: Global, block: &Block, order: &Order) -> Result<Streams, NoMemory>
     requires { order.now ≡ length block.now.bits }
     ensures { IfOk result (λ s. s ≡ streams block.now) }

@@ -76,7 +76,7 @@ pub struct Steps {
     pub next: usize,
 }
 
-/// The number with four digits, the highest first. A product adds them up in its highest four.
+/// Returns the number with four digits, the highest first. A product adds them up in its highest four.
 fn number(four: &[Bit; 4]) -> usize
     ensures value { result ≡ number four.now }
     ensures small { result < 16 }
@@ -85,7 +85,7 @@ fn number(four: &[Bit; 4]) -> usize
     (digits.wrapping_mul(0x8040_2010) >> 28) as usize
 }
 
-/// The number of the parity bits of four inputs from a state.
+/// Returns the number of the parity bits of four inputs from a state.
 fn parities(state: usize, inputs: usize) -> usize
     requires state { state < 8 }
     requires inputs { inputs < 16 }
@@ -94,7 +94,7 @@ fn parities(state: usize, inputs: usize) -> usize
     usize::from(PARITIES[inputs][state])
 }
 
-/// The number of the state after them.
+/// Returns the number of the state after them.
 fn next(state: usize, inputs: usize) -> usize
     requires state { state < 8 }
     requires inputs { inputs < 16 }
@@ -103,7 +103,7 @@ fn next(state: usize, inputs: usize) -> usize
     usize::from(NEXT[inputs][state])
 }
 
-/// The cells of the four bits of a number.
+/// Returns the cells of the four bits of a number.
 fn cells(n: usize) -> [Cell; 4]
     requires { n < 16 }
     ensures { (bits : List Bit) → length bits ≡ 4 → number bits ≡ n → result ≡ cells_of bits }
@@ -111,7 +111,7 @@ fn cells(n: usize) -> [Cell; 4]
     CELLS[n]
 }
 
-/// Four steps from the state with a number.
+/// Returns four steps from the state with a number.
 pub fn four_steps(state: usize, four: &[Bit; 4]) -> Steps
     requires { state < 8 }
     ensures cells { (s : Register) → state_number s ≡ state

@@ -8,7 +8,7 @@ use qpp_table::{Walk, qpp};
 use std::alloc::Global;
 use std::marker::Model;
 
-/// The place that lies `apart` further, round a block of `k` bits.
+/// Returns the place that lies `apart` further, round a block of `k` bits.
 fn further(k: u16, place: u16, apart: u16) -> u16
     requires few { k ≤ 6144 }
     requires place { place < k }
@@ -84,7 +84,7 @@ impl Model for Order {
 }
 
 impl Order {
-    /// The order for code blocks of `k` bits, one of the 188 sizes.
+    /// Returns the order for code blocks of `k` bits, one of the 188 sizes.
     pub fn new(alloc: Global, k: usize) -> Result<Order, NoMemory>
         requires { Contains sizes k }
         ensures { IfOk result (λ order. order ≡ k) }
@@ -94,7 +94,7 @@ impl Order {
         Ok(Order { places })
     }
 
-    /// The order for code blocks of `k` bits, one of the 188 sizes: this one, where it is for them.
+    /// Returns the order for code blocks of `k` bits, one of the 188 sizes: this one, where it is for them.
     pub fn for_size(self, alloc: Global, k: usize) -> Result<Order, NoMemory>
         requires { Contains sizes k }
         ensures { IfOk result (λ order. order ≡ k) }
@@ -106,7 +106,7 @@ impl Order {
         }
     }
 
-    /// The places.
+    /// Returns the places.
     pub(crate) fn places(&self) -> &[u16]
         ensures places { result.now ≡ map (place self.now) (range_with_len 0 self.now) }
         ensures size { Contains sizes self.now }

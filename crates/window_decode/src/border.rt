@@ -32,14 +32,14 @@ impl Model for Border {
 }
 
 impl Border {
-    /// The border of which nothing is known: all numbers are 0.
+    /// Returns the border of which nothing is known: all numbers are 0.
     pub fn unknown() -> Border
         ensures { result ≡ unknown }
     {
         Border { numbers: [0; 8] }
     }
 
-    /// The border where the state is 0: the other states have -4096.
+    /// Returns the border where the state is 0: the other states have -4096.
     pub fn known() -> Border
         ensures { result ≡ known }
     {
@@ -48,15 +48,15 @@ impl Border {
         }
     }
 
-    /// The border after the last position, by the soft values of the tail's input bits and parity bits
-    /// (36.212 5.1.3.2.2).
+    /// Returns the border after the last position, by the soft values of the tail's input bits and parity
+    /// bits (36.212 5.1.3.2.2).
     pub fn tail(x: [Soft; 3], z: [Soft; 3]) -> Border
         ensures { result ≡ tail x z }
     {
         Border::relative(&Tail { x, z }.numbers())
     }
 
-    /// The border's number for a state.
+    /// Returns the border's number for a state.
     pub fn value(&self, s: State) -> i16
         ensures value { result ≡ number_for self.now s }
         ensures border { IsBorder self.now }
@@ -64,7 +64,7 @@ impl Border {
         self.numbers[usize::from(s.number())]
     }
 
-    /// The border's numbers, in order of the states' numbers.
+    /// Returns the border's numbers, in order of the states' numbers.
     pub fn numbers(&self) -> &[i16; 8]
         ensures value { result.now ≡ self.now }
         ensures border { IsBorder self.now }
@@ -72,7 +72,7 @@ impl Border {
         &self.numbers
     }
 
-    /// The border with these numbers.
+    /// Returns the border with these numbers.
     pub fn from_numbers(numbers: [i16; 8]) -> Border
         requires { IsBorder numbers }
         ensures { result ≡ numbers }
@@ -80,7 +80,7 @@ impl Border {
         Border { numbers }
     }
 
-    /// The border's numbers, in order of the states' numbers.
+    /// Returns the border's numbers, in order of the states' numbers.
     pub(crate) fn lanes(&self) -> i16x8
         ensures value { result ≡ self.now }
         ensures border { IsBorder self.now }
@@ -88,7 +88,7 @@ impl Border {
         i16x8::from_array(self.numbers)
     }
 
-    /// The border with these numbers.
+    /// Returns the border with these numbers.
     pub(crate) fn from_lanes(numbers: i16x8) -> Border
         requires { IsBorder numbers }
         ensures { result ≡ numbers }
@@ -98,7 +98,7 @@ impl Border {
         }
     }
 
-    /// Metrics that differ by at most 4096, relative to that of state 0.
+    /// Returns metrics that differ by at most 4096, relative to that of state 0.
     fn relative(metrics: &[i64; 8]) -> Border
         requires metrics { IsMetrics metrics.now }
         requires near { AreNear 4096 (number_for metrics.now) }
@@ -120,7 +120,7 @@ impl Border {
     }
 }
 
-/// The number that a list of eight has for a state.
+/// Returns the number that a list of eight has for a state.
 fn number_of(numbers: &[i64; 8], s: State) -> i64
     requires { length numbers.now ≡ 8 }
     ensures { result ≡ number_for numbers.now s }
@@ -128,7 +128,7 @@ fn number_of(numbers: &[i64; 8], s: State) -> i64
     numbers[usize::from(s.number())]
 }
 
-/// By how much a metric is above that of state 0.
+/// Returns by how much a metric is above that of state 0.
 fn above_zero(metrics: &[i64; 8], s: State) -> i16
     requires metrics { IsMetrics metrics.now }
     requires near { AreNear 4096 (number_for metrics.now) }
@@ -145,7 +145,7 @@ struct Tail {
 }
 
 impl Tail {
-    /// What the bits of step `k` of the tail earn.
+    /// Returns what the bits of step `k` of the tail earn.
     fn step(&self, k: usize, bits: (Bit, Bit)) -> i64
         requires { k < 3 }
         ensures value { result ≡ if_zero bits.0 (at self.now.x k) +ℤ if_zero bits.1 (at self.now.z k) }
@@ -154,7 +154,7 @@ impl Tail {
         earned(bits.0, self.x[k]) + earned(bits.1, self.z[k])
     }
 
-    /// What the bits of the tail from a state earn.
+    /// Returns what the bits of the tail from a state earn.
     fn from_state(&self, s: State) -> i64
         ensures value { result ≡ tail_sum self.now.x self.now.z s }
         ensures range { IsWithin 762 result }
@@ -163,7 +163,7 @@ impl Tail {
         self.step(0, first) + self.step(1, second) + self.step(2, third)
     }
 
-    /// The same from each state, in order of the states' numbers.
+    /// Returns the same from each state, in order of the states' numbers.
     fn numbers(&self) -> [i64; 8]
         ensures value { result ≡ border_of (tail_sum self.now.x self.now.z) }
         ensures range { IsBounded 762 (tail_sum self.now.x self.now.z) }
@@ -182,7 +182,7 @@ impl Tail {
     }
 }
 
-/// A value where the bit is 0, and else 0.
+/// Returns a value where the bit is 0, and else 0.
 fn if_zero(bit: Bit, value: i64) -> i64
     ensures { result ≡ if_zero bit value }
 {
@@ -192,7 +192,7 @@ fn if_zero(bit: Bit, value: i64) -> i64
     }
 }
 
-/// What a tail bit earns.
+/// Returns what a tail bit earns.
 fn earned(bit: Bit, value: Soft) -> i64
     ensures value { result ≡ if_zero bit value }
     ensures range { IsWithin 127 result }

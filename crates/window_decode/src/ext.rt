@@ -34,7 +34,7 @@ impl Ext {
         one: false,
     };
 
-    /// The new cell of a position with an extrinsic value, whose systematic value and old cell have
+    /// Returns the new cell of a position with an extrinsic value, whose systematic value and old cell have
     /// the sum `own`.
     #[inline]
     pub(crate) fn from_extrinsic(x: i32, own: i16) -> Ext

@@ -14,7 +14,7 @@ ghost use Rattle.window_decode.specs.Lanes.{IsLanes};
 
 use std::simd::prelude::*;
 
-/// The same number for each state.
+/// Returns the same number for each state.
 #[inline]
 pub fn all(value: i16) -> i16x8
     ensures { result ≡ border_of (λ _. value) }
@@ -22,7 +22,7 @@ pub fn all(value: i16) -> i16x8
     i16x8::splat(value)
 }
 
-/// The sums of the states' numbers.
+/// Returns the sums of the states' numbers.
 #[inline]
 pub fn sum(a: i16x8, b: i16x8) -> i16x8
     requires first { IsLanes a }
@@ -33,7 +33,7 @@ pub fn sum(a: i16x8, b: i16x8) -> i16x8
     a.strict_add(b)
 }
 
-/// The greater of the states' numbers.
+/// Returns the greater of the states' numbers.
 #[inline]
 pub fn larger(a: i16x8, b: i16x8) -> i16x8
     requires first { IsLanes a }
@@ -43,7 +43,7 @@ pub fn larger(a: i16x8, b: i16x8) -> i16x8
     a.simd_max(b)
 }
 
-/// The number of state 0 for each state.
+/// Returns the number of state 0 for each state.
 #[inline]
 fn of_state_zero(a: i16x8) -> i16x8
     requires { IsLanes a }
@@ -52,7 +52,7 @@ fn of_state_zero(a: i16x8) -> i16x8
     a.swizzle([0, 0, 0, 0, 0, 0, 0, 0])
 }
 
-/// By how much the states' numbers are above that of state 0.
+/// Returns by how much the states' numbers are above that of state 0.
 #[inline]
 pub fn above_zero(a: i16x8) -> i16x8
     requires lanes { IsLanes a }
@@ -62,7 +62,7 @@ pub fn above_zero(a: i16x8) -> i16x8
     a.strict_sub(of_state_zero(a))
 }
 
-/// For each state the number of the state before it whose oldest value is 0.
+/// Returns for each state the number of the state before it whose oldest value is 0.
 #[inline]
 pub fn before_by_zero(a: i16x8) -> i16x8
     requires { IsLanes a }
@@ -71,7 +71,7 @@ pub fn before_by_zero(a: i16x8) -> i16x8
     a.swizzle([0, 2, 4, 6, 0, 2, 4, 6])
 }
 
-/// For each state the number of the state before it whose oldest value is 1.
+/// Returns for each state the number of the state before it whose oldest value is 1.
 #[inline]
 pub fn before_by_one(a: i16x8) -> i16x8
     requires { IsLanes a }
@@ -80,7 +80,7 @@ pub fn before_by_one(a: i16x8) -> i16x8
     a.swizzle([1, 3, 5, 7, 1, 3, 5, 7])
 }
 
-/// For each state the number of the state after the input 0.
+/// Returns for each state the number of the state after the input 0.
 #[inline]
 pub fn after_zero(a: i16x8) -> i16x8
     requires { IsLanes a }
@@ -89,7 +89,7 @@ pub fn after_zero(a: i16x8) -> i16x8
     a.swizzle([0, 4, 5, 1, 2, 6, 7, 3])
 }
 
-/// For each state the number of the state after the input 1.
+/// Returns for each state the number of the state after the input 1.
 #[inline]
 pub fn after_one(a: i16x8) -> i16x8
     requires { IsLanes a }
@@ -98,7 +98,7 @@ pub fn after_one(a: i16x8) -> i16x8
     a.swizzle([4, 0, 1, 5, 6, 2, 3, 7])
 }
 
-/// What the input earns that leads to each state from the state before it whose oldest value is 0.
+/// Returns what the input earns that leads to each state from the state before it whose oldest value is 0.
 #[inline]
 pub fn input_by_zero(value: i16) -> i16x8
     ensures { result ≡ border_of (λ s. if_zero (input_before s Zero) value) }
@@ -106,7 +106,7 @@ pub fn input_by_zero(value: i16) -> i16x8
     i16x8::splat(value).shuffle(i16x8::splat(0), [0, 8, 0, 8, 8, 0, 8, 0])
 }
 
-/// What the input earns that leads to each state from the state before it whose oldest value is 1.
+/// Returns what the input earns that leads to each state from the state before it whose oldest value is 1.
 #[inline]
 pub fn input_by_one(value: i16) -> i16x8
     ensures { result ≡ border_of (λ s. if_zero (input_before s One) value) }
@@ -114,7 +114,7 @@ pub fn input_by_one(value: i16) -> i16x8
     i16x8::splat(value).shuffle(i16x8::splat(0), [8, 0, 8, 0, 0, 8, 0, 8])
 }
 
-/// What the parity bit of the input 0 earns from each state.
+/// Returns what the parity bit of the input 0 earns from each state.
 #[inline]
 pub fn parity_of_zero(value: i16) -> i16x8
     ensures { result ≡ border_of (λ s. if_zero (parity s Zero) value) }
@@ -122,7 +122,7 @@ pub fn parity_of_zero(value: i16) -> i16x8
     i16x8::splat(value).shuffle(i16x8::splat(0), [0, 0, 8, 8, 8, 8, 0, 0])
 }
 
-/// What the parity bit of the input 1 earns from each state.
+/// Returns what the parity bit of the input 1 earns from each state.
 #[inline]
 pub fn parity_of_one(value: i16) -> i16x8
     ensures { result ≡ border_of (λ s. if_zero (parity s One) value) }
@@ -130,7 +130,7 @@ pub fn parity_of_one(value: i16) -> i16x8
     i16x8::splat(value).shuffle(i16x8::splat(0), [8, 8, 0, 0, 0, 0, 8, 8])
 }
 
-/// The numbers of the states whose newest value is the other.
+/// Returns the numbers of the states whose newest value is the other.
 #[inline]
 fn newest_turned(a: i16x8) -> i16x8
     requires { IsLanes a }
@@ -139,7 +139,7 @@ fn newest_turned(a: i16x8) -> i16x8
     a.swizzle([4, 5, 6, 7, 0, 1, 2, 3])
 }
 
-/// The numbers of the states whose middle value is the other.
+/// Returns the numbers of the states whose middle value is the other.
 #[inline]
 fn middle_turned(a: i16x8) -> i16x8
     requires { IsLanes a }
@@ -148,7 +148,7 @@ fn middle_turned(a: i16x8) -> i16x8
     a.swizzle([2, 3, 0, 1, 6, 7, 4, 5])
 }
 
-/// The numbers of the states whose oldest value is the other.
+/// Returns the numbers of the states whose oldest value is the other.
 #[inline]
 fn oldest_turned(a: i16x8) -> i16x8
     requires { IsLanes a }
@@ -157,7 +157,7 @@ fn oldest_turned(a: i16x8) -> i16x8
     a.swizzle([1, 0, 3, 2, 5, 4, 7, 6])
 }
 
-/// The greatest of the states' numbers.
+/// Returns the greatest of the states' numbers.
 #[inline]
 pub fn greatest(a: i16x8) -> i16
     requires { IsLanes a }

@@ -14,7 +14,7 @@ use crate::lanes::{
 use crate::step::Step;
 use std::simd::prelude::*;
 
-/// The metrics with which paths come to each state from the one before it whose oldest value is 0.
+/// Returns the metrics with which paths come to each state from the one before it whose oldest value is 0.
 #[inline]
 fn way_in_by_zero(before: i16x8, step: Step) -> i16x8
     requires { IsRelative before }
@@ -25,7 +25,7 @@ fn way_in_by_zero(before: i16x8, step: Step) -> i16x8
     sum(before_by_zero(before), gain)
 }
 
-/// The metrics with which paths come to each state from the one before it whose oldest value is 1.
+/// Returns the metrics with which paths come to each state from the one before it whose oldest value is 1.
 #[inline]
 fn way_in_by_one(before: i16x8, step: Step) -> i16x8
     requires { IsRelative before }
@@ -36,7 +36,7 @@ fn way_in_by_one(before: i16x8, step: Step) -> i16x8
     sum(before_by_one(before), gain)
 }
 
-/// The forward metrics after a step, relative to that of state 0, from those before it.
+/// Returns the forward metrics after a step, relative to that of state 0, from those before it.
 #[inline]
 pub fn forward(before: i16x8, step: Step) -> i16x8
     requires { IsRelative before }
@@ -48,7 +48,7 @@ pub fn forward(before: i16x8, step: Step) -> i16x8
     above_zero(next)
 }
 
-/// The metrics after the steps by the input 0, with what their parity bits earn.
+/// Returns the metrics after the steps by the input 0, with what their parity bits earn.
 #[inline]
 fn onward_by_zero(after: i16x8, value: i16) -> i16x8
     requires after { IsRelative after }
@@ -59,7 +59,7 @@ fn onward_by_zero(after: i16x8, value: i16) -> i16x8
     sum(parity_of_zero(value), after_zero(after))
 }
 
-/// The metrics after the steps by the input 1, with what their parity bits earn.
+/// Returns the metrics after the steps by the input 1, with what their parity bits earn.
 #[inline]
 fn onward_by_one(after: i16x8, value: i16) -> i16x8
     requires after { IsRelative after }
@@ -70,7 +70,7 @@ fn onward_by_one(after: i16x8, value: i16) -> i16x8
     sum(parity_of_one(value), after_one(after))
 }
 
-/// The backward metrics before a step, relative to that of state 0, from those after it.
+/// Returns the backward metrics before a step, relative to that of state 0, from those after it.
 #[inline]
 pub fn backward(after: i16x8, step: Step) -> i16x8
     requires { IsRelative after }
@@ -81,7 +81,7 @@ pub fn backward(after: i16x8, step: Step) -> i16x8
     above_zero(larger(zero, one))
 }
 
-/// How much better 0 is than 1 at a position, by all but what the bit itself earns.
+/// Returns how much better 0 is than 1 at a position, by all but what the bit itself earns.
 #[inline]
 pub fn extrinsic(before: i16x8, after: i16x8, value: i16) -> i32
     requires before { IsRelative before }

@@ -36,7 +36,7 @@ impl Model for Shape {
 }
 
 impl Shape {
-    /// A shape, and `None` exactly where `k` isn't one of the 188 sizes, or `f` isn't below `k`, or
+    /// Returns a shape, and `None` exactly where `k` isn't one of the 188 sizes, or `f` isn't below `k`, or
     /// `windows` is 0, above 64, no divisor of `k` or more than `k` / 8, or `limit` isn't 1 to 16.
     pub fn new(k: usize, f: usize, kind: CheckKind, windows: usize, limit: usize) -> Option<Shape>
         ensures some { IsSome result ↔ IsShape (shape_of k f kind windows limit) }
@@ -63,7 +63,7 @@ impl Shape {
         })
     }
 
-    /// The size K of the code block.
+    /// Returns the size K of the code block.
     pub fn k(&self) -> usize
         ensures value { result ≡ self.now.k }
         ensures lawful { IsShape self.now }
@@ -71,7 +71,7 @@ impl Shape {
         self.k
     }
 
-    /// The number of fillers.
+    /// Returns the number of fillers.
     pub fn f(&self) -> usize
         ensures value { result ≡ self.now.f }
         ensures lawful { IsShape self.now }
@@ -79,7 +79,7 @@ impl Shape {
         self.f
     }
 
-    /// The check that the code block carries.
+    /// Returns the check that the code block carries.
     pub fn kind(&self) -> CheckKind
         ensures value { result ≡ self.now.kind }
         ensures lawful { IsShape self.now }
@@ -87,7 +87,7 @@ impl Shape {
         self.kind
     }
 
-    /// The number of windows of a half iteration.
+    /// Returns the number of windows of a half iteration.
     pub fn windows(&self) -> usize
         ensures value { result ≡ self.now.windows }
         ensures lawful { IsShape self.now }
@@ -95,7 +95,7 @@ impl Shape {
         self.windows
     }
 
-    /// The greatest number of iterations.
+    /// Returns the greatest number of iterations.
     pub fn limit(&self) -> usize
         ensures value { result ≡ self.now.limit }
         ensures lawful { IsShape self.now }

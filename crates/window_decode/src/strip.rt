@@ -19,23 +19,23 @@ pub trait Strip {
 
     ghost rest: { Self → Self.Rest };
 
-    /// The number of positions.
+    /// Returns the number of positions.
     fn width(&self) -> usize
         ensures { result ≡ length (cells self.now) };
 
-    /// The systematic value of position `j`, from -127 to 127; `j` is below the width.
+    /// Returns the systematic value of position `j`, from -127 to 127; `j` is below the width.
     fn sys(&self, j: usize) -> i16
         requires { j < length (cells self.now) }
         ensures value { result ≡ at (systematic self.now) j }
         ensures range { IsWithin 127 result };
 
-    /// The parity value of position `j`, from -127 to 127; `j` is below the width.
+    /// Returns the parity value of position `j`, from -127 to 127; `j` is below the width.
     fn par(&self, j: usize) -> i16
         requires { j < length (cells self.now) }
         ensures value { result ≡ at (parity self.now) j }
         ensures range { IsWithin 127 result };
 
-    /// The cell of position `j`, which is below the width.
+    /// Returns the cell of position `j`, which is below the width.
     fn cell(&self, j: usize) -> Ext
         requires { j < length (cells self.now) }
         ensures { result ≡ cell_at (cells self.now) j };

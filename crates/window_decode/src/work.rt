@@ -23,7 +23,7 @@ impl Model for Work {
 }
 
 impl Work {
-    /// Room for windows of up to `width` positions; `width` is 8 to 6144.
+    /// Allocates for windows of up to `width` positions; `width` is 8 to 6144.
     pub fn new(alloc: Global, width: usize) -> Result<Work, NoMemory>
         requires least { 8 ≤ width }
         requires most { width ≤ 6144 }
@@ -34,7 +34,7 @@ impl Work {
         })
     }
 
-    /// The greatest width for which there is room.
+    /// Returns the greatest width for which there is room.
     pub fn room(&self) -> usize
         ensures { result ≡ self.now }
     {

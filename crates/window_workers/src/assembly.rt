@@ -10,7 +10,7 @@ use cell_shares::Share;
 use serial_decode::left::{BordersLeft, end_of};
 use window_decode::{Border, Ext};
 
-/// The shares of pieces, in order, and their tools, from last to first.
+/// Returns the shares of pieces, in order, and their tools, from last to first.
 pub(crate) fn take_apart(
     pieces: &mut Vec<WindowPiece>,
     rooms: Rooms,
@@ -82,7 +82,7 @@ pub(crate) fn put_together(
     Rooms { shares, tools }
 }
 
-/// Leaves the borders that the windows of pieces left last.
+/// Writes the borders that the windows of pieces left last.
 pub(crate) fn take_left(pieces: &[WindowPiece], left: &mut [BordersLeft])
     requires { length left.old ≡ length pieces.now }
     ensures { left.new ≡ map left_of_piece pieces.now }

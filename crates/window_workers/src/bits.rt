@@ -8,7 +8,7 @@ use lte_bits::Bit;
 use serial_decode::bits::decided;
 use window_decode::Ext;
 
-/// Leaves the decided bits of the cells of all places, with the first `fill` of them 0.
+/// Writes the decided bits of the cells of all places, with the first `fill` of them 0.
 pub(crate) fn decide(cells: &Cells<Ext>, fill: usize, bits: &mut [Bit])
     requires fill { fill ≤ length (cell_values cells.now) }
     requires long { length bits.old ≡ length (cell_values cells.now) }

@@ -21,7 +21,7 @@ pub struct Progress {
 }
 
 impl Progress {
-    /// The border after the last position in half `half`.
+    /// Returns the border after the last position in half `half`.
     pub(crate) fn tail(&self, half: u32) -> Border
         ensures { result ≡ (if half % 2 == 0 then self.now.even_tail else self.now.odd_tail) }
     {

@@ -20,9 +20,9 @@ use serial_decode::block::result_in;
 use std::snapshot::Snapshot;
 use window_decode::{CodeResult, Ext};
 
-/// The result, where the decoding of a piece's job ends with `half`, which left these cells: it is the
-/// second half of an iteration, and the check holds or the iteration is the last. Else the progress
-/// comes back.
+/// Returns the result, where the decoding of a piece's job ends with `half`, which left these cells: it is
+/// the second half of an iteration, and the check holds or the iteration is the last. Else the progress comes
+/// back.
 fn decided(
     about: &Snapshot<WindowPiece>,
     progress: Progress,
@@ -79,7 +79,7 @@ fn next_half(
     rooms
 }
 
-/// What comes after `half`, whose pieces are done: the result, or the pieces of the next half.
+/// Returns what comes after `half`, whose pieces are done: the result, or the pieces of the next half.
 fn after_half(
     about: &Snapshot<WindowPiece>,
     pieces: &mut Vec<WindowPiece>,

@@ -26,7 +26,7 @@ use std::alloc::Global;
 use std::snapshot::Snapshot;
 use window_decode::{Ext, Shape, Work};
 
-/// What a worker needs for window `t`.
+/// Returns what a worker needs for window `t`.
 fn tools_of_window(alloc: Global, views: &Views<'_>, t: usize) -> Result<Tools, NoMemory>
     requires window { t < views.now.shape.windows }
     ensures tools { IfOk result (λ tools. (job : DecodingJob) → job.streams ≡ views.now.streams.now
@@ -46,7 +46,7 @@ fn tools_of_window(alloc: Global, views: &Views<'_>, t: usize) -> Result<Tools, 
     })
 }
 
-/// The tools of all windows, from last to first.
+/// Returns the tools of all windows, from last to first.
 fn all_tools(alloc: Global, views: &Views<'_>) -> Result<Vec<Tools>, NoMemory>
     ensures { IfOk result (λ tools. (job : DecodingJob) → job.streams ≡ views.now.streams.now
         → job.shape ≡ views.now.shape → AreAllTools job tools.items) }
@@ -59,7 +59,7 @@ fn all_tools(alloc: Global, views: &Views<'_>) -> Result<Vec<Tools>, NoMemory>
     Ok(tools)
 }
 
-/// The progress before half 0.
+/// Returns the progress before half 0.
 fn first_progress(alloc: Global, views: &Views<'_>) -> Result<Progress, NoMemory>
     ensures interleaver { IfOk result (λ p. row_in p.interleaver ≡ row_of views.now.shape.k) }
     ensures progress { IfOk result (λ p. (job : DecodingJob) → job.streams ≡ views.now.streams.now
@@ -77,7 +77,7 @@ fn first_progress(alloc: Global, views: &Views<'_>) -> Result<Progress, NoMemory
     })
 }
 
-/// The cells before half 0.
+/// Returns the cells before half 0.
 fn zero_cells(alloc: Global, shape: &Shape) -> Result<Cells<Ext>, NoMemory>
     ensures values { IfOk result (λ cells. cell_values cells ≡ replicate shape.now.k zero_cell) }
     ensures count { IfOk result (λ cells. (name_of cells).count ≡ shape.now.k) }
@@ -87,7 +87,7 @@ fn zero_cells(alloc: Global, shape: &Shape) -> Result<Cells<Ext>, NoMemory>
     Cells::new(alloc, List::from_vec(values), shape.windows())
 }
 
-/// The pieces and the common value of half 0.
+/// Returns the pieces and the common value of half 0.
 pub(crate) fn first_pieces(
     alloc: Global,
     streams: &SoftStreams,

@@ -36,7 +36,7 @@ fn discard(about: &Snapshot<WindowPiece>, refused: NewRefused<WindowPiece>)
     drop(join(shares));
 }
 
-/// A board at the first half of a code block's decoding, and its first seat. The streams have length
+/// Returns a board at the first half of a code block's decoding, and its first seat. The streams have length
 /// K + 4, and as many fillers as the shape. The board is made last, after all that its pieces need.
 pub fn open_board(
     alloc: Global,

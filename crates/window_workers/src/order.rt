@@ -7,7 +7,7 @@ ghost use Rattle.window_workers.specs.Orders.{IsOrderIn};
 use cell_shares::Order;
 use qpp_table::interleaver::Qpp;
 
-/// The order in which half `half` takes the cells, by the interleaver of their number.
+/// Returns the order in which half `half` takes the cells, by the interleaver of their number.
 pub(crate) fn order_of(interleaver: Qpp, half: u32) -> Order
     ensures { (k : ℕ) → row_in interleaver ≡ row_of k → IsOrderIn k half result }
 {

@@ -7,7 +7,7 @@ ghost use Rattle.window_workers.specs.Commons.{IsEndedAt};
 use crate::common::{Stage, WindowCommon};
 use window_decode::CodeResult;
 
-/// The result in the common value of a closed board: that of the job's code block.
+/// Returns the result in the common value of a closed board: that of the job's code block.
 pub fn take_result(common: WindowCommon) -> CodeResult
     requires { (job : DecodingJob) × (h : ℕ) × IsEndedAt job h common }
     ensures result { (job : DecodingJob) (h : ℕ) → IsEndedAt job h common

@@ -16,7 +16,7 @@ pub struct WindowView {
 }
 
 impl WindowView {
-    /// Window `t`, below the number of windows, in the order of half `h`.
+    /// Returns window `t`, below the number of windows, in the order of half `h`.
     pub(crate) fn new(
         alloc: Global,
         views: &Views<'_>,
@@ -44,7 +44,7 @@ impl WindowView {
     }
 }
 
-/// The view of the order in which half `half` takes the cells.
+/// Returns the view of the order in which half `half` takes the cells.
 pub(crate) fn of_half<'a>(
     half: u32,
     natural: &'a WindowView,
