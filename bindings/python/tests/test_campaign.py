@@ -5,6 +5,7 @@ import os
 import shutil
 import subprocess
 import sys
+import threading
 from concurrent.futures import ThreadPoolExecutor
 
 import pytest
@@ -28,6 +29,7 @@ from gomzelat.campaign import (
     wilson,
     write,
 )
+from gomzelat.campaign import running
 
 HALF = Curve("1/2", 100, 1600)
 TWICE = Curve("3/4 twice", 100, 1066, versions=(0, 2))
@@ -60,6 +62,41 @@ def test_counts_do_not_depend_on_how_blocks_are_divided(by_loop):
         assert measured(Here(), chunk=chunk, width=width) == by_loop
     with ThreadPoolExecutor(3) as pool:
         assert measured(pool, chunk=5, width=9) == by_loop
+
+
+def test_long_points_have_fewer_calls_which_count_the_same():
+    calls = []
+
+    class Counting(Here):
+        def submit(self, fn, /, *arguments, **named):
+            calls.append(arguments[1:])
+            return super().submit(fn, *arguments, **named)
+
+    point, stop = Point(Curve("1/3", 10, 360), 1.0), Stop(errors=10**6, blocks=2000)
+    found = measured(Counting(), stop, [point], chunk=5, width=2)
+    assert found == {point: counted(run_blocks(point, 0, 2000))}
+    assert len(calls) < 100 and [first for first, _ in calls[1:]] == [sum(it) for it in calls[:-1]]
+
+
+def test_nothing_is_asked_while_an_earlier_call_is_awaited(monkeypatch):
+    rounds, begins = [], threading.Event()
+
+    class Late(ThreadPoolExecutor):
+        def submit(self, fn, /, point, first, count):
+            return super().submit(self.late, fn, point, first, count)
+
+        def late(self, fn, point, first, count):
+            if first == 0:
+                begins.wait(30)
+            elif first == 30:
+                threading.Timer(0.5, begins.set).start()
+            return fn(point, first, count)
+
+    waits = running.wait
+    monkeypatch.setattr(running, "wait", lambda *words, **named: rounds.append(1) or waits(*words, **named))
+    with Late(2) as pool:
+        assert measured(pool, Stop(errors=100, blocks=40), POINTS[:1], chunk=10, width=2)[POINTS[0]].blocks == 40
+    assert len(rounds) < 20
 
 
 def test_processes_count_the_same(by_loop):

@@ -71,7 +71,7 @@ def _arguments() -> argparse.ArgumentParser:
         "--scheduler", metavar="ADDRESS", help="dask's scheduler; else a cluster of this machine"
     )
     words.add_argument(
-        "--chunk", type=int, default=50, help="blocks of one call (50); results don't depend on it"
+        "--chunk", type=int, default=50, help="blocks of a point's first calls (50); results don't depend on it"
     )
     words.add_argument("--quiet", action="store_true", help="no progress bar")
     return words

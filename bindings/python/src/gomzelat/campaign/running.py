@@ -14,6 +14,10 @@ from .curves import Point
 from .stopping import Stop
 
 
+#: With longer calls an interrupt would lose much.
+_MOST_OF_A_CALL = 1000
+
+
 @dataclass(frozen=True)
 class Progress:
     """A point's counts so far, and whether they are all."""
@@ -45,7 +49,7 @@ class Campaign:
     width : int
         How many calls are under way at once.
     chunk : int
-        The blocks of a call. The counts don't depend on it.
+        The blocks of a call, at the beginning of a point; later calls have more. The counts don't depend on it.
     first : int
         The number of the first block.
     known : mapping from Point to Counts
@@ -93,9 +97,10 @@ class Campaign:
                 if not work.points:
                     works.remove(work)
             self._submit(works)
-            pending = [it for work in works for it in work.pending]
-            if pending:
-                wait(pending, return_when=FIRST_COMPLETED)
+            # What is done already but waits for an earlier call of its point wakes nobody.
+            under_way = [it for work in works for it in work.pending if not it.done()]
+            if under_way:
+                wait(under_way, return_when=FIRST_COMPLETED)
 
     def _begun(self, points: deque[Point]) -> _Work:
         counts = self.known.get(points[0], Counts()) if points else Counts()
@@ -124,15 +129,24 @@ class Campaign:
         work.counts, work.submitted, work.pending = begun.counts, begun.submitted, begun.pending
 
     def _submit(self, works: list[_Work]) -> None:
-        """Keeps the executor busy, with the curve that has the fewest calls under way first."""
-        for _ in range(self.width - sum(len(it.pending) for it in works)):
+        """Keeps the executor busy, with the curve that has the fewest calls first, and few that wait for an earlier one."""
+        under_way = sum(not it.done() for work in works for it in work.pending)
+        room = 4 * self.width - sum(len(it.pending) for it in works)
+        for _ in range(min(room, self.width - under_way)):
             left = [it for it in works if self._rest(it) > 0]
             if not left:
                 return
             work = min(left, key=lambda it: len(it.pending))
-            count = min(self.chunk, self._rest(work))
+            count = self._next_count(work)
             work.pending.append(self.executor.submit(run_blocks, work.points[0], work.submitted, count))
             work.submitted += count
+
+    def _next_count(self, work: _Work) -> int:
+        """Returns the blocks of a point's next call: more where many are done, so that calls cost little beside them and
+        what is done in vain at the end is little beside what was needed; and fewer toward the end, for all to share."""
+        rest = self._rest(work)
+        share = min(work.counts.blocks // (4 * self.width), rest // self.width, _MOST_OF_A_CALL)
+        return min(rest, max(self.chunk, share))
 
     def _rest(self, work: _Work) -> int:
         return self.first + self.stop.blocks - work.submitted
