@@ -95,7 +95,8 @@ export async function openBrowser() {
   const close = async () => {
     browser.kill();
     await new Promise((done) => browser.on("exit", done));
-    rmSync(home, { recursive: true, force: true });
+    // The browser's other processes may write to it for a moment longer.
+    rmSync(home, { recursive: true, force: true, maxRetries: 20, retryDelay: 100 });
   };
   return { page, close };
 }
