@@ -69,7 +69,18 @@ function suspects(id, stages, verdicts) {
   return [...new Set([...earlier, ...stage.steps])];
 }
 
+// What is said where a stage before the selection has another length, as of another K: what comes after can't agree then.
+function anotherSize(verdicts) {
+  const stage = STAGES.slice(0, 5).find(({ id }) => verdicts[id].isShort && Math.abs(verdicts[id].theirCount - verdicts[id].count) > 12);
+  if (!stage) return "";
+  const { theirCount, count } = verdicts[stage.id];
+  return `Of the ${stage.name} the other codec has ${grouped(theirCount)}, and here are ${grouped(count)}: it takes another K, or `
+    + "not all was pasted. Look at the segmentation (5.1.2) first: the marks of later stages say nothing until K agrees.";
+}
+
 function conclusion(stages, verdicts) {
+  const size = anotherSize(verdicts);
+  if (size) return size;
   const by = (state) => STAGES.filter((it) => verdicts[it.id].state === state);
   const first = by("differs")[0], agreeing = by("agrees").map((it) => it.name);
   const unread = by("unread").map((it) => it.name);

@@ -121,6 +121,8 @@ async function anotherCodec() {
   await told("what can't be read", "verdict-codeword", "neither a bit nor a hex digit");
   await page.set({ ...nothing, "other-codeword": WORKED.slice(0, 5) });
   await told("a codeword that is short", "verdict-codeword", "The other has 16, and here are 132.");
+  await page.set({ ...nothing, "other-c": "0".repeat(64), "other-d2": "0".repeat(68) });
+  await told("another K", "compared", "it takes another K, or not all was pasted. Look at the segmentation (5.1.2) first");
   await page.set(nothing);
 }
 
