@@ -96,7 +96,14 @@ export async function openBrowser() {
     browser.kill();
     await new Promise((done) => browser.on("exit", done));
     // The browser's other processes may write to it for a moment longer.
-    rmSync(home, { recursive: true, force: true, maxRetries: 20, retryDelay: 100 });
+    for (let tries = 1; ; tries++) {
+      try {
+        return rmSync(home, { recursive: true, force: true });
+      } catch (error) {
+        if (tries === 100) throw error;
+        await pause(100);
+      }
+    }
   };
   return { page, close };
 }
