@@ -4,35 +4,35 @@ ghost use Rattle.lte_bits.specs.Bits.{digit, number};
 ghost use Rattle.model_sender.specs.CheckBits.{IsCrc, IsMonic, IsMultiple, crc, reduced, remainder};
 ghost use Rattle.block_crc.specs.Table.{is_table};
 
-use crate::tables::{FURTHER_A, FURTHER_B, REMAINDERS_A, REMAINDERS_B};
+use crate::tables::{CRC24A_SHIFT24, CRC24A_SHIFT32, CRC24B_SHIFT24, CRC24B_SHIFT32};
 use lte_bits::{Bit, byte_of};
 
 /// A polynomial of degree 24, as the number whose binary digits are its coefficients.
 #[derive(Clone, Copy)]
 pub struct Generator {
     pub coefficients: u32,
-    /// What each byte leaves where it stands above the 24 lowest digits.
-    remainders: [u32; 256],
-    /// What it leaves where it stands a byte higher.
-    further: [u32; 256],
+    /// byte * D^24 mod g, for each byte.
+    shift24: [u32; 256],
+    /// byte * D^32 mod g, for each byte.
+    shift32: [u32; 256],
     ghost monic: { IsMonic coefficients },
-    ghost table: { IsTrue (is_table coefficients 8 remainders) },
-    ghost further_table: { IsTrue (is_table coefficients 16 further) },
+    ghost shift24_table: { IsTrue (is_table coefficients 8 shift24) },
+    ghost shift32_table: { IsTrue (is_table coefficients 16 shift32) },
 }
 
 impl Generator {
     /// D^24+D^23+D^18+D^17+D^14+D^11+D^10+D^7+D^6+D^5+D^4+D^3+D+1
     pub const A: Generator = Generator {
         coefficients: 0x186_4CFB,
-        remainders: REMAINDERS_A,
-        further: FURTHER_A,
+        shift24: CRC24A_SHIFT24,
+        shift32: CRC24A_SHIFT32,
     };
 
     /// D^24+D^23+D^6+D^5+D+1
     pub const B: Generator = Generator {
         coefficients: 0x180_0063,
-        remainders: REMAINDERS_B,
-        further: FURTHER_B,
+        shift24: CRC24B_SHIFT24,
+        shift32: CRC24B_SHIFT32,
     };
 
     /// Returns a polynomial of degree 24 at most, modulo the generator.
@@ -68,7 +68,7 @@ impl Generator {
         ensures value { result ≡ remainder self.now.coefficients start byte.now }
         ensures small { result < 2 ^ 24 }
     {
-        self.remainders[(start >> 16) as usize] ^ moved(start, byte)
+        self.shift24[(start >> 16) as usize] ^ moved(start, byte)
     }
 
     /// Returns `start`, followed by two bytes, modulo the generator.
@@ -79,7 +79,7 @@ impl Generator {
     {
         let (bytes, _) = bits.as_chunks::<8>();
         let rest = self.remainder_of_byte(moved(start, &bytes[0]), &bytes[1]);
-        self.further[(start >> 16) as usize] ^ rest
+        self.shift32[(start >> 16) as usize] ^ rest
     }
 
     /// Returns `start`, followed by the bits, modulo the generator.

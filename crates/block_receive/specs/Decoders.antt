@@ -5,7 +5,7 @@ use Rattle.lte_bits.specs.declared.block.SoftStreams.{SoftStreams}
 use Rattle.model_receiver.specs.HalfIteration.{Shape}
 use Rattle.model_receiver.specs.declared.result.CodeResult.{CodeResult}
 use Rattle.model_receiver.specs.Decoding.{code_result}
-use Rattle.serial_decode.specs.Views.{AreStreams}
+use Rattle.half_iteration.specs.Views.{AreStreams}
 
 -- it may be called with the soft values of a code block of a shape
 abbrev pub TakesBlocks : {A : Type 0} → (A → Bor SoftStreams → Bor Shape → Type 0) → Type 0

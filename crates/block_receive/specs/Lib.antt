@@ -1,4 +1,5 @@
 pub mod Receptions
-pub mod Effort
 pub mod Decoders
+pub mod Held
 pub mod Tries
+pub mod Progress

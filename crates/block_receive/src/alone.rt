@@ -1,7 +1,7 @@
 //! A code block decoded on one thread.
 ghost use Rattle.std.specs.Prelude.{◌≡◌, IfOk};
 ghost use Rattle.model_receiver.specs.Decoding.{code_result};
-ghost use Rattle.serial_decode.specs.Views.{AreStreams};
+ghost use Rattle.half_iteration.specs.Views.{AreStreams};
 
 use crate::tries::Decoded;
 use lane_windows::decode_block_lanes;

@@ -2,8 +2,9 @@
 #![tactic(auto)]
 
 mod alone;
-mod joining;
 pub mod laws;
+mod payload;
+mod progress;
 mod receiving;
 mod shapes;
 mod shared;
@@ -11,9 +12,9 @@ mod steps;
 mod task;
 mod tries;
 
-pub use model_receiver::TbOutcome;
+pub use model_receiver::{DecoderLimits, TbOutcome};
 pub use receiving::{receive, receive_alone};
 pub use shared::receive_shared;
 pub use steps::{Carried, carried_by, try_alone};
-pub use task::{Effort, Task};
+pub use task::Task;
 pub use tries::Decoded;

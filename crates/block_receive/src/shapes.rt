@@ -2,7 +2,6 @@
 ghost use Rattle.std.specs.Prelude.{◌≡◌, ◌<◌};
 ghost use Rattle.model_receiver.specs.TransportBlocks.{block_shape, check_kind};
 ghost use Rattle.segmentation.specs.Plans.{IsPlan};
-ghost use Rattle.block_receive.specs.Effort.{effort_in};
 
 use crate::task::Task;
 use qpp_table::win;
@@ -19,12 +18,13 @@ fn check_kind(c: usize) -> CheckKind
 /// Returns the shape in which block `r`, below C, is decoded.
 pub fn block_shape(task: &Task, r: usize) -> Shape
     requires { r < task.now.plan.c }
-    ensures value { result ≡ block_shape task.now.plan (effort_in task.now) r }
+    ensures value { result ≡ block_shape task.now.plan task.now.limits r }
     ensures lawful { IsPlan task.now.plan }
 {
     let plan = &task.plan;
+    let limits = &task.limits;
     let k = size(plan, r);
     let kind = check_kind(plan.c);
-    let windows = win(k, task.effort.windows);
-    Shape::new(k, fill(plan, r), kind, windows, task.effort.limit).unwrap()
+    let windows = win(k, limits.windows);
+    Shape::new(k, fill(plan, r), kind, windows, limits.limit).unwrap()
 }

@@ -3,12 +3,11 @@ ghost use Rattle.std.specs.Prelude.{◌≡◌, IfOk, map};
 ghost use Rattle.model_receiver.specs.Decoding.{code_result};
 ghost use Rattle.model_receiver.specs.TransportBlocks.{delivers, held_after, payload_of};
 ghost use Rattle.segmentation.specs.Shape.{AreBlocksOf};
-ghost use Rattle.serial_decode.specs.Views.{AreStreams};
-ghost use Rattle.block_receive.specs.Effort.{effort_in};
+ghost use Rattle.half_iteration.specs.Views.{AreStreams};
 ghost use Rattle.block_receive.specs.Tries.{tried_from};
 
 use crate::alone::decode_alone;
-use crate::joining::join;
+use crate::payload::join;
 use crate::task::Task;
 use crate::tries::{Decoded, all_passed, hold_passed, try_blocks};
 use lte_bits::{List, NoMemory, SoftStreams};
@@ -47,7 +46,7 @@ pub fn try_alone(
     requires plan { buffers.now.plan ≡ task.now.plan }
     requires blocks { AreBlocksOf task.now.plan (map (λ x. x.block) last.items) }
     ensures results { IfOk result (λ results. results.items
-        ≡ tried_from task.now.plan (effort_in task.now) buffers.now.cells (held_after last.items)) }
+        ≡ tried_from task.now.plan task.now.limits buffers.now.cells (held_after last.items)) }
     ensures blocks { IfOk result (λ results. AreBlocksOf task.now.plan
         (map (λ x. x.block) results.items)) }
 {

@@ -1,11 +1,11 @@
 //! One try: what is held is taken, and the other code blocks are decoded.
 ghost use Rattle.std.specs.Prelude.{◌≡◌, ℕ, ◌≤◌, ◌<◌, List, All, IfOk, length, map};
+ghost use Rattle.model_receiver.specs.Limits.{AreLimits};
 ghost use Rattle.model_receiver.specs.SoftCells.{Reception};
 ghost use Rattle.model_receiver.specs.TransportBlocks.{all_passed, block_result, if_passed, iterations_of, tried};
 ghost use Rattle.segmentation.specs.Plans.{IsPlan};
 ghost use Rattle.soft_buffers.specs.Buffers.{Hold};
 ghost use Rattle.block_receive.specs.Decoders.{GivesResults, TakesBlocks};
-ghost use Rattle.block_receive.specs.Effort.{effort_in};
 ghost use Rattle.block_receive.specs.Tries.{result_from, tried_from};
 
 use crate::shapes::block_shape;
@@ -31,9 +31,9 @@ fn decode_at<F: Fn(Global, &SoftStreams, &Shape) -> Decoded>(
     requires takes { TakesBlocks (F.pre decode.now) }
     requires gives { GivesResults (F.post decode.now) }
     ensures from { IfOk result (λ x. x
-        ≡ result_from task.now.plan (effort_in task.now) buffers.now.cells r) }
+        ≡ result_from task.now.plan task.now.limits buffers.now.cells r) }
     ensures received { (xs : List Reception) → Hold buffers.now xs →
-        IfOk result (λ x. x ≡ block_result task.now.plan (effort_in task.now) xs r) }
+        IfOk result (λ x. x ≡ block_result task.now.plan task.now.limits xs r) }
 {
     let streams = buffers.streams(alloc, r)?;
     decode(alloc, &streams, &block_shape(task, r))
@@ -52,12 +52,15 @@ pub fn try_blocks<F: Fn(Global, &SoftStreams, &Shape) -> Decoded>(
     requires takes { TakesBlocks (F.pre decode.now) }
     requires gives { GivesResults (F.post decode.now) }
     ensures from { IfOk result (λ results. results.items
-        ≡ tried_from task.now.plan (effort_in task.now) buffers.now.cells held.items) }
+        ≡ tried_from task.now.plan task.now.limits buffers.now.cells held.items) }
     ensures results { (xs : List Reception) → Hold buffers.now xs → IfOk result (λ results. results.items
-        ≡ tried task.now.plan (effort_in task.now) xs held.items) }
+        ≡ tried task.now.plan task.now.limits xs held.items) }
     ensures lawful { IsPlan task.now.plan }
+    ensures limits { AreLimits task.now.limits }
 {
     let plan = &task.plan;
+    let limits = &task.limits;
+    prove!(limits.limit <= 16);
     let mut held = held.into_iter();
     let mut results = Vec::with_capacity(alloc, plan.c)?;
     for r in 0..plan.c {

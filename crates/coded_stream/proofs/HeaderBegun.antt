@@ -1,22 +1,27 @@
 -- The header that was read from two units.
-use Rattle.std.proofs.Common.{◌≡◌, ℕ, ◌+◌, ◌*◌, ◌≤◌, true, List, ◌++◌, length, take, slice_index, None, ap, sym, subst, ◌∙◌, arith}
+use Rattle.std.proofs.Common.{◌≡◌, ℕ, ◌+◌, ◌*◌, ◌<◌, ◌≤◌, true, List, ◌++◌, length, take, slice_index, Some, None, refl, ap, sym, subst, ◌∙◌, arith}
 use Rattle.std.specs.declared.option.Option.{Option}
 use Rattle.std.proofs.lemmas.List.{length-take-le}
 use Rattle.edge_io.specs.Edge.{Takes}
+use Rattle.edge_io.proofs.Told.{told_rest}
 use Rattle.rate_match.specs.Sendings.{common}
 use Rattle.rate_match.specs.Fitting.{fits_all}
 use Rattle.rate_match.proofs.FitTest.{fits_all-true}
 use Rattle.rate_match.specs.declared.sends.Sending.{Sending}
 use Rattle.coded_stream.specs.Limit.{is_limit}
 use Rattle.coded_stream.specs.Header.{Header, kind_of, header_text, IsHeader}
-use Rattle.coded_stream.specs.Opening.{unless, first_refusal, version_of, first_size, described_size, count_in, tb_in, fields, header_in, second_opening, first_opening, opening}
-use Rattle.coded_stream.specs.Takes.{AreSentBy}
+use Rattle.coded_stream.specs.Opening.{unless, first_refusal, version_of, first_size, described_size, count_in, tb_in, fields, header_in, second_opening, first_opening, opening, refuses}
+use Rattle.coded_stream.specs.Fields.{Pass, AreRefused}
+use Rattle.coded_stream.specs.Takes.{opening_due, StopsOpening, StopsInSecond, AreSentBy}
 use Rattle.coded_stream.specs.declared.version.Version.{Version}
 use Rattle.coded_stream.specs.declared.version.Version.TheVariants.{One, Two}
 use Rattle.coded_stream.specs.declared.kind.Kind.{Kind}
 use Rattle.coded_stream.specs.declared.kind.Want.{Want}
 use Rattle.coded_stream.proofs.Passed.{ArePassed}
-use Rattle.coded_stream.proofs.OpeningSteps.{first-whole, text-long}
+use Rattle.coded_stream.specs.declared.stop.StreamStop.{StreamStop}
+use Rattle.coded_stream.specs.declared.stop.StreamStop.TheVariants.{Bad, Fault, NoMemory}
+use Rattle.coded_stream.proofs.Stopping.{stops-later, stops-as}
+use Rattle.coded_stream.proofs.OpeningSteps.{same_refuses, first-whole, text-long}
 
 -- the first unit, as it was read
 pub record IsUnit (v : Version) (unit : List ℕ) (old new : Option (List ℕ)) : Type 0 where
@@ -46,6 +51,39 @@ pub by-second : (v : Version) (want : Want) (unit left input : List ℕ) (old ne
     → opening want input ≡ second_opening v unit left
 by-second v want unit left input old new u is pass =
     by-unit v want unit left input old new u is ∙ ap (λ r. unless r (second_opening v unit left)) pass
+
+-- a field of it is refused
+pub first-refused : (v : Version) (want : Want) (unit input : List ℕ) (old new : Option (List ℕ)) (stop : StreamStop) → IsUnit v unit old new → old ≡ Some input
+    → AreRefused (fields v want unit) stop → StopsOpening (opening want input) old new stop
+first-refused v want unit input old new (Bad number place) u is refused =
+    let t = told_rest old new unit input u.took is in (
+      unit,
+      t.left,
+      first_size v,
+      t.old_is,
+      t.new_is,
+      by-unit v want unit t.left input old new u t.input_is
+          ∙ ap (λ r. unless r (second_opening v unit t.left)) (refused (first_size v))
+          ∙ same_refuses number place place _ (length unit) _ _ refl (sym u.long) refl,
+    )
+first-refused v want unit input old new Fault u is none = absurd none
+first-refused v want unit input old new NoMemory u is none = absurd none
+
+-- the second unit stops it
+pub begun-stops : (v : Version) (want : Want) (unit input : List ℕ) (old mid new : Option (List ℕ)) (stop : StreamStop) → IsUnit v unit old mid → old ≡ Some input
+    → Pass (fields v want unit)
+    → ((left : List ℕ) → mid ≡ Some left → StopsInSecond v (second_opening v unit left) mid new stop) → StopsOpening (opening want input) old new stop
+begun-stops v want unit input old mid new stop u is pass next =
+    let t = told_rest old mid unit input u.took is in
+    let same = by-second v want unit t.left input old mid u t.input_is (pass (first_size v)) in
+    let long : length unit ≡ first_size v = u.long in
+    let rest = second_opening v unit t.left in
+    stops-later (λ r. opening want input ≡ refuses r) (λ (n : ℕ). n < opening_due (opening want input)) old mid new unit stop u.took
+    (stops-as (λ r. rest ≡ refuses (record r { size = first_size v + r.size })) (λ r. opening want input ≡ refuses (record r { size = length unit + r.size }))
+    (λ (n : ℕ). first_size v + n < opening_due rest) (λ (n : ℕ). length unit + n < opening_due (opening want input)) mid new stop
+    (λ r says. same ∙ says ∙ ap (λ (n : ℕ). refuses (record r { size = n + r.size })) (sym long))
+    (λ n few. omega (arith, few, long, ap opening_due same))
+    (next t.left t.new_is))
 
 pub header-is : (v : Version) (kind : Kind) (tb : ℕ) (unit : List ℕ) (sends : List Sending) → kind ≡ kind_of (slice_index unit 4) → tb ≡ tb_in v unit
     → header_in v unit sends ≡ record { version = v; kind = kind; tb = tb; sends = sends }

@@ -1,16 +1,19 @@
 -- The transmissions of a header, one after the other.
-use Rattle.std.proofs.Common.{◌≡◌, ℕ, zero, suc, ◌+◌, ◌-◌, ◌*◌, ◌<◌, ◌≤◌, List, [], ◌∷◌, ◌++◌, length, take, drop, All, refl, ap, sym, ◌∙◌, add-one, arith}
+use Rattle.std.proofs.Common.{◌≡◌, ℕ, zero, suc, ◌+◌, ◌-◌, ◌*◌, ◌<◌, ◌≤◌, List, [], ◌∷◌, ◌++◌, length, take, drop, All, IfOk, Ok, Err, refl, ap, sym, subst, ◌∙◌, add-one, arith}
+use Rattle.std.specs.declared.result.Result.{Result}
 use Rattle.std.proofs.lemmas.List.{drop-drop}
 use Rattle.std.proofs.lemmas.Bool.{leb-true}
 use Rattle.rate_match.specs.Matching.{IsMatch}
 use Rattle.rate_match.specs.Sendings.{AreSendings, common}
 use Rattle.rate_match.specs.declared.sends.Sending.{Sending}
 use Rattle.coded_stream.specs.Header.{AreHeld}
-use Rattle.coded_stream.specs.Opening.{described_size, transmission_fields, transmissions_fields, transmission_in, transmissions_in, limit_in, match_in}
-use Rattle.coded_stream.specs.Fields.{IsFirst}
+use Rattle.coded_stream.specs.Opening.{Check, first_refusal, described_size, count_in, transmission_fields, transmissions_fields, transmission_in, transmissions_in, limit_in, match_in}
+use Rattle.coded_stream.specs.Fields.{IsFirst, Pass, AreRefused, TransmissionsAreRead}
+use Rattle.coded_stream.specs.Takes.{AreSentBy}
+use Rattle.coded_stream.specs.declared.stop.StreamStop.{StreamStop}
 use Rattle.coded_stream.specs.declared.version.Version.{Version}
 use Rattle.coded_stream.specs.declared.version.Version.TheVariants.{One, Two}
-use Rattle.coded_stream.proofs.Passed.{AllPass, pass_first, pass_rest}
+use Rattle.coded_stream.proofs.Passed.{AllPass, all_pass, pass_first, pass_rest, refused_after_pass, refused_front, refused_as}
 
 pub transmissions-long : (v : Version) (unit : List ℕ) (count : ℕ) (bytes : List ℕ) → length (transmissions_in v unit count bytes) ≡ count
 transmissions-long v unit zero bytes = refl
@@ -50,13 +53,43 @@ fields-step v count index place bytes less =
     ∙ ap (λ (xs : List ℕ). transmission_fields v at (take size rest) ++ transmissions_fields v (count - (index + 1)) (place + (index + 1) * size) xs)
     (drop-drop size (index * size) bytes ∙ ap (λ (k : ℕ). drop k bytes) (let e : index * size + size ≡ (index + 1) * size = omega arith in e))
 
-pub first-step : (v : Version) (count place : ℕ) (bytes : List ℕ) → 1 ≤ count
-    → transmissions_fields v count place bytes
-    ≡ transmission_fields v place (take (described_size v) bytes) ++ transmissions_fields v (count - 1) (place + 1 * described_size v) (drop (1 * described_size v) bytes)
-first-step v count place bytes some =
-    let size : ℕ = described_size v in
-    ap (λ (n : ℕ). transmissions_fields v n place bytes) (let e : count ≡ suc (count - 1) = omega (arith, some) in e)
-    ∙ ap (λ (n : ℕ). transmission_fields v place (take size bytes) ++ transmissions_fields v (count - 1) (place + n) (drop n bytes)) (let e : size ≡ 1 * size = omega arith in e)
+-- those before a transmission pass
+abbrev pub PassTo : Version → (count index place : ℕ) → List ℕ → Type 0
+PassTo v count index place bytes = (size : ℕ) → first_refusal size (transmissions_fields v count place bytes)
+    ≡ first_refusal size (transmissions_fields v (count - index) (place + index * described_size v) (drop (index * described_size v) bytes))
+
+-- the checks of a transmission
+abbrev pub fields_at : Version → (index place : ℕ) → List ℕ → List Check
+fields_at v index place bytes = transmission_fields v (place + index * described_size v) (take (described_size v) (drop (index * described_size v) bytes))
+
+pub pass-none : (v : Version) (count place : ℕ) (bytes : List ℕ) → PassTo v count 0 place bytes
+pass-none v count place bytes size =
+    (λ i. first_refusal size (transmissions_fields v (none i) (start i) (drop (front i) bytes)))
+  where
+    none : count ≡ count - 0
+    none = omega arith
+
+    start : place ≡ place + 0 * described_size v
+    start = omega arith
+
+    front : 0 ≡ 0 * described_size v
+    front = omega arith
+
+pub pass-more : (v : Version) (count index place : ℕ) (bytes : List ℕ) → index < count → PassTo v count index place bytes → Pass (fields_at v index place bytes) → PassTo v count (index + 1) place bytes
+pass-more v count index place bytes less before pass size =
+    before size ∙ ap (first_refusal size) (fields-step v count index place bytes less)
+    ∙ refused_after_pass size (fields_at v index place bytes) _ (all_pass size (fields_at v index place bytes) (pass size))
+
+-- where it's the first that doesn't pass
+pub refused-here : (v : Version) (count index place : ℕ) (bytes : List ℕ) (stop : StreamStop) → index < count → PassTo v count index place bytes → AreRefused (fields_at v index place bytes) stop
+    → AreRefused (transmissions_fields v count place bytes) stop
+refused-here v count index place bytes stop less before refused =
+    refused_as (transmissions_fields v count place bytes) (fields_at v index place bytes ++ rest) stop
+    (λ size. before size ∙ ap (first_refusal size) (fields-step v count index place bytes less))
+    (refused_front (fields_at v index place bytes) rest stop refused)
+  where
+    rest : List Check
+    rest = transmissions_fields v (count - (index + 1)) (place + (index + 1) * described_size v) (drop ((index + 1) * described_size v) bytes)
 
 -- ---- those whose fields pass are accepted
 
@@ -126,3 +159,11 @@ limits Two unit bytes = refl
 pub common-limit : (v : Version) (unit : List ℕ) (count : ℕ) (bytes : List ℕ) → 1 ≤ count → (common (transmissions_in v unit count bytes)).limit ≡ limit_in v unit
 common-limit v unit zero bytes some = absurd (omega (arith, some))
 common-limit v unit (suc count) bytes some = limits v unit (take (described_size v) bytes)
+
+-- what was read of them is accepted
+pub sent-by : (v : Version) (unit : List ℕ) (count place : ℕ) (bytes : List ℕ) (r : Result (List Sending) StreamStop) → IsFirst v unit → 1 ≤ count → count ≤ 8 → count ≡ count_in v unit
+    → TransmissionsAreRead v unit count place bytes r → IfOk r (AreSentBy v unit)
+sent-by v unit count place bytes (Ok sends) first some few is (pass, read) =
+    let a = transmissions-accepted v unit count place bytes first some few (all_pass 0 (transmissions_fields v count place bytes) (pass 0)) in
+    subst (AreSentBy v unit) (sym read) (record { sent = a.sent; held = a.held; limit = a.limit; count = transmissions-long v unit count bytes ∙ is })
+sent-by v unit count place bytes (Err stop) first some few is read = tt

@@ -1,10 +1,11 @@
 pub mod Sizes
 pub mod Turns
 pub mod Fronts
-pub mod WordSteps
+pub mod Stopping
 pub mod Sent
-pub mod Midway
+pub mod WordSteps
 pub mod BlockSteps
+pub mod Midway
 pub mod Remaining
 pub mod Passed
 pub mod HeaderTransmissionSteps

@@ -1,16 +1,22 @@
 -- The beginning of a stream, by its two units.
-use Rattle.std.proofs.Common.{◌≡◌, ℕ, ◌+◌, ◌*◌, ◌<◌, ◌≤◌, ◌==◌, Bool, true, false, cond, nat_lt, List, [], ◌∷◌, ◌++◌, length, take, drop, flat_map, Some, None, refl, ap, ◌∙◌, arith}
+use Rattle.std.proofs.Common.{◌≡◌, ℕ, ◌+◌, ◌*◌, ◌<◌, ◌≤◌, ◌==◌, Bool, true, false, cond, nat_lt, List, [], ◌∷◌, ◌++◌, length, take, drop, flat_map, Some, None, Ok, Err, refl, ap, sym, ◌∙◌, arith}
 use Rattle.std.specs.declared.option.Option.{Option}
+use Rattle.std.specs.declared.result.Result.{Result}
+use Rattle.edge_io.specs.Edge.{Takes}
 use Rattle.std.proofs.lemmas.Bool.{lt-ltb}
 use Rattle.std.proofs.lemmas.List.{length-append}
 use Rattle.rate_match.specs.declared.sends.Sending.{Sending}
 use Rattle.coded_stream.specs.Header.{Header, word_text, half_word_text, magic, first_text, transmission_text, header_text}
-use Rattle.coded_stream.specs.Steps.{opening_due}
-use Rattle.coded_stream.specs.Units.{Refusal, refused_at, truncated}
-use Rattle.coded_stream.specs.Opening.{Check, Opening, opens, refuses, unless, first_refusal, version_of, first_size, described_size, count_in, fields, transmissions_fields, transmissions_in, header_in, second_opening, first_opening}
+use Rattle.coded_stream.specs.Units.{Refusal, refused_at, truncated, EndsInUnit}
+use Rattle.coded_stream.specs.Opening.{Check, Opening, opens, refuses, unless, first_refusal, version_of, first_size, described_size, count_in, fields, transmissions_fields, transmissions_in, header_in, second_opening, first_opening, opening}
+use Rattle.coded_stream.specs.Fields.{TransmissionsAreRead}
+use Rattle.coded_stream.specs.Takes.{opening_due, StopsOpening, StopsInSecond, TakesSecond}
 use Rattle.coded_stream.specs.declared.version.Version.{Version}
 use Rattle.coded_stream.specs.declared.version.Version.TheVariants.{One, Two}
 use Rattle.coded_stream.specs.declared.kind.Want.{Want}
+use Rattle.coded_stream.specs.declared.stop.StreamStop.{StreamStop}
+use Rattle.coded_stream.specs.declared.stop.StreamStop.TheVariants.{Bad, Fault, NoMemory}
+use Rattle.coded_stream.proofs.Stopping.{unit-stops, stops-later}
 use Rattle.coded_stream.proofs.Fronts.{take_front, drop_front, whole_front, word_front}
 use Rattle.coded_stream.proofs.HeaderTransmissionSteps.{transmissions-long}
 
@@ -123,3 +129,65 @@ first-due v want left n less came =
         (unless (first_refusal (first_size v) (fields v want (take (first_size v) left))) (second_opening v (take (first_size v) left) (drop (first_size v) left))))
     by_test true more = omega (arith, came)
     by_test false more = more
+
+-- ---- what the units say where they are read
+
+-- a part of the first unit, after what was read of it, of which not all came
+pub first-stops : (want : Want) (place : ℕ) (before left unit input : List ℕ) (old mid new : Option (List ℕ)) (stop : StreamStop) → Takes old mid before → mid ≡ Some left → input ≡ before ++ left
+    → place ≡ length before → length before + length unit ≤ first_size (version_of input) → EndsInUnit place mid new unit stop → StopsOpening (opening want input) old new stop
+first-stops want place before left unit input old mid new stop took mid_is input_is at within ends =
+    let long : length input ≡ length before + length left = ap length input_is ∙ length-append before left in
+    stops-later (λ r. opening want input ≡ refuses r) (λ (n : ℕ). n < opening_due (opening want input)) old mid new before stop took
+    (unit-stops (λ r. opening want input ≡ refuses (record r { size = length before + r.size })) (λ (n : ℕ). length before + n < opening_due (opening want input)) place left unit mid new stop mid_is
+    (λ few. (
+      length input + 1,
+      first-short (version_of input) want input (omega (arith, few, long, within))
+          ∙ same_refuses 6 (0 + length input) (place + length left) (length input) (length before + length left) (length input + 1) (length input + 1) (omega (arith, at, long)) long refl,
+    ))
+    (λ n few came. first-due (version_of input) want input (length before + n) (omega (arith, few, within)) (omega (arith, came, long)))
+    ends)
+
+-- the second, of which not all came
+pub second-stops : (v : Version) (place : ℕ) (unit bytes input : List ℕ) (old new : Option (List ℕ)) (stop : StreamStop) → old ≡ Some input → place ≡ first_size v
+    → length bytes ≡ count_in v unit * described_size v → EndsInUnit place old new bytes stop → StopsInSecond v (second_opening v unit input) old new stop
+second-stops v place unit bytes input old new stop is at long ends =
+    unit-stops (λ r. second_opening v unit input ≡ refuses (record r { size = first_size v + r.size })) (λ (n : ℕ). first_size v + n < opening_due (second_opening v unit input)) place input bytes old new stop is
+    (λ few. (
+      first_size v + length input + 1,
+      second-short v unit input (omega (arith, few, long))
+          ∙ same_refuses 6 (0 + (first_size v + length input)) (place + length input) (first_size v + length input) (first_size v + length input) (first_size v + length input + 1)
+          (first_size v + length input + 1) (omega (arith, at)) refl refl,
+    ))
+    (λ n few came. second-due v unit input (first_size v + n) (omega (arith, few, long)) (omega (arith, came)))
+    ends
+
+-- the second, which came whole
+pub second-told : (v : Version) (place : ℕ) (unit bytes left input : List ℕ) (old new : Option (List ℕ)) (r : Result (List Sending) StreamStop) → old ≡ Some (bytes ++ left) → new ≡ Some left
+    → input ≡ bytes ++ left → place ≡ first_size v → length bytes ≡ count_in v unit * described_size v → TransmissionsAreRead v unit (count_in v unit) place bytes r → TakesSecond v unit input old new r
+second-told v place unit bytes left input old new r old_is new_is input_is at long read = by_result r read
+  where
+    size : ℕ
+    size = first_size v + count_in v unit * described_size v
+
+    sends : List Sending
+    sends = transmissions_in v unit (count_in v unit) bytes
+
+    -- it is as its fields are
+    by_fields : (o : Option Refusal) → first_refusal size (transmissions_fields v (count_in v unit) place bytes) ≡ o → second_opening v unit input ≡ unless o (opens (header_in v unit sends) left)
+    by_fields o is =
+        ap (second_opening v unit) input_is ∙ second-whole v unit bytes left long
+        ∙ ap (λ (p : ℕ). unless (first_refusal size (transmissions_fields v (count_in v unit) p bytes)) (opens (header_in v unit sends) left)) (sym at)
+        ∙ ap (λ r. unless r (opens (header_in v unit sends) left)) is
+
+    by_result : (r : Result (List Sending) StreamStop) → TransmissionsAreRead v unit (count_in v unit) place bytes r → TakesSecond v unit input old new r
+    by_result (Ok given) (pass, is) = (bytes, left, input_is, new_is, long, by_fields None (pass size) ∙ ap (λ (ss : List Sending). opens (header_in v unit ss) left) (sym is))
+    by_result (Err (Bad number p)) refused = (
+      bytes,
+      left,
+      size,
+      old_is,
+      new_is,
+      by_fields (Some (refused_at number p size)) (refused size) ∙ same_refuses number p p size (first_size v + length bytes) size size refl (omega (arith, long)) refl,
+    )
+    by_result (Err Fault) none = absurd none
+    by_result (Err NoMemory) none = absurd none

@@ -6,7 +6,9 @@ use Rattle.coded_stream.specs.Limit.{is_limit}
 use Rattle.coded_stream.specs.Header.{word, magic, kind_code, kind_of}
 use Rattle.coded_stream.specs.Units.{Refusal, refused_at}
 use Rattle.coded_stream.specs.Opening.{Check, first_refusal, first_size, is_wanted, count_in, tb_in, limit_in, fields}
-use Rattle.coded_stream.specs.Fields.{IsFirst}
+use Rattle.coded_stream.specs.Fields.{IsFirst, AreRefused}
+use Rattle.coded_stream.specs.declared.stop.StreamStop.{StreamStop}
+use Rattle.coded_stream.specs.declared.stop.StreamStop.TheVariants.{Bad, Fault, NoMemory}
 use Rattle.coded_stream.specs.declared.version.Version.{Version}
 use Rattle.coded_stream.specs.declared.version.Version.TheVariants.{One, Two}
 use Rattle.coded_stream.specs.declared.kind.Kind.{Kind}
@@ -60,6 +62,18 @@ refused_first size (x ∷ xs) ys r e = by_test x.passes (refused_first size xs y
         → cond t (first_refusal size (xs ++ ys)) (Some (refused_at x.number x.place size)) ≡ Some r
     by_test true rest e = rest e
     by_test false rest e = e
+
+-- the first of them that is refused is so too where others follow
+pub refused_front : (xs ys : List Check) (stop : StreamStop) → AreRefused xs stop → AreRefused (xs ++ ys) stop
+refused_front xs ys (Bad number place) refused = λ size. refused_first size xs ys (refused_at number place size) (refused size)
+refused_front xs ys Fault none = absurd none
+refused_front xs ys NoMemory none = absurd none
+
+-- where checks are refused as others are
+pub refused_as : (xs ys : List Check) (stop : StreamStop) → ((size : ℕ) → first_refusal size xs ≡ first_refusal size ys) → AreRefused ys stop → AreRefused xs stop
+refused_as xs ys (Bad number place) same refused = λ size. same size ∙ refused size
+refused_as xs ys Fault same none = absurd none
+refused_as xs ys NoMemory same none = absurd none
 
 -- ---- the kind
 

@@ -9,6 +9,6 @@ pub mod Body
 pub mod Stream
 pub mod Steps
 pub mod Fields
-pub mod Takes
 pub mod Words
+pub mod Takes
 pub mod Reached

@@ -2,15 +2,16 @@
 use Rattle.std.specs.Prelude.{◌≡◌, ℕ, ◌+◌, ◌-◌, ◌<◌, Bool, true, false, List, [], ◌∷◌, ◌++◌, length, Some, None, Ok, Err}
 use Rattle.std.specs.declared.option.Option.{Option}
 use Rattle.std.specs.declared.result.Result.{Result}
-use Rattle.edge_io.specs.Edge.{Takes}
 use Rattle.coded_stream.specs.Header.{Header, kind_code, header_text, IsHeader}
 use Rattle.coded_stream.specs.Blocks.{Block, IsBlock}
-use Rattle.coded_stream.specs.Opening.{Opening, opens, refuses, is_wanted}
+use Rattle.coded_stream.specs.Opening.{Opening, opens, is_wanted}
 use Rattle.coded_stream.specs.Body.{Ending, whole, bad, Body, body, no_more, onto, next_start}
 use Rattle.coded_stream.specs.Stream.{most_blocks}
+use Rattle.coded_stream.specs.Units.{Stops}
+use Rattle.coded_stream.specs.Takes.{StopsOpening}
 use Rattle.coded_stream.specs.declared.kind.Want.{Want}
 use Rattle.coded_stream.specs.declared.stop.StreamStop.{StreamStop}
-use Rattle.coded_stream.specs.declared.stop.StreamStop.TheVariants.{Bad, Fault, NoMemory}
+use Rattle.coded_stream.specs.declared.stop.StreamStop.TheVariants.{NoMemory}
 
 -- the header that was read, the place of the stream that was reached, the blocks that came, and whether it
 -- goes on
@@ -34,21 +35,13 @@ due_of [] (bad refusal) = refusal.due
 abbrev pub body_due : Body → ℕ
 body_due b = due_of b.blocks b.ending
 
-abbrev pub opening_due : Opening → ℕ
-opening_due (opens h left) = length (header_text h)
-opening_due (refuses refusal) = refusal.due
-
 -- ---- where the source tells its bytes
 
 -- the beginning of a stream was read
 abbrev pub Begins : Opening → Option (List ℕ) → Option (List ℕ) → Result Reading StreamStop → Type 0
 Begins all old new (Ok r) = (bytes left : List ℕ) × (old ≡ Some (bytes ++ left)) × (new ≡ Some left)
     × (length bytes ≡ r.place) × (all ≡ opens r.header left)
-Begins all old new (Err (Bad number place)) = (bytes left : List ℕ) × (due : ℕ)
-    × (old ≡ Some (bytes ++ left)) × (new ≡ Some left)
-    × (all ≡ refuses (record { number = number; place = place; size = length bytes; due = due }))
-Begins all old new (Err Fault) = (bytes : List ℕ) × Takes old new bytes × (length bytes < opening_due all)
-Begins all old new (Err NoMemory) = ⊥
+Begins all old new (Err stop) = StopsOpening all old new stop
 
 -- of what a body was still to say: a block was read, its transmissions are in `into`, and `after` is still to
 -- come
@@ -59,12 +52,8 @@ GoesOn all after into old new (Ok (Some n)) = (bytes left : List ℕ) × (old �
     × (all ≡ onto (record { payload = n; bytes = into }) (after left))
 GoesOn all after into old new (Ok None) = (bytes : List ℕ) × (old ≡ Some bytes) × (new ≡ Some [])
     × (length bytes ≡ 4) × (all ≡ no_more whole)
-GoesOn all after into old new (Err (Bad number place)) = (bytes left : List ℕ) × (due : ℕ)
-    × (old ≡ Some (bytes ++ left)) × (new ≡ Some left)
-    × (all ≡ no_more (bad (record { number = number; place = place; size = length bytes; due = due })))
-GoesOn all after into old new (Err Fault) = (bytes : List ℕ) × Takes old new bytes
-    × (length bytes < body_due all)
 GoesOn all after into old new (Err NoMemory) = new ≡ old
+GoesOn all after into old new (Err stop) = Stops (λ r. all ≡ no_more (bad r)) (λ n. n < body_due all) old new stop
 
 -- ---- whether it tells them or not
 
@@ -81,7 +70,5 @@ abbrev pub Advances : Reading → Reading → List ℕ → Result (Option ℕ) S
 Advances old new into (Ok (Some n)) = let b : Block = record { payload = n; bytes = into } in
     (old.blocks < most_blocks) × IsBlock old.header b
     × (new ≡ record old { place = next_start old.place b; blocks = old.blocks + 1 })
-Advances old new into (Ok None) = new ≡ record old { live = false }
-Advances old new into (Err (Bad number place)) = new ≡ record old { live = false }
-Advances old new into (Err Fault) = new ≡ record old { live = false }
 Advances old new into (Err NoMemory) = new ≡ old
+Advances old new into _ = new ≡ record old { live = false }

@@ -2,33 +2,25 @@
 ghost use Rattle.std.specs.Prelude.{◌≡◌, ◌≤◌, length};
 ghost use Rattle.segmentation.specs.declared.planning.TheConstants.{MOST_BYTES};
 ghost use Rattle.rate_match.specs.Matching.{limit_of};
-ghost use Rattle.rate_match.specs.Fitting.{fits_all};
 ghost use Rattle.coded_stream.specs.Header.{limit_of_code};
 ghost use Rattle.coded_stream.specs.Opening.{first_size, fields, further_fields, size_fields};
 ghost use Rattle.coded_stream.specs.Fields.{AreRead, BufferIsRead, has_good_g};
 
 use crate::cause;
 use crate::kind::Want;
+use crate::stop::StreamStop;
 use crate::unit::{half_word, word};
 use crate::version::Version;
-use rate_match::{BadMatch, Buffer, Match, fits_buffer};
-use segmentation::{MOST_BYTES, plan};
+use rate_match::{BadMatch, Buffer, Match, fits_lengths};
+use segmentation::MOST_BYTES;
 
-/// What the first unit of a header says.
+/// What the first unit of a header says: the soft buffer, the bytes of the greatest payload, and the number of
+/// transmissions of each block.
 #[derive(Clone, Copy)]
-pub enum Fields {
-    /// The soft buffer, the bytes of the greatest payload, and the number of transmissions of each
-    /// block.
-    Good {
-        buffer: Buffer,
-        tb: usize,
-        count: usize,
-    },
-    /// A field isn't accepted.
-    Bad {
-        number: u8,
-        place: u64,
-    },
+pub struct Fields {
+    pub buffer: Buffer,
+    pub tb: usize,
+    pub count: usize,
 }
 
 /// Returns the buffer that a header's number for it means.
@@ -42,115 +34,81 @@ fn buffer_of(limit: u32) -> Buffer
     }
 }
 
-/// Returns whether a buffer fits the plan of every length from 1 to `tb`.
-fn fits_lengths(buffer: Buffer, tb: usize) -> bool
+/// Returns the buffer of a header's number for it at a place of the stream, where that is accepted with
+/// payloads of up to `tb` bytes.
+fn read_buffer(limit: u32, tb: usize, place: u64) -> Result<Buffer, StreamStop>
     requires some { 1 ≤ tb }
     requires few { tb ≤ MOST_BYTES }
-    ensures { result ≡ fits_all (limit_of buffer) tb }
-{
-    match plan(tb) {
-        Ok(plan) => fits_buffer(buffer, &plan),
-        Err(_) => unreachable!(),
-    }
-}
-
-/// Returns the buffer of a header's number for it, where that is accepted with payloads of up to `tb` bytes.
-fn read_buffer(limit: u32, tb: usize) -> Option<Buffer>
-    requires some { 1 ≤ tb }
-    requires few { tb ≤ MOST_BYTES }
-    ensures { BufferIsRead limit tb result }
+    ensures { BufferIsRead limit tb place result }
 {
     let buffer = buffer_of(limit);
     if limit > 1_000_000 || !fits_lengths(buffer, tb) {
-        None
-    } else {
-        Some(buffer)
+        return Err(StreamStop::bad_field(place));
     }
-}
-
-/// Returns a field that isn't accepted, but for the magic and the kind.
-fn bad_field(place: u64) -> Fields
-    ensures { result ≡ Fields.Bad 3 place }
-{
-    Fields::Bad {
-        number: cause::BAD_FIELD,
-        place,
-    }
+    Ok(buffer)
 }
 
 /// Returns the fields of version One from the number of transmissions on. `good` tells whether G is accepted.
-fn read_first_sizes(unit: &[u8], good: bool) -> Fields
+fn read_first_sizes(unit: &[u8], good: bool) -> Result<Fields, StreamStop>
     requires whole { length unit.now ≡ 18 }
     requires good { good ≡ has_good_g unit.now }
     ensures { AreRead Version.One (size_fields Version.One unit.now) unit.now result }
 {
     let count = unit[7] as usize;
     if count < 1 || count > 8 {
-        return bad_field(7);
+        return Err(StreamStop::bad_field(7));
     }
     let tb = half_word(unit, 8) as usize;
     if tb < 1 || tb > MOST_BYTES {
-        return bad_field(8);
+        return Err(StreamStop::bad_field(8));
     }
     if !good {
-        return bad_field(10);
+        return Err(StreamStop::bad_field(10));
     }
-    match read_buffer(word(unit, 14), tb) {
-        Some(buffer) => Fields::Good { buffer, tb, count },
-        None => bad_field(14),
-    }
+    let buffer = read_buffer(word(unit, 14), tb, 14)?;
+    Ok(Fields { buffer, tb, count })
 }
 
 /// Returns the fields of version One after the kind, checked in order of place.
-fn read_one(unit: &[u8]) -> Fields
+fn read_one(unit: &[u8]) -> Result<Fields, StreamStop>
     requires { length unit.now ≡ 18 }
     ensures { AreRead Version.One (further_fields Version.One unit.now) unit.now result }
 {
     match Match::new(unit[5], unit[6], word(unit, 10), Buffer::Full) {
         Ok(_) => read_first_sizes(unit, true),
-        Err(cause) => match cause {
-            BadMatch::BadQm => bad_field(5),
-            BadMatch::BadNl => bad_field(6),
-            BadMatch::BadG => read_first_sizes(unit, false),
-        },
+        Err(BadMatch::BadQm) => Err(StreamStop::bad_field(5)),
+        Err(BadMatch::BadNl) => Err(StreamStop::bad_field(6)),
+        Err(BadMatch::BadG) => read_first_sizes(unit, false),
     }
 }
 
 /// Returns the same of version Two.
-fn read_two(unit: &[u8]) -> Fields
+fn read_two(unit: &[u8]) -> Result<Fields, StreamStop>
     requires { length unit.now ≡ 12 }
     ensures { AreRead Version.Two (further_fields Version.Two unit.now) unit.now result }
 {
     let count = unit[5] as usize;
     if count < 1 || count > 8 {
-        return bad_field(5);
+        return Err(StreamStop::bad_field(5));
     }
     let tb = half_word(unit, 6) as usize;
     if tb < 1 || tb > MOST_BYTES {
-        return bad_field(6);
+        return Err(StreamStop::bad_field(6));
     }
-    match read_buffer(word(unit, 8), tb) {
-        Some(buffer) => Fields::Good { buffer, tb, count },
-        None => bad_field(8),
-    }
+    let buffer = read_buffer(word(unit, 8), tb, 8)?;
+    Ok(Fields { buffer, tb, count })
 }
 
 /// Returns the fields of the first unit, checked in order of place.
-pub fn read_fields(version: Version, unit: &[u8], want: Want) -> Fields
+pub fn read_fields(version: Version, unit: &[u8], want: Want) -> Result<Fields, StreamStop>
     requires { length unit.now ≡ first_size version }
     ensures { AreRead version (fields version want unit.now) unit.now result }
 {
     if word(unit, 0) != version.magic() {
-        return Fields::Bad {
-            number: cause::BAD_MAGIC,
-            place: 0,
-        };
+        return Err(StreamStop::bad(cause::BAD_MAGIC, 0));
     }
     if !want.takes(unit[4]) {
-        return Fields::Bad {
-            number: cause::BAD_KIND,
-            place: 4,
-        };
+        return Err(StreamStop::bad(cause::BAD_KIND, 4));
     }
     match version {
         Version::One => read_one(unit),

@@ -5,12 +5,11 @@ ghost use Rattle.coded_stream.specs.Opening.{opening};
 ghost use Rattle.coded_stream.specs.Shown.{header_of};
 ghost use Rattle.coded_stream.specs.Steps.{Begins, IsBegun, GoesOn, Advances, remaining};
 
-use crate::block::{Next, read_block};
-use crate::cause;
+use crate::block::read_block;
 use crate::fields::{Fields, read_fields};
 use crate::header::Header;
 use crate::kind::{Kind, Want};
-use crate::opening::{First, Second, read_first, read_second};
+use crate::opening::{read_first, read_second};
 use crate::stop::StreamStop;
 use crate::transmissions::block_size;
 use edge_io::Source;
@@ -59,37 +58,21 @@ impl StreamReader {
         ensures fault { result ≡ Err StreamStop.Fault → Rose (S.faults source.old) (S.faults source.new) }
     {
         let mut room = [0u8; 18];
-        let version = match read_first(source, &mut room) {
-            First::Whole { version } => version,
-            First::Short { got } => {
-                return Err(StreamStop::Bad {
-                    number: cause::TRUNCATED,
-                    place: got as u64,
-                });
-            }
-            First::Fault => return Err(StreamStop::Fault),
-        };
+        let version = read_first(source, &mut room)?;
         let unit = &room[..version.first_size()];
-        match read_fields(version, unit, want) {
-            Fields::Bad { number, place } => Err(StreamStop::Bad { number, place }),
-            Fields::Good { buffer, tb, count } => {
-                match read_second(source, version, unit, buffer, count) {
-                    Second::Bad { number, place } => Err(StreamStop::Bad { number, place }),
-                    Second::Fault => Err(StreamStop::Fault),
-                    Second::Good { sends } => Ok(StreamReader {
-                        header: Header {
-                            version,
-                            kind: Kind::of(unit[4]),
-                            tb,
-                            sends,
-                        },
-                        place: (version.first_size() + version.second_size(count)) as u64,
-                        blocks: 0,
-                        live: true,
-                    }),
-                }
-            }
-        }
+        let Fields { buffer, tb, count } = read_fields(version, unit, want)?;
+        let sends = read_second(source, version, unit, buffer, count)?;
+        Ok(StreamReader {
+            header: Header {
+                version,
+                kind: Kind::of(unit[4]),
+                tb,
+                sends,
+            },
+            place: (version.first_size() + version.second_size(count)) as u64,
+            blocks: 0,
+            live: true,
+        })
     }
 
     /// Returns the header that was read.
@@ -152,22 +135,18 @@ impl StreamReader {
         }
         let more = MOST_BLOCKS - self.blocks;
         match read_block(source, &self.header, more, self.place, into.as_mut_slice()) {
-            Next::Block { payload } => {
+            Ok(Some(payload)) => {
                 self.place += 4 + total as u64;
                 self.blocks += 1;
                 Ok(Some(payload))
             }
-            Next::End => {
+            Ok(None) => {
                 self.live = false;
                 Ok(None)
             }
-            Next::Bad { number, place } => {
+            Err(stop) => {
                 self.live = false;
-                Err(StreamStop::Bad { number, place })
-            }
-            Next::Fault => {
-                self.live = false;
-                Err(StreamStop::Fault)
+                Err(stop)
             }
         }
     }

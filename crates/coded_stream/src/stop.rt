@@ -1,4 +1,7 @@
 //! Why a stream isn't read on.
+ghost use Rattle.std.specs.Prelude.{◌≡◌};
+
+use crate::cause;
 use std::error::Error;
 use std::fmt;
 
@@ -11,6 +14,22 @@ pub enum StreamStop {
     Fault,
     /// Memory ran out, and nothing was read.
     NoMemory,
+}
+
+impl StreamStop {
+    /// Returns the refusal of a field at its first byte, but for the magic and the kind.
+    pub(crate) fn bad_field(place: u64) -> StreamStop
+        ensures { result ≡ StreamStop.Bad 3 place }
+    {
+        StreamStop::bad(cause::BAD_FIELD, place)
+    }
+
+    /// Returns the refusal of a stream at a byte, with a number of the module `cause`.
+    pub(crate) fn bad(number: u8, place: u64) -> StreamStop
+        ensures { result ≡ StreamStop.Bad number place }
+    {
+        StreamStop::Bad { number, place }
+    }
 }
 
 impl fmt::Display for StreamStop {

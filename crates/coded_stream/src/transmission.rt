@@ -1,25 +1,15 @@
 //! Reading one transmission of a block.
-ghost use Rattle.std.specs.Prelude.{◌≡◌, ◌≤◌, length};
-ghost use Rattle.edge_io.specs.Edge.{Rose, TakesBytes};
+ghost use Rattle.std.specs.Prelude.{◌≡◌, ◌≤◌, ◌<◌, ◌+◌, ◌^◌, length, IfErr};
+ghost use Rattle.edge_io.specs.Edge.{TakesBytes};
 ghost use Rattle.coded_stream.specs.Blocks.{transmission_size, has_bad_bit, spare_bits};
 ghost use Rattle.coded_stream.specs.Takes.{TakesTransmission};
+ghost use Rattle.coded_stream.specs.Units.{IsCause};
 
+use crate::cause;
 use crate::kind::Kind;
-use crate::unit::{Unit, read_unit};
+use crate::stop::StreamStop;
+use crate::unit::read_unit;
 use edge_io::Source;
-
-/// How reading a transmission ended.
-#[derive(Clone, Copy)]
-pub enum Transmission {
-    /// It was read whole, and is accepted.
-    Whole,
-    /// An unused low bit of its last byte is 1.
-    BadBit,
-    /// The input ended after `got` bytes of it.
-    Short { got: usize },
-    /// The source failed.
-    Fault,
-}
 
 /// Returns the bytes of a transmission of `g` bits.
 pub fn transmission_size(kind: Kind, g: usize) -> usize
@@ -51,30 +41,26 @@ fn has_bad_bit(kind: Kind, g: usize, bytes: &[u8]) -> bool
     }
 }
 
-/// Reads a transmission of `g` bits.
+/// Reads a transmission of `g` bits that begins at a place of the stream.
 pub fn read_transmission<S: Source>(
     source: &mut S,
     kind: Kind,
     g: usize,
     bytes: &mut [u8],
-) -> Transmission
+    place: u64,
+) -> Result<(), StreamStop>
     requires some { 1 ≤ g }
     requires few { g ≤ 1000000 }
     requires size { length bytes.old ≡ transmission_size kind g }
-    ensures bytes { TakesTransmission kind g (S.left source.old) (S.left source.new) bytes.new result }
+    requires place { place + length bytes.old < 2 ^ 64 }
+    ensures bytes { TakesTransmission kind g place (S.left source.old) (S.left source.new) bytes.new result }
     ensures moved { TakesBytes (S.left source.old) (S.left source.new) }
     ensures later { S.faults source.old ≤ S.faults source.new }
-    ensures fault { result ≡ Transmission.Fault → Rose (S.faults source.old) (S.faults source.new) }
+    ensures cause { IfErr result (IsCause (S.faults source.old) (S.faults source.new)) }
 {
-    match read_unit(source, bytes) {
-        Unit::Whole => {
-            if has_bad_bit(kind, g, bytes) {
-                Transmission::BadBit
-            } else {
-                Transmission::Whole
-            }
-        }
-        Unit::Short { got } => Transmission::Short { got },
-        Unit::Fault => Transmission::Fault,
+    read_unit(source, bytes, place)?;
+    if has_bad_bit(kind, g, bytes) {
+        return Err(StreamStop::bad(cause::BAD_BIT, place + (bytes.len() as u64 - 1)));
     }
+    Ok(())
 }

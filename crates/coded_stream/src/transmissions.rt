@@ -1,15 +1,15 @@
 //! Reading the transmissions of a block.
-ghost use Rattle.std.specs.Prelude.{◌≡◌, ◌≤◌, ◌<◌, ◌*◌, ◌^◌, ℕ, List, Some, length, slice_get};
-ghost use Rattle.edge_io.specs.Edge.{Rose, TakesBytes};
+ghost use Rattle.std.specs.Prelude.{◌≡◌, ◌≤◌, ◌<◌, ◌^◌, ℕ, List, Some, length, slice_get, OnOk, IfErr};
+ghost use Rattle.edge_io.specs.Edge.{TakesBytes};
 ghost use Rattle.coded_stream.specs.Blocks.{lengths, block_size, AreTransmissions};
 ghost use Rattle.coded_stream.specs.Body.{block_step};
 ghost use Rattle.coded_stream.specs.Shown.{header_of};
-ghost use Rattle.coded_stream.specs.Takes.{TakesStep, AreTaken};
+ghost use Rattle.coded_stream.specs.Takes.{TakesTransmissions};
+ghost use Rattle.coded_stream.specs.Units.{IsCause};
 
-use crate::block::Next;
-use crate::cause;
 use crate::header::Header;
-use crate::transmission::{Transmission, read_transmission, transmission_size};
+use crate::stop::StreamStop;
+use crate::transmission::{read_transmission, transmission_size};
 use edge_io::Source;
 
 /// Returns G of a transmission.
@@ -35,47 +35,31 @@ pub fn block_size(header: &Header) -> usize
     total
 }
 
-/// Reads the transmissions of a block of `payload` bytes that begins at a place of the stream,
-/// one after the other.
+/// Reads the transmissions of a block that begins at a place of the stream, one after the other.
 pub fn read_transmissions<S: Source>(
     source: &mut S,
     header: &Header,
-    payload: usize,
     start: u64,
     into: &mut [u8],
-) -> Next
+) -> Result<(), StreamStop>
     requires place { start < 2 ^ 60 }
     requires size { length into.old ≡ block_size header.now.kind (lengths (header_of header.now)) }
-    ensures told { (input : List ℕ) → S.left source.old ≡ Some input →
-        TakesStep (block_step (header_of header.now) start payload input) 4 into.new
+    ensures told { (payload : ℕ) (input : List ℕ) → S.left source.old ≡ Some input →
+        TakesTransmissions (block_step (header_of header.now) start payload input) payload into.new
         (S.left source.old) (S.left source.new) result }
-    ensures taken { AreTaken header.now.kind (lengths (header_of header.now)) payload into.new result }
+    ensures sent { OnOk result
+        (AreTransmissions header.now.kind (lengths (header_of header.now)) into.new) }
     ensures moved { TakesBytes (S.left source.old) (S.left source.new) }
     ensures later { S.faults source.old ≤ S.faults source.new }
-    ensures fault { result ≡ Next.Fault → Rose (S.faults source.old) (S.faults source.new) }
+    ensures cause { IfErr result (IsCause (S.faults source.old) (S.faults source.new)) }
 {
     let mut read = 0usize;
     for turn in 0..header.sends.len() {
         let g = length_at(header, turn);
         let size = transmission_size(header.kind, g);
         let place = start + 4 + read as u64;
-        match read_transmission(source, header.kind, g, &mut into[read..read + size]) {
-            Transmission::Whole => {}
-            Transmission::BadBit => {
-                return Next::Bad {
-                    number: cause::BAD_BIT,
-                    place: place + (size as u64 - 1),
-                };
-            }
-            Transmission::Short { got } => {
-                return Next::Bad {
-                    number: cause::TRUNCATED,
-                    place: place + got as u64,
-                };
-            }
-            Transmission::Fault => return Next::Fault,
-        }
+        read_transmission(source, header.kind, g, &mut into[read..read + size], place)?;
         read += size;
     }
-    Next::Block { payload }
+    Ok(())
 }

@@ -1,35 +1,25 @@
 //! Reading a unit of a stream: the bytes that are read whole before any of them is looked at.
-ghost use Rattle.std.specs.Prelude.{◌≡◌, ◌≤◌, ◌+◌, length, slice_index};
-ghost use Rattle.edge_io.specs.Edge.{Rose, TakesBytes};
-ghost use Rattle.coded_stream.specs.Units.{TakesUnit};
+ghost use Rattle.std.specs.Prelude.{◌≡◌, ◌≤◌, ◌<◌, ◌+◌, ◌^◌, length, slice_index, IfErr};
+ghost use Rattle.edge_io.specs.Edge.{TakesBytes};
+ghost use Rattle.coded_stream.specs.Units.{TakesUnit, IsCause};
 ghost use Rattle.coded_stream.specs.Header.{word, half_word};
 
+use crate::cause;
+use crate::stop::StreamStop;
 use edge_io::{ReadStop, Source, read_exactly};
 
-/// How reading a unit ended.
-#[derive(Clone, Copy)]
-pub enum Unit {
-    /// It was read whole.
-    Whole,
-    /// The input ended after `got` bytes of it.
-    Short { got: usize },
-    /// The source failed.
-    Fault,
-}
-
-/// Reads a unit.
-pub fn read_unit<S: Source>(source: &mut S, unit: &mut [u8]) -> Unit
-    ensures bytes { TakesUnit (S.left source.old) (S.left source.new) unit.new result }
+/// Reads a unit that begins at a place of the stream. An input that ends in it is refused at its end.
+pub fn read_unit<S: Source>(source: &mut S, unit: &mut [u8], place: u64) -> Result<(), StreamStop>
+    requires { place + length unit.old < 2 ^ 64 }
+    ensures bytes { TakesUnit place (S.left source.old) (S.left source.new) unit.new result }
     ensures moved { TakesBytes (S.left source.old) (S.left source.new) }
     ensures later { S.faults source.old ≤ S.faults source.new }
-    ensures fault { result ≡ Unit.Fault → Rose (S.faults source.old) (S.faults source.new) }
+    ensures cause { IfErr result (IsCause (S.faults source.old) (S.faults source.new)) }
 {
     match read_exactly(source, unit) {
-        Ok(()) => Unit::Whole,
-        Err(stop) => match stop {
-            ReadStop::Ended { got } => Unit::Short { got },
-            ReadStop::Fault => Unit::Fault,
-        },
+        Ok(()) => Ok(()),
+        Err(ReadStop::Ended { got }) => Err(StreamStop::bad(cause::TRUNCATED, place + got as u64)),
+        Err(ReadStop::Fault) => Err(StreamStop::Fault),
     }
 }
 

@@ -1,87 +1,74 @@
 //! Reading a length word, and what comes after the end word.
-ghost use Rattle.std.specs.Prelude.{◌≡◌, ◌≤◌, ◌<◌, ◌^◌, ℕ, List, Some};
-ghost use Rattle.edge_io.specs.Edge.{Rose, TakesBytes};
-ghost use Rattle.coded_stream.specs.Body.{step, block_step, end_step};
+ghost use Rattle.std.specs.Prelude.{◌≡◌, ◌≤◌, ◌<◌, ◌^◌, ℕ, List, Some, IfOk, IfErr};
+ghost use Rattle.edge_io.specs.Edge.{TakesBytes};
+ghost use Rattle.coded_stream.specs.Body.{end_step};
 ghost use Rattle.coded_stream.specs.Shown.{header_of};
-ghost use Rattle.coded_stream.specs.Takes.{TakesWord, TakesStep, IsNoBlock};
-ghost use Rattle.coded_stream.specs.Words.{IsPayload};
+ghost use Rattle.coded_stream.specs.Takes.{TakesWord, TakesEnd};
+ghost use Rattle.coded_stream.specs.Units.{IsCause};
+ghost use Rattle.coded_stream.specs.Words.{IsPayload, WordSays};
 
-use crate::block::Next;
 use crate::cause;
 use crate::header::Header;
-use crate::unit::{Unit, read_unit, word};
-use edge_io::Source;
+use crate::stop::StreamStop;
+use crate::unit::{read_unit, word};
+use edge_io::{ReadStop, Source, read_exactly};
 
-/// How reading a length word ended.
-#[derive(Clone, Copy)]
-pub enum Word {
-    /// A block of so many payload bytes begins.
-    Payload { bytes: usize },
-    /// It is the end word.
-    End,
-    /// The stream is refused at a byte.
-    Bad { number: u8, place: u64 },
-    /// The source failed.
-    Fault,
+/// Returns the bytes of the payload whose length word this is, or none for the end word, at a place of
+/// the stream where `more` blocks may come.
+fn payload_of(
+    header: &Header,
+    more: usize,
+    start: u64,
+    bytes: usize,
+) -> Result<Option<usize>, StreamStop>
+    ensures says { WordSays (header_of header.now) more start bytes result }
+    ensures payload { IfOk result (IsPayload header.now.tb more) }
+{
+    if bytes == 0 {
+        Ok(None)
+    } else if more == 0 {
+        Err(StreamStop::bad(cause::TOO_MANY_BLOCKS, start))
+    } else if bytes > header.tb {
+        Err(StreamStop::bad(cause::BAD_BLOCK_LENGTH, start))
+    } else {
+        Ok(Some(bytes))
+    }
 }
 
-/// Reads a length word at a place of the stream, where `more` blocks may come.
-pub fn read_word<S: Source>(source: &mut S, header: &Header, more: usize, start: u64) -> Word
+/// Reads a length word at a place of the stream, where `more` blocks may come: the bytes of the payload
+/// of the block that begins, or none for the end word.
+pub fn read_word<S: Source>(
+    source: &mut S,
+    header: &Header,
+    more: usize,
+    start: u64,
+) -> Result<Option<usize>, StreamStop>
     requires { start < 2 ^ 60 }
     ensures told { (input : List ℕ) → S.left source.old ≡ Some input →
-        TakesWord (step (header_of header.now) more start input) (block_step (header_of header.now) start)
-        start (S.left source.old) (S.left source.new) result }
-    ensures payload { IsPayload header.now.tb more result }
+        TakesWord (header_of header.now) more start input (S.left source.old) (S.left source.new) result }
+    ensures payload { IfOk result (IsPayload header.now.tb more) }
     ensures moved { TakesBytes (S.left source.old) (S.left source.new) }
     ensures later { S.faults source.old ≤ S.faults source.new }
-    ensures fault { result ≡ Word.Fault → Rose (S.faults source.old) (S.faults source.new) }
+    ensures cause { IfErr result (IsCause (S.faults source.old) (S.faults source.new)) }
 {
     let mut unit = [0u8; 4];
-    match read_unit(source, &mut unit) {
-        Unit::Whole => {}
-        Unit::Short { got } => {
-            return Word::Bad {
-                number: cause::TRUNCATED,
-                place: start + got as u64,
-            };
-        }
-        Unit::Fault => return Word::Fault,
-    }
-    let bytes = word(&unit, 0) as usize;
-    if bytes == 0 {
-        Word::End
-    } else if more == 0 {
-        Word::Bad {
-            number: cause::TOO_MANY_BLOCKS,
-            place: start,
-        }
-    } else if bytes > header.tb {
-        Word::Bad {
-            number: cause::BAD_BLOCK_LENGTH,
-            place: start,
-        }
-    } else {
-        Word::Payload { bytes }
-    }
+    read_unit(source, &mut unit, start)?;
+    payload_of(header, more, start, word(&unit, 0) as usize)
 }
 
 /// Reads on after an end word at a place of the stream: only the end may follow.
-pub fn read_end<S: Source>(source: &mut S, start: u64) -> Next
+pub fn read_end<S: Source>(source: &mut S, start: u64) -> Result<(), StreamStop>
     requires { start < 2 ^ 60 }
-    ensures told { (input into : List ℕ) → S.left source.old ≡ Some input →
-        TakesStep (end_step start input) 4 into (S.left source.old) (S.left source.new) result }
-    ensures none { IsNoBlock result }
+    ensures told { (input : List ℕ) → S.left source.old ≡ Some input →
+        TakesEnd (end_step start input) (S.left source.old) (S.left source.new) result }
     ensures moved { TakesBytes (S.left source.old) (S.left source.new) }
     ensures later { S.faults source.old ≤ S.faults source.new }
-    ensures fault { result ≡ Next.Fault → Rose (S.faults source.old) (S.faults source.new) }
+    ensures cause { IfErr result (IsCause (S.faults source.old) (S.faults source.new)) }
 {
     let mut unit = [0u8; 1];
-    match read_unit(source, &mut unit) {
-        Unit::Whole => Next::Bad {
-            number: cause::TRAILING,
-            place: start + 4,
-        },
-        Unit::Short { .. } => Next::End,
-        Unit::Fault => Next::Fault,
+    match read_exactly(source, &mut unit) {
+        Ok(()) => Err(StreamStop::bad(cause::TRAILING, start + 4)),
+        Err(ReadStop::Ended { .. }) => Ok(()),
+        Err(ReadStop::Fault) => Err(StreamStop::Fault),
     }
 }

@@ -2,7 +2,7 @@
 use Rattle.std.specs.declared.option.Option.{Option}
 use Rattle.std.proofs.Common.{ℕ, ◌*◌, List, [], Ok, Err, refl, ap}
 use Rattle.edge_io.specs.Edge.{Adds}
-use Rattle.model_receiver.specs.TransportBlocks.{Effort}
+use Rattle.model_receiver.specs.Limits.{DecoderLimits}
 use Rattle.coded_stream.specs.Opening.{opening}
 use Rattle.coded_stream.specs.Steps.{Begins, IsBegun, Reading}
 use Rattle.coded_stream.specs.declared.kind.Want.TheVariants as want
@@ -34,7 +34,7 @@ reached_ahead k a after old new r = record {
   stands = stands_ahead k a (after r.rest) r.front new.left old new r.stands;
 }
 
-pub opened_batch : (e : Effort) (pipes : ℕ) (r : Reading) (input : List ℕ) (old new : Edges) → Begins (opening want.Soft input) old.left new.left (Ok r) → IsBegun want.Soft r →
+pub opened_batch : (e : DecoderLimits) (pipes : ℕ) (r : Reading) (input : List ℕ) (old new : Edges) → Begins (opening want.Soft input) old.left new.left (Ok r) → IsBegun want.Soft r →
     Adds old.out new.out [] → Adds old.report new.report [] → Reached (batch_answer e pipes input) (batch_ahead e pipes r 0) old new
 opened_batch e pipes r input old new begins begun out report =
     reached_ahead (2 * pipes) (stream_answer (decoding e) input) (answer_ahead (decoding e) r 0) old new (opened_stream (decoding e) want.Soft r input old new refl begins begun out report)
@@ -44,7 +44,7 @@ stopped_ahead : (k : ℕ) (a : Answer) (old new : Edges) (end : Status) → ((b 
     StoppedAfter a old new end → StoppedAfter (reading_ahead k a) old new end
 stopped_ahead k a old new end same (front, b, mid, stands, stopped, memory) = (front, reading_ahead k b, mid, stands_ahead k a b front mid old new stands, same b mid stopped, memory)
 
-pub unopened_batch : (e : Effort) (pipes : ℕ) (input : List ℕ) (old new : Edges) (stop : StreamStop) → Begins (opening want.Soft input) old.left new.left (Err stop) →
+pub unopened_batch : (e : DecoderLimits) (pipes : ℕ) (input : List ℕ) (old new : Edges) (stop : StreamStop) → Begins (opening want.Soft input) old.left new.left (Err stop) →
     Adds old.out new.out [] → Adds old.report new.report [] → Ended (batch_answer e pipes input) old new (status_of stop)
 unopened_batch e pipes input old new (reader.Bad number place) begins out report =
     stopped_ahead (2 * pipes) (stream_answer (decoding e) input) old new (status.BadStream number place) (λ b mid h. h)

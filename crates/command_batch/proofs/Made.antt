@@ -5,7 +5,7 @@ use Rattle.model_receiver.specs.declared.result.TbOutcome.{TbOutcome}
 use Rattle.run_loop.specs.Answer.{Part}
 use Rattle.stream_loop.specs.Handling.{one_if}
 use Rattle.command_batch.specs.Jobs.{answers}
-use Rattle.command_batch.specs.Making.{failures, handled_job, job_part, job_parts}
+use Rattle.command_batch.specs.Parts.{failures, handled_job, job_part, job_parts}
 use Rattle.command_batch.specs.declared.job.BlockJob.{BlockJob}
 
 parts_suc : (first : ℕ) (jobs : List BlockJob) (i : ℕ) (d : BlockJob) → i < length jobs →

@@ -1,25 +1,24 @@
 -- The answer to a stream begins with the parts of the jobs that were made of its blocks.
 use Rattle.std.proofs.Common.{◌≡◌, ℕ, suc, ◌+◌, List, [], ◌∷◌, length, refl, ap, sym, ◌∙◌, All, arith}
 use Rattle.std.proofs.lemmas.Grind.{common_steps}
-use Rattle.model_receiver.specs.TransportBlocks.{Effort}
-use Rattle.block_receive.specs.Effort.{effort_of}
+use Rattle.model_receiver.specs.Limits.{DecoderLimits}
 use Rattle.coded_stream.specs.Header.{Header}
 use Rattle.coded_stream.specs.Body.{Body}
 use Rattle.run_loop.specs.Answer.{preceded_by, size_of}
 use Rattle.stream_loop.specs.Handling.{Handled, body_answer, part, one_if}
 use Rattle.command_decode.specs.Decoding.{decoding, decoded, handled}
 use Rattle.command_batch.specs.Jobs.{block_in, blocks_in, IsJobOf}
-use Rattle.command_batch.specs.Making.{failures, handled_job, job_part, job_parts}
+use Rattle.command_batch.specs.Parts.{failures, handled_job, job_part, job_parts}
 use Rattle.command_batch.specs.Reading.{onto_all, size_of_blocks}
 use Rattle.command_batch.specs.declared.job.BlockJob.{BlockJob}
 
 -- what a command makes of the block of a job
-handled_same : (e : Effort) (h : Header) (number : ℕ) (j : BlockJob) → IsJobOf e h j → (decoding e).block h number (block_in j) ≡ handled_job number j
+handled_same : (e : DecoderLimits) (h : Header) (number : ℕ) (j : BlockJob) → IsJobOf e h j → (decoding e).block h number (block_in j) ≡ handled_job number j
 handled_same e h number j is =
-    ap (λ (f : Effort). handled number (decoded f h (block_in j))) (sym is.0)
-    ∙ ap (λ (k : Header). handled number (decoded (effort_of j.effort) k (block_in j))) (sym is.1)
+    ap (λ (f : DecoderLimits). handled number (decoded f h (block_in j))) (sym is.0)
+    ∙ ap (λ (k : Header). handled number (decoded j.limits k (block_in j))) (sym is.1)
 
-pub answered_jobs : (e : Effort) (h : Header) (number failed : ℕ) (jobs : List BlockJob) (rest : Body) → All (IsJobOf e h) jobs →
+pub answered_jobs : (e : DecoderLimits) (h : Header) (number failed : ℕ) (jobs : List BlockJob) (rest : Body) → All (IsJobOf e h) jobs →
     body_answer (decoding e) h number failed (onto_all (blocks_in jobs) rest)
     ≡ preceded_by (job_parts number jobs) (body_answer (decoding e) h (number + length jobs) (failed + failures number jobs) rest)
 answered_jobs e h number failed [] rest are =

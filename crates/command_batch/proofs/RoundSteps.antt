@@ -4,7 +4,7 @@ use Rattle.std.proofs.lemmas.List.{append-nil, length-append}
 use Rattle.std.specs.declared.option.Option.{Option}
 use Rattle.edge_io.specs.Edge.{Rose, Takes}
 use Rattle.edge_io.proofs.Known.{takes_none, takes_then}
-use Rattle.model_receiver.specs.TransportBlocks.{Effort}
+use Rattle.model_receiver.specs.Limits.{DecoderLimits}
 use Rattle.coded_stream.specs.Header.{Header}
 use Rattle.coded_stream.specs.Blocks.{Block}
 use Rattle.coded_stream.specs.Body.{Body, Ending, no_more, whole, bad}
@@ -27,7 +27,7 @@ use Rattle.stream_loop.proofs.StreamSteps.{taken}
 use Rattle.command_decode.specs.Decoding.{decoding}
 use Rattle.command_batch.specs.Batch.{batch_ahead, reading_ahead}
 use Rattle.command_batch.specs.Jobs.{blocks_in, IsJobOf}
-use Rattle.command_batch.specs.Making.{failures, job_parts, StopsAs}
+use Rattle.command_batch.specs.Parts.{failures, job_parts, StopsAs}
 use Rattle.command_batch.specs.Reading.{Came, Comes, Counts, Passes, stop_of}
 use Rattle.command_batch.specs.declared.job.BlockJob.{BlockJob}
 use Rattle.command_batch.specs.declared.reading.Reached.{Reached}
@@ -38,11 +38,11 @@ use Rattle.command_batch.proofs.Parted.{answered_jobs, length-parts, size-parts}
 
 -- ---- what is still to come after the jobs of a round
 
-abbrev pub left_answer : Effort → (pipes : ℕ) → (r : Reading) → (failed : ℕ) → List BlockJob → Body → Answer
+abbrev pub left_answer : DecoderLimits → (pipes : ℕ) → (r : Reading) → (failed : ℕ) → List BlockJob → Body → Answer
 left_answer e pipes r failed jobs rest =
     reading_ahead (2 * pipes) (body_answer (decoding e) r.header (r.blocks + length jobs) (failed + failures r.blocks jobs) rest)
 
-split : (e : Effort) (pipes failed : ℕ) (r s : Reading) (input left : List ℕ) (jobs : List BlockJob) (old mid : Option (List ℕ)) →
+split : (e : DecoderLimits) (pipes failed : ℕ) (r s : Reading) (input left : List ℕ) (jobs : List BlockJob) (old mid : Option (List ℕ)) →
     All (IsJobOf e r.header) jobs → Came r s input left (blocks_in jobs) old mid →
     batch_ahead e pipes r failed input ≡ preceded_by (job_parts r.blocks jobs) (left_answer e pipes r failed jobs (remaining s left))
 split e pipes failed r s input left jobs old mid are came =
@@ -91,7 +91,7 @@ more_taken w h number failed s s' left mid new (reached.Stopped reader.NoMemory)
       of (p ∷ parts) = omega arith
 
 -- the blocks that came, and what was taken after them
-starved_after : (e : Effort) (pipes failed : ℕ) (r before s : Reading) (input left : List ℕ) (jobs : List BlockJob) (old mid new : Option (List ℕ)) (stopped : Reached) →
+starved_after : (e : DecoderLimits) (pipes failed : ℕ) (r before s : Reading) (input left : List ℕ) (jobs : List BlockJob) (old mid new : Option (List ℕ)) (stopped : Reached) →
     1 ≤ pipes → length jobs < 2 * pipes → All (IsJobOf e r.header) jobs → (stopped ≡ reached.Full → ⊥) →
     Came r before input left (blocks_in jobs) old mid → GoesOn (remaining before left) (remaining s) [] mid new (stop_of stopped) →
     Stopped (batch_ahead e pipes r failed input) old new NoMemory
@@ -111,7 +111,7 @@ starved_after e pipes failed r before s input left jobs old mid new stopped some
       (subst P (sym (split e pipes failed r before input left jobs old mid are came)) within, (within_ahead w r failed input).1),
     )
 
-starved_full : (e : Effort) (pipes failed : ℕ) (r s : Reading) (input left : List ℕ) (jobs : List BlockJob) (old new : Option (List ℕ)) →
+starved_full : (e : DecoderLimits) (pipes failed : ℕ) (r s : Reading) (input left : List ℕ) (jobs : List BlockJob) (old new : Option (List ℕ)) →
     length jobs ≤ 2 * pipes → All (IsJobOf e r.header) jobs → Came r s input left (blocks_in jobs) old new →
     Stopped (batch_ahead e pipes r failed input) old new NoMemory
 starved_full e pipes failed r s input left jobs old new few are came =
@@ -128,7 +128,7 @@ starved_full e pipes failed r s input left jobs old new few are came =
     )
 
 -- memory ran out once the blocks of the round had come
-pub starved_round : (e : Effort) (pipes failed : ℕ) (r s : Reading) (input : List ℕ) (jobs : List BlockJob) (old new : Option (List ℕ)) (stopped : Reached) →
+pub starved_round : (e : DecoderLimits) (pipes failed : ℕ) (r s : Reading) (input : List ℕ) (jobs : List BlockJob) (old new : Option (List ℕ)) (stopped : Reached) →
     1 ≤ pipes → All (IsJobOf e r.header) jobs → Comes r s input (blocks_in jobs) old new stopped → Counts (length jobs) (2 * pipes) s stopped →
     Stopped (batch_ahead e pipes r failed input) old new NoMemory
 starved_round e pipes failed r s input jobs old new reached.Full some are (left, came) (all, live) =
@@ -139,7 +139,7 @@ starved_round e pipes failed r s input jobs old new (reached.Stopped why) some a
     starved_after e pipes failed r before s input left jobs old mid new (reached.Stopped why) some few are (λ e. cc) came on
 
 -- and before any had
-pub starved_before : (e : Effort) (pipes failed : ℕ) (r : Reading) (input : List ℕ) (old : Option (List ℕ)) →
+pub starved_before : (e : DecoderLimits) (pipes failed : ℕ) (r : Reading) (input : List ℕ) (old : Option (List ℕ)) →
     Stopped (batch_ahead e pipes r failed input) old old NoMemory
 starved_before e pipes failed r input old = ([], takes_none old, (omega arith, (within_ahead (decoding e) r failed input).1))
 
@@ -165,7 +165,7 @@ stopped_ahead w k h number failed before s left mid new reader.NoMemory same = (
   (omega arith, some_due_without_parts w h number failed (remaining before left).blocks (remaining before left).ending (some_due before left)),
 )
 
-gives_after : (e : Effort) (pipes failed : ℕ) (r before : Reading) (input left : List ℕ) (jobs : List BlockJob) (after : List ℕ → Answer) (old mid new : Option (List ℕ)) (round : Round) →
+gives_after : (e : DecoderLimits) (pipes failed : ℕ) (r before : Reading) (input left : List ℕ) (jobs : List BlockJob) (after : List ℕ → Answer) (old mid new : Option (List ℕ)) (round : Round) →
     All (IsJobOf e r.header) jobs → Came r before input left (blocks_in jobs) old mid → parts_of round.parts.items ≡ job_parts r.blocks jobs →
     Stops (left_answer e pipes r failed jobs (remaining before left)) after mid new round.stop → Stopped (batch_ahead e pipes r failed input) old new NoMemory →
     Gives (batch_ahead e pipes r failed input) after old new round
@@ -180,7 +180,7 @@ gives_after e pipes failed r before input left jobs after old mid new round are 
     )
 
 -- the blocks of the round were made, and the round stops as its reading did: it read no more than where memory ran out then
-pub gives_round : (e : Effort) (pipes failed failed' : ℕ) (r s : Reading) (input : List ℕ) (jobs : List BlockJob) (old new : Option (List ℕ)) (stopped : Reached) (round : Round) →
+pub gives_round : (e : DecoderLimits) (pipes failed failed' : ℕ) (r s : Reading) (input : List ℕ) (jobs : List BlockJob) (old new : Option (List ℕ)) (stopped : Reached) (round : Round) →
     All (IsJobOf e r.header) jobs → Comes r s input (blocks_in jobs) old new stopped → Passes r s (length jobs) → failed' ≡ failed + failures r.blocks jobs →
     parts_of round.parts.items ≡ job_parts r.blocks jobs → StopsAs e r.header s.blocks failed' stopped round.stop → Stopped (batch_ahead e pipes r failed input) old new NoMemory →
     Gives (batch_ahead e pipes r failed input) (batch_ahead e pipes s failed') old new round
@@ -214,7 +214,7 @@ gives_round e pipes failed failed' r s input jobs old new (reached.Stopped why) 
 -- ---- whether more is to come
 
 -- a round that goes on has as many blocks as it may have
-pub full_of : (e : Effort) (h : Header) (blocks failed count most : ℕ) (s : Reading) (stopped : Reached) (stop : Stop) → StopsAs e h blocks failed stopped stop → stop ≡ Go →
+pub full_of : (e : DecoderLimits) (h : Header) (blocks failed count most : ℕ) (s : Reading) (stopped : Reached) (stop : Stop) → StopsAs e h blocks failed stopped stop → stop ≡ Go →
     Counts count most s stopped → (count ≡ most) × (s.live ≡ true)
 full_of e h blocks failed count most s reached.Full stop stops go counts = counts
 full_of e h blocks failed count most s reached.End stop stops go counts =
@@ -227,7 +227,7 @@ fewer_of before now (End closing last failed) less = tt
 fewer_of before now (Fails status) less = tt
 
 -- a round stops by a fault of the source only where the source counted one
-pub stops_by : (e : Effort) (h : Header) (blocks failed before now : ℕ) (stopped : Reached) (stop : Stop) → StopsAs e h blocks failed stopped stop →
+pub stops_by : (e : DecoderLimits) (h : Header) (blocks failed before now : ℕ) (stopped : Reached) (stop : Stop) → StopsAs e h blocks failed stopped stop →
     (stopped ≡ reached.Stopped reader.Fault → Rose before now) → StopsBy before now stop
 stops_by e h blocks failed before now reached.Full stop stops rose = let P : Stop → Type 0 = λ x. StopsBy before now x in subst P (sym stops) tt
 stops_by e h blocks failed before now reached.End Go stops rose = tt

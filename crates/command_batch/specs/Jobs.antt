@@ -1,8 +1,7 @@
 -- Blocks as jobs, and their outcomes.
 use Rattle.std.specs.Prelude.{◌≡◌, List, map, IfOk, Result}
-use Rattle.model_receiver.specs.TransportBlocks.{Effort}
+use Rattle.model_receiver.specs.Limits.{DecoderLimits}
 use Rattle.model_receiver.specs.declared.result.TbOutcome.{TbOutcome}
-use Rattle.block_receive.specs.Effort.{effort_of}
 use Rattle.coded_stream.specs.Header.{Header}
 use Rattle.coded_stream.specs.Blocks.{Block}
 use Rattle.coded_stream.specs.Shown.{header_of}
@@ -17,13 +16,13 @@ block_in j = block_of j.payload j.bytes
 abbrev pub blocks_in : List BlockJob → List Block
 blocks_in jobs = map block_in jobs
 
--- a job of a stream with this header, with this effort
-abbrev pub IsJobOf : Effort → Header → BlockJob → Type 0
-IsJobOf e h j = (effort_of j.effort ≡ e) × (header_of j.header ≡ h)
+-- a job of a stream with this header, within these limits
+abbrev pub IsJobOf : DecoderLimits → Header → BlockJob → Type 0
+IsJobOf limits h j = (j.limits ≡ limits) × (header_of j.header ≡ h)
 
 -- what its block comes to
 abbrev pub outcome_of : BlockJob → TbOutcome
-outcome_of j = decoded (effort_of j.effort) (header_of j.header) (block_in j)
+outcome_of j = decoded j.limits (header_of j.header) (block_in j)
 
 -- a job is answered by what its block comes to, or since memory ran out
 abbrev pub answers : {E : Type 0} → BlockJob → Result TbOutcome E → Type 0

@@ -1,5 +1,5 @@
 pub mod Batch
 pub mod Jobs
 pub mod Reading
-pub mod Making
+pub mod Parts
 pub mod Runners

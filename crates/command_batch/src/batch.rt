@@ -2,7 +2,7 @@
 use crate::reading::JobReader;
 use crate::rounds::BatchRounds;
 use crate::runner::Runner;
-use block_receive::Effort;
+use block_receive::DecoderLimits;
 use coded_stream::{StreamReader, Want};
 use edge_io::{Sink, Source};
 use run_loop::{Open, Status};
@@ -12,18 +12,17 @@ use stream_loop::status_of;
 /// Decodes the blocks of a stream of soft values, up to two for each pipe in a round: the blocks of a
 /// round are read, then decoded, and then written in their order.
 #[derive(Drop)]
-pub struct Batch<R: Runner> {
+pub struct Batch<'a, R: Runner> {
     pub runner: R,
-    pub effort: Effort,
+    pub limits: &'a DecoderLimits,
 }
 
-impl<R: Runner> Open for Batch<R> {
-    ghost use Rattle.block_receive.specs.Effort.{effort_of};
+impl<'a, R: Runner> Open for Batch<'a, R> {
     ghost use Rattle.command_batch.specs.Batch.{batch_answer};
 
     type Rounds = BatchRounds<R>;
 
-    ghost answer = { λ s input. batch_answer (effort_of s.effort) (R.pipes s.runner) input };
+    ghost answer = { λ s input. batch_answer s.limits.now (R.pipes s.runner) input };
 
     ghost able = { λ s. R.able s.runner };
 
@@ -33,13 +32,13 @@ impl<R: Runner> Open for Batch<R> {
         source: &mut S,
         _out: &mut D,
     ) -> Result<BatchRounds<R>, Status> {
-        let Batch { runner, effort } = self;
+        let Batch { runner, limits } = self;
         match StreamReader::begin(source, Want::Soft) {
             Ok(reader) => Ok(BatchRounds {
                 runner,
                 jobs: JobReader {
                     reader,
-                    effort,
+                    limits: *limits,
                     rooms: Vec::new(alloc),
                 },
                 failed: 0,

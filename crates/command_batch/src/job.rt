@@ -2,7 +2,7 @@
 ghost use Rattle.std.specs.Prelude.{◌≡◌, ◌≤◌, length};
 ghost use Rattle.block_receive.specs.Receptions.{value_count};
 
-use block_receive::{Effort, receive_alone};
+use block_receive::{DecoderLimits, Task};
 use coded_stream::Header;
 use command_decode::Received;
 use lte_bits::List;
@@ -16,7 +16,7 @@ use tb_pipeline::Job;
 #[derive(Drop)]
 pub struct BlockJob {
     pub alloc: Global,
-    pub effort: Effort,
+    pub limits: DecoderLimits,
     pub header: Header,
     pub payload: usize,
     pub bytes: List<u8>,
@@ -34,9 +34,9 @@ impl Job for BlockJob {
 
     fn run(&self) -> Received {
         let plan = plan(self.payload).unwrap();
+        let limits = self.limits;
+        let task = Task { plan, limits };
         let softs = softs_of(self.alloc, self.bytes.as_slice())?;
-        let Effort { windows, limit } = self.effort;
-        let sends = &self.header.sends;
-        receive_alone(self.alloc, &plan, sends, windows, limit, softs.as_slice())
+        task.receive_alone(self.alloc, &self.header.sends, softs.as_slice())
     }
 }

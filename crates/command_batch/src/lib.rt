@@ -4,7 +4,7 @@
 mod batch;
 mod each;
 pub mod job;
-mod making;
+mod parts;
 pub mod reading;
 mod rounds;
 mod runner;

@@ -1,7 +1,6 @@
 //! Reading the blocks of a round.
 ghost use Rattle.std.specs.Prelude.{◌≡◌, ◌≤◌, ℕ, List, [], Some, All, length, true, vec_capacity};
 ghost use Rattle.edge_io.specs.Edge.{Rose, TakesBytes};
-ghost use Rattle.block_receive.specs.Effort.{effort_of};
 ghost use Rattle.coded_stream.specs.Header.{kind_code};
 ghost use Rattle.coded_stream.specs.Opening.{is_wanted};
 ghost use Rattle.coded_stream.specs.Steps.{Advances, GoesOn, remaining};
@@ -11,7 +10,7 @@ ghost use Rattle.command_batch.specs.Jobs.{blocks_in, IsJobOf};
 ghost use Rattle.command_batch.specs.Reading.{bytes_got, size_got, Comes, Counts, OnJob, Passes};
 
 use crate::job::BlockJob;
-use block_receive::Effort;
+use block_receive::DecoderLimits;
 use coded_stream::{StreamReader, StreamStop};
 use edge_io::Source;
 use lte_bits::List;
@@ -28,12 +27,12 @@ pub enum Reached {
     Stopped(StreamStop),
 }
 
-/// The reader of a stream of soft values, the effort for its blocks, and rooms for the bytes of
+/// The reader of a stream of soft values, the limits for its blocks, and rooms for the bytes of
 /// blocks.
 #[derive(Drop)]
 pub struct JobReader {
     pub reader: StreamReader,
-    pub effort: Effort,
+    pub limits: DecoderLimits,
     pub rooms: Vec<List<u8>>,
 }
 
@@ -46,12 +45,12 @@ impl JobReader {
     ) -> Result<Option<BlockJob>, StreamStop>
         requires live { self.old.reader.live ≡ true }
         requires soft { is_wanted want.Soft (kind_code self.old.reader.header.kind) ≡ true }
-        ensures effort { self.new.effort ≡ self.old.effort }
+        ensures limits { self.new.limits ≡ self.old.limits }
         ensures goes_on { (input : List ℕ) → S.left source.old ≡ Some input →
             GoesOn (remaining self.old.reader input) (remaining self.new.reader) (bytes_got result)
             (S.left source.old) (S.left source.new) (size_got result) }
         ensures advances { Advances self.old.reader self.new.reader (bytes_got result) (size_got result) }
-        ensures job { OnJob result (IsJobOf (effort_of self.old.effort) self.old.reader.header) }
+        ensures job { OnJob result (IsJobOf self.old.limits self.old.reader.header) }
         ensures moved { TakesBytes (S.left source.old) (S.left source.new) }
         ensures later { S.faults source.old ≤ S.faults source.new }
         ensures fault { result ≡ Err StreamStop.Fault → Rose (S.faults source.old) (S.faults source.new) }
@@ -63,7 +62,7 @@ impl JobReader {
         match self.reader.next_block(source, &mut bytes) {
             Ok(Some(payload)) => Ok(Some(BlockJob {
                 alloc,
-                effort: self.effort,
+                limits: self.limits,
                 header: *self.reader.header(),
                 payload,
                 bytes,
@@ -86,14 +85,14 @@ impl JobReader {
         requires within { self.old.reader.blocks ≤ most_blocks }
         requires none { jobs.old.items ≡ [] }
         requires room { most ≤ vec_capacity jobs.old }
-        ensures effort { self.new.effort ≡ self.old.effort }
+        ensures limits { self.new.limits ≡ self.old.limits }
         ensures comes { (input : List ℕ) → S.left source.old ≡ Some input →
             Comes self.old.reader self.new.reader input (blocks_in jobs.new.items)
             (S.left source.old) (S.left source.new) result }
         ensures passes { Passes self.old.reader self.new.reader (length jobs.new.items) }
         ensures counts { Counts (length jobs.new.items) most self.new.reader result }
         ensures within { self.new.reader.blocks ≤ most_blocks }
-        ensures jobs { All (IsJobOf (effort_of self.old.effort) self.old.reader.header) jobs.new.items }
+        ensures jobs { All (IsJobOf self.old.limits self.old.reader.header) jobs.new.items }
         ensures moved { TakesBytes (S.left source.old) (S.left source.new) }
         ensures later { S.faults source.old ≤ S.faults source.new }
         ensures fault { result ≡ Reached.Stopped StreamStop.Fault →
@@ -112,7 +111,7 @@ impl JobReader {
     /// Keeps the rooms of jobs for the next round, as many as it has memory for.
     pub fn keep_rooms(&mut self, jobs: Vec<BlockJob>)
         ensures reader { self.new.reader ≡ self.old.reader }
-        ensures effort { self.new.effort ≡ self.old.effort }
+        ensures limits { self.new.limits ≡ self.old.limits }
     {
         for job in jobs {
             let _kept = self.rooms.push(job.bytes);

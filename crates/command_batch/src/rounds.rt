@@ -1,10 +1,10 @@
 //! The rounds of `batch`: the blocks of a round are read, then decoded, and then written.
 ghost use Rattle.std.specs.Prelude.{◌≡◌, ◌≤◌, ◌*◌, ◌+◌, ◌-◌, IfOk, length};
 ghost use Rattle.run_loop.specs.Step.{parts_of};
-ghost use Rattle.command_batch.specs.Making.{failures, job_parts};
+ghost use Rattle.command_batch.specs.Parts.{failures, job_parts};
 
 use crate::job::BlockJob;
-use crate::making::{parts_of, stop_of};
+use crate::parts::{parts_of, stop_of};
 use crate::reading::JobReader;
 use crate::runner::Runner;
 use edge_io::Source;
@@ -44,16 +44,15 @@ impl<R: Runner> BatchRounds<R> {
 
 impl<R: Runner> Work for BatchRounds<R> {
     ghost use Rattle.coded_stream.specs.Stream.{most_blocks};
-    ghost use Rattle.block_receive.specs.Effort.{effort_of};
     ghost use Rattle.command_decode.specs.Decoding.{decoding};
     ghost use Rattle.stream_loop.specs.Rounds.{IsReady};
     ghost use Rattle.command_batch.specs.Batch.{batch_ahead};
 
     ghost answer = { λ s input.
-        batch_ahead (effort_of s.jobs.effort) (R.pipes s.runner) s.jobs.reader s.failed input };
+        batch_ahead s.jobs.limits (R.pipes s.runner) s.jobs.reader s.failed input };
 
     ghost ready = { λ s. R.able s.runner
-        × IsReady (decoding (effort_of s.jobs.effort)) s.jobs.reader s.failed };
+        × IsReady (decoding s.jobs.limits) s.jobs.reader s.failed };
 
     ghost budget = { λ s. most_blocks - s.jobs.reader.blocks };
 

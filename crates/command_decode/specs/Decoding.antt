@@ -2,7 +2,8 @@
 use Rattle.std.specs.Prelude.{ℕ, ◌-◌, true, false, None, List, [], ◌++◌, length, codes, decimal}
 use Rattle.model_sender.specs.Segmentation.{plan_of}
 use Rattle.model_receiver.specs.SoftCells.{Reception}
-use Rattle.model_receiver.specs.TransportBlocks.{Effort, outcome}
+use Rattle.model_receiver.specs.Limits.{DecoderLimits}
+use Rattle.model_receiver.specs.TransportBlocks.{outcome}
 use Rattle.model_receiver.specs.declared.result.TbOutcome.{TbOutcome}
 use Rattle.model_receiver.specs.declared.result.TbOutcome.TheVariants.{Delivered, Failed}
 use Rattle.block_receive.specs.Receptions.{receptions}
@@ -18,8 +19,8 @@ abbrev pub received : Header → Block → List Reception
 received h b = receptions h.sends (softs_of b.bytes)
 
 -- what its reception comes to
-abbrev pub decoded : Effort → Header → Block → TbOutcome
-decoded e h b = outcome (plan_of b.payload) e (received h b)
+abbrev pub decoded : DecoderLimits → Header → Block → TbOutcome
+decoded limits h b = outcome (plan_of b.payload) limits (received h b)
 
 -- ---- the lines
 
@@ -58,10 +59,10 @@ handled number (Failed transmissions iterations) = record {
   failed = true;
 }
 
-abbrev pub decoding : Effort → Handling
-decoding e = record {
+abbrev pub decoding : DecoderLimits → Handling
+decoding limits = record {
   want = Soft;
   header = λ _. None;
-  block = λ h number b. handled number (decoded e h b);
+  block = λ h number b. handled number (decoded limits h b);
   last = last_line;
 }

@@ -6,7 +6,6 @@ use Rattle.model_receiver.specs.TransportBlocks.{outcome}
 use Rattle.model_receiver.specs.declared.result.TbOutcome.{TbOutcome}
 use Rattle.rate_match.specs.Sendings.{common}
 use Rattle.rate_match.specs.declared.sends.Sending.{Sending}
-use Rattle.block_receive.specs.Effort.{effort_in}
 use Rattle.block_receive.specs.Receptions.{receptions, value_count}
 use Rattle.block_receive.specs.declared.task.Task.{Task}
 
@@ -29,4 +28,4 @@ abbrev pub GivesOutcomes : {A E : Type 0}
 GivesOutcomes {A} {E} post =
     (alloc : A) (task : Bor Task) (workers : ℕ) (sends : Bor (List Sending)) (softs : Bor (List ℤ)) (r : Result TbOutcome E)
     → post alloc task workers sends softs r
-    → IfOk r (λ o. o ≡ outcome task.now.plan (effort_in task.now) (receptions sends.now softs.now))
+    → IfOk r (λ o. o ≡ outcome task.now.plan task.now.limits (receptions sends.now softs.now))

@@ -1,6 +1,5 @@
 //! What `decode` makes of a block.
 ghost use Rattle.std.specs.Prelude.{◌≡◌, ◌≤◌, ◌<◌, true, IfOk};
-ghost use Rattle.block_receive.specs.Effort.{effort_of};
 ghost use Rattle.coded_stream.specs.Blocks.{IsBlock};
 ghost use Rattle.coded_stream.specs.Shown.{header_of};
 ghost use Rattle.coded_stream.specs.declared.kind.Kind.TheVariants as kind;
@@ -9,7 +8,7 @@ ghost use Rattle.command_decode.specs.Decoding.{decoded, handled};
 ghost use Rattle.command_decode.specs.Receivers.{GivesOutcomes, TakesTransmissions};
 
 use crate::lines::{block_line, last_line};
-use block_receive::{Effort, Task};
+use block_receive::{DecoderLimits, Task};
 use coded_stream::{Header, Want};
 use lte_bits::{NoMemory, Soft};
 use model_receiver::TbOutcome;
@@ -21,18 +20,18 @@ use stream_loop::{Handled, Handler, softs_of};
 /// What the reception of a transport block comes to, or that there was no memory.
 pub type Received = Result<TbOutcome, NoMemory>;
 
-/// Who receives transport blocks, by up to how many workers, 1 to 16, and with what effort.
+/// Who receives transport blocks, by up to how many workers, 1 to 16, and within which limits.
 #[derive(Drop)]
 pub struct Decoding<'a, F: Fn(Global, &Task, usize, &Sends, &[Soft]) -> Received> {
     pub receive: &'a F,
     pub workers: usize,
-    pub effort: Effort,
+    pub limits: &'a DecoderLimits,
     pub ghost some_workers: { 1 ≤ workers },
     pub ghost few_workers: { workers ≤ 16 },
 }
 
 impl<'a, F: Fn(Global, &Task, usize, &Sends, &[Soft]) -> Received> Decoding<'a, F> {
-    /// Returns what the transmissions of a block come to.
+    /// Decodes a transport block from its transmissions.
     fn outcome(
         &self,
         alloc: Global,
@@ -44,12 +43,12 @@ impl<'a, F: Fn(Global, &Task, usize, &Sends, &[Soft]) -> Received> Decoding<'a, 
         requires gives { GivesOutcomes (F.post self.now.receive.now) }
         requires soft { header.now.kind ≡ kind.Soft }
         requires accepted { IsBlock (header_of header.now) (block_of payload bytes.now) }
-        ensures { IfOk result (λ o. o ≡ decoded (effort_of self.now.effort)
+        ensures { IfOk result (λ o. o ≡ decoded self.now.limits.now
             (header_of header.now) (block_of payload bytes.now)) }
     {
         let task = Task {
             plan: plan(payload).unwrap(),
-            effort: self.effort,
+            limits: *self.limits,
         };
         let softs = softs_of(alloc, bytes)?;
         let (workers, sends) = (self.workers, &header.sends);
@@ -57,7 +56,7 @@ impl<'a, F: Fn(Global, &Task, usize, &Sends, &[Soft]) -> Received> Decoding<'a, 
     }
 }
 
-/// Returns what the outcome of the block with this number adds.
+/// Returns the output and the report line of a block.
 pub fn handled(alloc: Global, number: usize, outcome: TbOutcome) -> Result<Handled, NoMemory>
     ensures { IfOk result (λ x. handled_of x ≡ handled number outcome) }
 {
@@ -77,12 +76,11 @@ pub fn handled(alloc: Global, number: usize, outcome: TbOutcome) -> Result<Handl
 }
 
 impl<'a, F: Fn(Global, &Task, usize, &Sends, &[Soft]) -> Received> Handler for Decoding<'a, F> {
-    ghost use Rattle.block_receive.specs.Effort.{effort_of};
     ghost use Rattle.command_decode.specs.Decoding.{decoding};
 
     ghost able = { λ s. TakesTransmissions (F.pre s.receive.now) × GivesOutcomes (F.post s.receive.now) };
 
-    ghost handling = { λ s. decoding (effort_of s.effort) };
+    ghost handling = { λ s. decoding s.limits.now };
 
     fn want(&self) -> Want {
         Want::Soft

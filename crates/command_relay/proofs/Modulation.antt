@@ -1,5 +1,5 @@
 -- The points of a transmission: how many bits each has, and how many there are.
-use Rattle.std.proofs.Common.{◌≡◌, ℕ, ◌+◌, ◌*◌, ◌/◌, ◌%◌, ◌≤◌, ℤ, pos, ◌+ℤ◌, ◌*ℤ◌, List, true, ◌||◌, ◌==◌, length, inl, inr, ap, ◌∙◌, arith}
+use Rattle.std.proofs.Common.{◌≡◌, ℕ, ◌*◌, ◌/◌, ◌%◌, ◌≤◌, List, true, ◌||◌, ◌==◌, length, inl, inr, ap, ◌∙◌, arith}
 use Rattle.std.proofs.lemmas.Bool.{or_cases, eqb-true}
 use Rattle.std.proofs.lemmas.Nat.Gcd.{dvd_trans, mod-eq-zero_of_dvd}
 use Rattle.std.proofs.Math.Nat.{dvd-mul_left}
@@ -7,12 +7,11 @@ use Rattle.lte_bits.specs.declared.bit.Bit.{Bit}
 use Rattle.model_sender.specs.CircularBuffer.{Match}
 use Rattle.rate_match.specs.Matching.{IsMatch, is_qm}
 use Rattle.rate_match.proofs.Matchings.{match-bounds}
-use Rattle.qam_points.specs.Constellation.{IsOrder, mapped}
-use Rattle.qam_points.specs.Reception.{term_at}
+use Rattle.qam_points.specs.Constellation.{IsModulationOrder, mapped}
 use Rattle.qam_points.proofs.Receiving.{length-mapped}
 use Rattle.qam_points.specs.declared.point.Point.{Point}
 
-order : (qm : ℕ) → is_qm qm ≡ true → IsOrder qm
+order : (qm : ℕ) → is_qm qm ≡ true → IsModulationOrder qm
 order qm is =
     elim (or_cases (qm == 2 || qm == 4) (qm == 6) is) [
       | inl h ↦ elim (or_cases (qm == 2) (qm == 4) h) [
@@ -26,7 +25,7 @@ order qm is =
 pub none_over : (m : Match) → IsMatch m → m.g % m.qm ≡ 0
 none_over m is = mod-eq-zero_of_dvd m.qm (dvd_trans m.qm (dvd-mul_left m.qm m.nl) (match-bounds m is).divides)
 
-halved : (g qm : ℕ) → IsOrder qm → g ≤ 1000000 → 2 * (g / qm) ≤ 1000000
+halved : (g qm : ℕ) → IsModulationOrder qm → g ≤ 1000000 → 2 * (g / qm) ≤ 1000000
 halved g qm one few = elim one [
   | inl two ↦ (let e : g / qm ≡ g / 2 = ap (λ (q : ℕ). g / q) two in omega (arith, e))
   | inr more ↦ elim more [
@@ -43,10 +42,3 @@ terms_needed m bits points long is =
 -- which are few enough
 pub few_terms : (m : Match) → IsMatch m → 2 * (m.g / m.qm) ≤ 1000000
 few_terms m is = halved m.g m.qm (order m.qm is.qm) (match-bounds m is).few
-
--- what is received of the point of symbol s
-abbrev pub received_of : (amp : ℕ) → (terms : List ℤ) → (s : ℕ) → Point → Point
-received_of amp terms s p = record {
-  i = pos amp *ℤ p.i +ℤ term_at terms (2 * s);
-  q = pos amp *ℤ p.q +ℤ term_at terms (2 * s + 1);
-}

@@ -4,6 +4,7 @@ use Rattle.std.proofs.Math.Seq.{take-append_seam, drop-append_seam}
 use Rattle.model_sender.specs.CircularBuffer.{Match}
 use Rattle.rate_match.specs.Matching.{IsMatch}
 use Rattle.rate_match.specs.declared.sends.Sending.{Sending}
+use Rattle.soft_channel.specs.Channel.{NoiseChannel, strength_of, transmission_over}
 use Rattle.soft_channel.specs.Noise.{noise_terms}
 use Rattle.qam_points.specs.Reception.{received}
 use Rattle.coded_stream.specs.Header.{Header, word_text}
@@ -17,7 +18,7 @@ use Rattle.coded_stream.specs.Blocks.{block_text}
 use Rattle.run_loop.specs.Answer.{preceded_by}
 use Rattle.stream_loop.specs.Handling.{Handled, body_answer, one_if, part}
 use Rattle.stream_loop.specs.SoftBytes.{bytes_of}
-use Rattle.command_relay.specs.Channel.{Noise, channel, noisy_text, noisy_conversion, transmission_of}
+use Rattle.command_relay.specs.Channel.{channel, noisy_text, noisy_conversion}
 use Rattle.command_relay.specs.HardBits.{bits_in}
 use Rattle.command_relay.specs.Points.{points, received_text, point_conversion}
 use Rattle.command_relay.specs.Conversions.{made_from}
@@ -26,20 +27,20 @@ use Rattle.command_relay.proofs.Modulation.{none_over}
 use Rattle.command_relay.proofs.Pairs.{as_by_themselves}
 
 -- one transmission
-pub same_text : (n : Noise) (h : Header) (place number : ℕ) (m : Match) (bytes : List ℕ) → 0 < n.strength.amp → m.qm ≡ 2 → IsMatch m → IsTransmission kind.Hard m.g bytes →
+pub same_text : (n : NoiseChannel) (h : Header) (place number : ℕ) (m : Match) (bytes : List ℕ) → 0 < n.amp → m.qm ≡ 2 → IsMatch m → IsTransmission kind.Hard m.g bytes →
     received_text n h place number m bytes ≡ noisy_text n h place number m bytes
 same_text n h place number m bytes some two is one =
     let bits = bits_in m bytes in
-    let t = transmission_of n place number in
+    let t = transmission_over n place number in
     let long : length bits ≡ m.g = length_bits m bytes one in
     let divides : m.g % 2 ≡ 0 = ap (λ (q : ℕ). m.g % q) (sym two) ∙ none_over m is in
     let even : length bits % 2 ≡ 0 = ap (λ (g : ℕ). g % 2) long ∙ divides in
     let all : length bits ≡ 2 * (m.g / 2) = omega (arith, long, divides) in
-    ap (λ (q : ℕ). bytes_of (received q n.strength.amp (noise_terms n.strength.noise t (2 * (m.g / q))) bits)) two
-    ∙ ap bytes_of (as_by_themselves n.strength t bits (2 * (m.g / 2)) some even all)
+    ap (λ (q : ℕ). bytes_of (received q n.amp (noise_terms n.noise t (2 * (m.g / q))) bits)) two
+    ∙ ap bytes_of (as_by_themselves (strength_of n) t bits (2 * (m.g / 2)) some even all)
 
 -- those of a block
-same_sent : (n : Noise) (h : Header) (place number : ℕ) (sends : List Sending) (bytes : List ℕ) → 0 < n.strength.amp → h.kind ≡ kind.Hard →
+same_sent : (n : NoiseChannel) (h : Header) (place number : ℕ) (sends : List Sending) (bytes : List ℕ) → 0 < n.amp → h.kind ≡ kind.Hard →
     All (λ s. s.m.qm ≡ 2) sends → All (λ s. IsMatch s.m) sends → AreTransmissions kind.Hard (map (λ s. s.m.g) sends) bytes →
     made_from (point_conversion n) h place number sends bytes ≡ made_from (noisy_conversion n) h place number sends bytes
 same_sent n h place number [] bytes some hard two are sent = refl
@@ -61,7 +62,7 @@ same_sent n h place number (s ∷ sends) bytes some hard twos all (first, rest, 
     ∙ ap (λ (xs : List ℕ). noisy_text n h place number s.m first ++ made_from v h place (number + 1) sends xs) (sym left)
     ∙ ap (λ (xs : List ℕ). noisy_text n h place number s.m xs ++ made_from v h place (number + 1) sends (drop size bytes)) (sym front)
 
-same_block : (n : Noise) (h : Header) (number : ℕ) (b : Block) → 0 < n.strength.amp → h.kind ≡ kind.Hard →
+same_block : (n : NoiseChannel) (h : Header) (number : ℕ) (b : Block) → 0 < n.amp → h.kind ≡ kind.Hard →
     All (λ s. s.m.qm ≡ 2) h.sends → All (λ s. IsMatch s.m) h.sends → IsBlock h b → (points n).block h number b ≡ (channel n).block h number b
 same_block n h number b some hard two are is =
     let P : Kind → Type 0 = λ k. AreTransmissions k (lengths h) b.bytes in
@@ -69,7 +70,7 @@ same_block n h number b some hard two are is =
     (same_sent n h number 0 h.sends b.bytes some hard two are (subst P hard is.sent))
 
 -- and those of what a stream still says
-same_step : (n : Noise) (h : Header) (number failed more place : ℕ) (left : List ℕ) (after : ℕ → List ℕ → Body) (s : Step) → 0 < n.strength.amp → h.kind ≡ kind.Hard →
+same_step : (n : NoiseChannel) (h : Header) (number failed more place : ℕ) (left : List ℕ) (after : ℕ → List ℕ → Body) (s : Step) → 0 < n.amp → h.kind ≡ kind.Hard →
     All (λ s. s.m.qm ≡ 2) h.sends → All (λ s. IsMatch s.m) h.sends → AreBytes left → step h more place left ≡ s →
     ((number failed place : ℕ) (rest : List ℕ) → AreBytes rest → 0 < more →
     body_answer (points n) h number failed (after place rest) ≡ body_answer (channel n) h number failed (after place rest)) →
@@ -85,7 +86,7 @@ same_step n h number failed more place left after (block b rest) some hard two a
 same_step n h number failed more place left after ended some hard two are bytes e others = refl
 same_step n h number failed more place left after (refused r) some hard two are bytes e others = refl
 
-pub same_body : (n : Noise) (h : Header) (number failed more place : ℕ) (left : List ℕ) → 0 < n.strength.amp → h.kind ≡ kind.Hard →
+pub same_body : (n : NoiseChannel) (h : Header) (number failed more place : ℕ) (left : List ℕ) → 0 < n.amp → h.kind ≡ kind.Hard →
     All (λ s. s.m.qm ≡ 2) h.sends → All (λ s. IsMatch s.m) h.sends → AreBytes left →
     body_answer (points n) h number failed (body h more place left) ≡ body_answer (channel n) h number failed (body h more place left)
 unfolding body

@@ -7,11 +7,9 @@ mod channel;
 mod converter;
 pub mod laws;
 mod points;
-mod received_points;
 mod scramble;
 mod upgrade;
 
-pub use channel::Channel;
 pub use converter::{Converted, Converter, Place};
 pub use points::Points;
 pub use scramble::Scramble;

@@ -4,21 +4,19 @@ ghost use Rattle.qam_points.specs.Reception.{received};
 ghost use Rattle.command_relay.specs.Points.{terms_on};
 
 use crate::bits::bits_in;
-use crate::channel::Channel;
 use crate::converter::{Converter, Place};
-use crate::received_points::receive;
 use coded_stream::{Header, Want};
 use lte_bits::{Bit, List, NoMemory, Soft};
-use qam_points::{demap, map};
+use qam_points::{demap, map, receive};
 use rate_match::Match;
-use soft_channel::noise_terms;
+use soft_channel::NoiseChannel;
 use std::alloc::Global;
 use stream_loop::push_bytes;
 
 /// A channel over which bits are sent as points.
 #[derive(Clone, Copy, Debug, Drop)]
 pub struct Points {
-    pub channel: Channel,
+    pub channel: NoiseChannel,
 }
 
 impl Points {
@@ -31,16 +29,15 @@ impl Points {
         bits: &[Bit],
     ) -> Result<List<Soft>, NoMemory>
         requires { length bits.now ≡ m.now.g }
-        ensures { IfOk result (λ softs. softs ≡ received m.now.qm self.now.channel.amp (terms_on (record {
-          strength = record { amp = self.now.channel.amp; noise = self.now.channel.noise };
-          seed = self.now.channel.seed;
-        }) place.block place.number m.now) bits.now) }
+        ensures { IfOk result (λ softs. softs ≡ received m.now.qm self.now.channel.amp
+            (terms_on self.now.channel place.block place.number m.now) bits.now) }
     {
-        let Channel { amp, noise, seed } = self.channel;
+        let channel = &self.channel;
+        let amp = channel.amp;
         let mut points = map(alloc, bits, m.qm())?;
         let count = 2 * points.as_slice().len();
         let block = place.block as u32;
-        let terms = noise_terms(alloc, count, noise, seed, block, place.number as u8)?;
+        let terms = channel.terms(alloc, count, block, place.number as u8)?;
         receive(points.as_mut_slice(), amp, terms.as_slice());
         demap(alloc, points.as_slice(), m.qm(), amp)
     }
@@ -49,10 +46,7 @@ impl Points {
 impl Converter for Points {
     ghost use Rattle.command_relay.specs.Points.{point_conversion};
 
-    ghost conversion = { λ s. point_conversion (record {
-      strength = record { amp = s.channel.amp; noise = s.channel.noise };
-      seed = s.channel.seed;
-    }) };
+    ghost conversion = { λ s. point_conversion s.channel };
 
     fn want(&self) -> Want {
         self.channel.want()

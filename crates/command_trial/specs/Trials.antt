@@ -4,40 +4,42 @@ use Rattle.std.specs.List.{range_with_len}
 use Rattle.std.specs.Str.{bytes_eq}
 use Rattle.model_sender.specs.Codeword.{codeword}
 use Rattle.model_sender.specs.Segmentation.{plan_of}
-use Rattle.model_receiver.specs.TransportBlocks.{Effort, outcome}
+use Rattle.model_receiver.specs.Limits.{DecoderLimits}
+use Rattle.model_receiver.specs.TransportBlocks.{outcome}
 use Rattle.model_receiver.specs.declared.result.TbOutcome.{TbOutcome}
 use Rattle.model_receiver.specs.declared.result.TbOutcome.TheVariants.{Delivered, Failed}
 use Rattle.rate_match.specs.declared.sends.Sending.{Sending}
 use Rattle.block_receive.specs.Receptions.{receptions}
-use Rattle.soft_channel.specs.Noise.{Strength, Transmission, noisy}
+use Rattle.soft_channel.specs.Channel.{NoiseChannel, strength_of, transmission_over}
+use Rattle.soft_channel.specs.Noise.{noisy}
 use Rattle.soft_channel.specs.TrialPayload.{trial_payload}
 use Rattle.run_loop.specs.Lines.{line_end}
 use Rattle.run_loop.specs.Reply.{Reply, unread}
 use Rattle.run_loop.specs.Step.{ending_of}
 use Rattle.command_trial.specs.declared.counts.Counts.{Counts}
+use Rattle.command_trial.specs.declared.trial.Trial as rust
 
--- the seed of all, how many blocks of how many bytes, their transmissions, how these are received, and how the
--- blocks are decoded
+-- how many blocks of how many bytes, their transmissions, the channel, from whose seed the payloads come too, and
+-- the limits of the decoder
 pub record Trial : Type 0 where
-  pub seed : ℕ
   pub blocks : ℕ
   pub tb : ℕ
   pub sends : List Sending
-  pub strength : Strength
-  pub effort : Effort
+  pub channel : NoiseChannel
+  pub limits : DecoderLimits
+
+abbrev pub trial_of : rust.Trial → Trial
+trial_of t = record { blocks = t.blocks; tb = t.tb; sends = t.sends; channel = t.channel; limits = t.limits }
 
 -- ---- a block, by its number from 0
 
 abbrev pub payload : Trial → (block : ℕ) → List ℕ
-payload t block = trial_payload t.seed block t.tb
-
-abbrev pub transmission : Trial → (block number : ℕ) → Transmission
-transmission t block number = record { seed = t.seed; block = block; number = number }
+payload t block = trial_payload t.channel.seed block t.tb
 
 -- what is received of a transmission: its codeword with noise
 abbrev pub received : Trial → (block number : ℕ) → Sending → List ℤ
 received t block number s =
-    noisy t.strength (transmission t block number) (codeword (payload t block) s.m s.rv)
+    noisy (strength_of t.channel) (transmission_over t.channel block number) (codeword (payload t block) s.m s.rv)
 
 -- of these transmissions, of which the first has this number, one after the other
 abbrev pub softs_from : Trial → (block number : ℕ) → List Sending → List ℤ
@@ -50,7 +52,7 @@ softs t block = softs_from t block 0 t.sends
 
 -- what its reception comes to
 unfoldable pub block_outcome : Trial → (block : ℕ) → TbOutcome
-block_outcome t block = outcome (plan_of t.tb) t.effort (receptions t.sends (softs t block))
+block_outcome t block = outcome (plan_of t.tb) t.limits (receptions t.sends (softs t block))
 
 -- ---- what is counted
 

@@ -3,20 +3,29 @@ ghost use Rattle.std.specs.Prelude.{◌≡◌, ◌≤◌, ◌<◌, ◌+◌, ◌+
 ghost use Rattle.model_sender.specs.Segmentation.{plan_of};
 ghost use Rattle.model_sender.specs.CircularBuffer.{Fits};
 ghost use Rattle.block_receive.specs.Receptions.{value_count};
-ghost use Rattle.command_trial.specs.Shown.{trial_of};
-ghost use Rattle.command_trial.specs.Trials.{block_outcome, payload, received, softs};
+ghost use Rattle.command_trial.specs.Trials.{trial_of, block_outcome, payload, received, softs};
 
 use crate::trial::Trial;
-use block_receive::receive_alone;
-use lte_bits::{NoMemory, Soft};
+use block_receive::Task;
+use lte_bits::{List, NoMemory, Soft};
 use model_receiver::TbOutcome;
 use rate_match::Coded;
 use rate_match::sends::Sending;
 use segmentation::plan;
-use soft_channel::noisy;
+use soft_channel::payload;
 use std::alloc::Global;
 
 impl Trial {
+    /// Returns the payload of a block.
+    pub fn payload(&self, alloc: Global, block: usize) -> Result<List<u8>, NoMemory>
+        requires { block < 4096 }
+        ensures value { IfOk result (λ bytes. bytes ≡ payload (trial_of self.now) block) }
+        ensures long { IfOk result (λ bytes. length bytes ≡ self.now.tb) }
+    {
+        let channel = &self.channel;
+        payload(alloc, self.tb, channel.seed, block as u32)
+    }
+
     /// Appends what is received of a transmission of a block, both counted from 0.
     #[tactic(auto, using(soft_channel::proofs::Lengths::length_noisy))]
     fn push_received(
@@ -42,15 +51,7 @@ impl Trial {
         let bits = sent.codeword(alloc, &sending.m, sending.rv)?;
         let block = block as u32;
         let number = number as u8;
-        let softs = noisy(
-            alloc,
-            bits.as_slice(),
-            self.amp,
-            self.noise,
-            self.seed,
-            block,
-            number,
-        )?;
+        let softs = self.channel.noisy(alloc, bits.as_slice(), block, number)?;
         values.extend_from_slice(softs.as_slice())?;
         Ok(())
     }
@@ -82,14 +83,9 @@ impl Trial {
         ensures { IfOk result (λ o. o ≡ block_outcome (trial_of self.now) block) }
     {
         let plan = plan(self.tb).unwrap();
+        let limits = self.limits;
+        let task = Task { plan, limits };
         let softs = self.softs(alloc, block, sent)?;
-        receive_alone(
-            alloc,
-            &plan,
-            &self.sends,
-            self.effort.windows,
-            self.effort.limit,
-            softs.as_slice(),
-        )
+        task.receive_alone(alloc, &self.sends, softs.as_slice())
     }
 }

@@ -3,15 +3,13 @@ ghost use Rattle.std.specs.Prelude.{◌≡◌, ◌≤◌, ℕ, List, IfOk};
 ghost use Rattle.std.specs.declared.option.Option.{Option};
 ghost use Rattle.run_loop.specs.Edges.{told};
 ghost use Rattle.run_loop.specs.Reply.{Ends};
-ghost use Rattle.command_trial.specs.Shown.{trial_of};
-ghost use Rattle.command_trial.specs.Trials.{counted, trial_line, trial_reply, IsTold};
+ghost use Rattle.command_trial.specs.Trials.{trial_of, counted, trial_line, trial_reply, IsTold};
 
 use crate::counts::Counts;
 use crate::trial::Trial;
 use edge_io::{Sink, SinkFault, write_all};
 use lte_bits::NoMemory;
 use run_loop::{SinkName, Status, end_line, push_number};
-use soft_channel::payload;
 use std::alloc::Global;
 
 /// Returns what is counted over all blocks.
@@ -20,7 +18,7 @@ fn counted(alloc: Global, trial: &Trial) -> Result<Counts, NoMemory>
 {
     let mut sums = Counts::new();
     for block in 0..trial.blocks {
-        let sent = payload(alloc, trial.tb, trial.seed, block as u32)?;
+        let sent = trial.payload(alloc, block)?;
         let outcome = trial.outcome(alloc, block, sent.as_slice())?;
         sums = sums.with(block, sent.as_slice(), &outcome);
     }

@@ -6,17 +6,17 @@ use Rattle.std.specs.declared.option.Option.{Option}
 use Rattle.std.specs.declared.result.Result.{Result}
 use Rattle.model_sender.specs.CircularBuffer.{Match}
 use Rattle.rate_match.specs.Matching.{is_g}
+use Rattle.model_receiver.specs.Limits.{DecoderLimits}
+use Rattle.soft_channel.specs.Channel.{NoiseChannel}
 use Rattle.command_words.specs.Blocks.{asked_of, blocks_given}
 use Rattle.command_words.specs.Operands.{first_fault, given, number_given, only}
 use Rattle.command_words.specs.Refusals.{refused, missing, unless}
-use Rattle.command_words.specs.Settings.{channel_numbers, decoding_numbers}
+use Rattle.command_words.specs.Settings.{decoder_limits, noise_channel}
 use Rattle.command_words.specs.Tables.{codeword_rules, g_number, qm_number, rv_of_one, encode_rules, decode_rules, workers_number, batch_rules, pipes_number, channel_rules, upgrade_rules, trial_rules, blocks_number, scramble_rules, rnti_number, q_number, slot_number, cell_number}
 use Rattle.command_words.specs.declared.blocks.CodedBlocks.{CodedBlocks}
 use Rattle.command_words.specs.declared.operands.Operand.{Operand}
 use Rattle.command_words.specs.declared.operands.WordRefusal.{WordRefusal}
 use Rattle.command_words.specs.declared.rules.Form.TheVariants.{Number, ForTransmissions}
-use Rattle.command_words.specs.declared.settings.ChannelNumbers.{ChannelNumbers}
-use Rattle.command_words.specs.declared.settings.DecodingNumbers.{DecodingNumbers}
 use Rattle.command_words.specs.declared.transmissions.Asked.{Asked}
 use Rattle.command_words.specs.declared.words.Command.{Command}
 use Rattle.command_words.specs.declared.words.Command.TheVariants.{Codeword, Encode, Decode, Batch, Channel, Upgrade, Trial, Scramble, Points}
@@ -58,38 +58,38 @@ encode_of operands = unless (first_fault encode_rules [] operands)
 
 -- ---- decode, batch, channel, points, upgrade
 
-abbrev pub decode_found : Option DecodingNumbers → (workers : Option ℕ) → Option Command
-decode_found (Some d) (Some workers) = Some (Decode d.windows d.limit workers)
+abbrev pub decode_found : Option DecoderLimits → (workers : Option ℕ) → Option Command
+decode_found (Some limits) (Some workers) = Some (Decode limits workers)
 decode_found _ _ = None
 
 abbrev pub decode_of : (operands : List (List ℕ)) → Result Command WordRefusal
 decode_of operands = unless (first_fault decode_rules [] operands)
-    (ok_or (decode_found (decoding_numbers operands) (number_given workers_number operands))
+    (ok_or (decode_found (decoder_limits operands) (number_given workers_number operands))
     (missing operands))
 
-abbrev pub batch_found : Option DecodingNumbers → (pipes : Option ℕ) → Option Command
-batch_found (Some d) (Some pipes) = Some (Batch pipes d.windows d.limit)
+abbrev pub batch_found : Option DecoderLimits → (pipes : Option ℕ) → Option Command
+batch_found (Some limits) (Some pipes) = Some (Batch pipes limits)
 batch_found _ _ = None
 
 abbrev pub batch_of : (operands : List (List ℕ)) → Result Command WordRefusal
 batch_of operands = unless (first_fault batch_rules [] operands)
-    (ok_or (batch_found (decoding_numbers operands) (number_given pipes_number operands))
+    (ok_or (batch_found (decoder_limits operands) (number_given pipes_number operands))
     (missing operands))
 
-abbrev pub channel_asked : (operands : List (List ℕ)) → Result ChannelNumbers WordRefusal
+abbrev pub channel_asked : (operands : List (List ℕ)) → Result NoiseChannel WordRefusal
 channel_asked operands = unless (first_fault channel_rules [] operands)
-    (ok_or (channel_numbers operands) (missing operands))
+    (ok_or (noise_channel operands) (missing operands))
 
-abbrev pub channel_with : Result ChannelNumbers WordRefusal → Result Command WordRefusal
-channel_with (Ok c) = Ok (Channel c.amp c.noise c.seed)
+abbrev pub channel_with : Result NoiseChannel WordRefusal → Result Command WordRefusal
+channel_with (Ok c) = Ok (Channel c)
 channel_with (Err refusal) = Err refusal
 
 abbrev pub channel_of : (operands : List (List ℕ)) → Result Command WordRefusal
 channel_of operands = channel_with (channel_asked operands)
 
 -- the operands of `channel`
-abbrev pub points_with : Result ChannelNumbers WordRefusal → Result Command WordRefusal
-points_with (Ok c) = Ok (Points c.amp c.noise c.seed)
+abbrev pub points_with : Result NoiseChannel WordRefusal → Result Command WordRefusal
+points_with (Ok c) = Ok (Points c)
 points_with (Err refusal) = Err refusal
 
 abbrev pub points_of : (operands : List (List ℕ)) → Result Command WordRefusal
@@ -111,18 +111,18 @@ scramble_of operands = unless (first_fault scramble_rules [] operands)
 
 -- ---- trial
 
-abbrev pub trial_with : ChannelNumbers → DecodingNumbers → (count : ℕ) → Result CodedBlocks WordRefusal
+abbrev pub trial_with : NoiseChannel → DecoderLimits → (count : ℕ) → Result CodedBlocks WordRefusal
     → Result Command WordRefusal
-trial_with c d count (Ok blocks) = Ok (Trial c.seed count blocks.tb blocks.sends c.amp c.noise d.windows d.limit)
-trial_with c d count (Err refusal) = Err refusal
+trial_with c limits count (Ok blocks) = Ok (Trial count blocks.tb blocks.sends c limits)
+trial_with c limits count (Err refusal) = Err refusal
 
-abbrev pub trial_found : Option Asked → Option ChannelNumbers → Option DecodingNumbers → (count : Option ℕ)
+abbrev pub trial_found : Option Asked → Option NoiseChannel → Option DecoderLimits → (count : Option ℕ)
     → (none : WordRefusal) → Result Command WordRefusal
-trial_found (Some asked) (Some c) (Some d) (Some count) none = trial_with c d count (blocks_given asked)
+trial_found (Some asked) (Some c) (Some limits) (Some count) none = trial_with c limits count (blocks_given asked)
 trial_found _ _ _ _ none = Err none
 
 -- G, Q_m and N_L are single numbers
 abbrev pub trial_of : (operands : List (List ℕ)) → Result Command WordRefusal
 trial_of operands = unless (first_fault trial_rules [] operands)
-    (trial_found (asked_of Number operands) (channel_numbers operands) (decoding_numbers operands)
+    (trial_found (asked_of Number operands) (noise_channel operands) (decoder_limits operands)
     (number_given blocks_number operands) (missing operands))

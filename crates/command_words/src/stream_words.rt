@@ -1,14 +1,16 @@
 //! The words of `decode`, `batch`, `channel`, `points` and `upgrade`, which read a stream.
 ghost use Rattle.std.specs.Prelude.{◌≡◌, IfOk};
-ghost use Rattle.command_words.specs.Lawful.{IsLawful, IsChannel};
+ghost use Rattle.soft_channel.specs.Channel.{IsChannel};
+ghost use Rattle.command_words.specs.Lawful.{IsLawful};
 ghost use Rattle.command_words.specs.Texts.{texts_of};
 ghost use Rattle.command_words.specs.Commands.{batch_of, decode_of, upgrade_of};
 ghost use Rattle.command_words.specs.Commands.{channel_asked, channel_of, points_of};
 
 use crate::operands::{WordRefusal, first_fault, missing, number_given};
-use crate::settings::{ChannelNumbers, channel_numbers, decoding_numbers};
+use crate::settings::{decoder_limits, noise_channel};
 use crate::tables::{BATCH, CHANNEL, DECODE, PIPES_NUMBER, UPGRADE, WORKERS_NUMBER};
 use crate::words::Command;
+use soft_channel::NoiseChannel;
 
 /// Returns what the words after `decode` ask for.
 pub fn decode_of(operands: &[&str]) -> Result<Command, WordRefusal>
@@ -18,12 +20,11 @@ pub fn decode_of(operands: &[&str]) -> Result<Command, WordRefusal>
     if let Some(refusal) = first_fault(&DECODE, operands) {
         return Err(refusal);
     }
-    let decoding = decoding_numbers(operands);
+    let limits = decoder_limits(operands);
     let workers = number_given(&WORKERS_NUMBER, operands);
-    match (decoding, workers) {
-        (Some(decoding), Some(workers)) => Ok(Command::Decode {
-            windows: decoding.windows,
-            limit: decoding.limit,
+    match (limits, workers) {
+        (Some(limits), Some(workers)) => Ok(Command::Decode {
+            limits,
             workers: workers as usize,
         }),
         _ => Err(missing(operands)),
@@ -38,27 +39,26 @@ pub fn batch_of(operands: &[&str]) -> Result<Command, WordRefusal>
     if let Some(refusal) = first_fault(&BATCH, operands) {
         return Err(refusal);
     }
-    let decoding = decoding_numbers(operands);
+    let limits = decoder_limits(operands);
     let pipes = number_given(&PIPES_NUMBER, operands);
-    match (decoding, pipes) {
-        (Some(decoding), Some(pipes)) => Ok(Command::Batch {
+    match (limits, pipes) {
+        (Some(limits), Some(pipes)) => Ok(Command::Batch {
             pipes: pipes as usize,
-            windows: decoding.windows,
-            limit: decoding.limit,
+            limits,
         }),
         _ => Err(missing(operands)),
     }
 }
 
-/// Returns the numbers of the channel, where the operands give nothing else.
-fn channel_asked(operands: &[&str]) -> Result<ChannelNumbers, WordRefusal>
+/// Returns the channel, where the operands give nothing else.
+fn channel_asked(operands: &[&str]) -> Result<NoiseChannel, WordRefusal>
     ensures value { result ≡ channel_asked (texts_of operands.now) }
-    ensures lawful { IfOk result (λ numbers. IsChannel numbers.amp numbers.noise) }
+    ensures lawful { IfOk result IsChannel }
 {
     if let Some(refusal) = first_fault(&CHANNEL, operands) {
         return Err(refusal);
     }
-    match channel_numbers(operands) {
+    match noise_channel(operands) {
         Some(channel) => Ok(channel),
         None => Err(missing(operands)),
     }
@@ -70,11 +70,7 @@ pub fn channel_of(operands: &[&str]) -> Result<Command, WordRefusal>
     ensures lawful { IfOk result IsLawful }
 {
     match channel_asked(operands) {
-        Ok(channel) => Ok(Command::Channel {
-            amp: channel.amp,
-            noise: channel.noise,
-            seed: channel.seed,
-        }),
+        Ok(channel) => Ok(Command::Channel(channel)),
         Err(refusal) => Err(refusal),
     }
 }
@@ -85,11 +81,7 @@ pub fn points_of(operands: &[&str]) -> Result<Command, WordRefusal>
     ensures lawful { IfOk result IsLawful }
 {
     match channel_asked(operands) {
-        Ok(channel) => Ok(Command::Points {
-            amp: channel.amp,
-            noise: channel.noise,
-            seed: channel.seed,
-        }),
+        Ok(channel) => Ok(Command::Points(channel)),
         Err(refusal) => Err(refusal),
     }
 }

@@ -12,7 +12,9 @@ use crate::scramble::scramble_of;
 use crate::stream_words::{batch_of, channel_of, decode_of, points_of, upgrade_of};
 use crate::trial::trial_of;
 use coded_stream::Version;
+use model_receiver::DecoderLimits;
 use rate_match::{Match, Sends};
+use soft_channel::NoiseChannel;
 
 /// A command with what its words gave.
 #[derive(Clone, Copy, Debug, PartialEq, Eq)]
@@ -30,41 +32,30 @@ pub enum Command {
         tb: usize,
         sends: Sends,
     },
-    /// The payloads of a soft stream: the most windows of a code block, 1 to 64, the most
-    /// iterations, 1 to 16, and the threads that decode, 1 to 16.
+    /// The payloads of a soft stream: the limits of the decoder, and the threads that decode, 1 to 16.
     Decode {
-        windows: usize,
-        limit: usize,
+        limits: DecoderLimits,
         workers: usize,
     },
     /// The payloads of a soft stream, with several transport blocks decoded at once: the threads
-    /// that decode transport blocks, 1 to 8, and windows and iterations as for `Decode`.
+    /// that decode transport blocks, 1 to 8, and the limits of the decoder.
     Batch {
         pipes: usize,
-        windows: usize,
-        limit: usize,
+        limits: DecoderLimits,
     },
-    /// A hard stream as soft values with noise: the value of a bit 0, 1 to 127, how strong the
-    /// noise is, 0 to 127, and the seed that it is drawn from.
-    Channel {
-        amp: u8,
-        noise: u8,
-        seed: u64,
-    },
+    /// A hard stream as soft values that come over a channel.
+    Channel(NoiseChannel),
     /// A stream in the second version of the container.
     Upgrade,
-    /// So many blocks, 1 to 4,096, drawn from a seed, and sent, received and decoded: the bytes of
-    /// each and the transmissions of each, all with one rate matching, and the numbers of `Channel`
-    /// and of `Decode`.
+    /// So many blocks, 1 to 4,096, drawn from the seed of a channel, and sent over it, received and
+    /// decoded: the bytes of each and the transmissions of each, all with one rate matching, the
+    /// channel, and the limits of the decoder.
     Trial {
-        seed: u64,
         blocks: usize,
         tb: usize,
         sends: Sends,
-        amp: u8,
-        noise: u8,
-        windows: usize,
-        limit: usize,
+        channel: NoiseChannel,
+        limits: DecoderLimits,
     },
     /// A stream with its hard bits scrambled or its soft values turned (36.211 6.3.1): n_RNTI, the
     /// codeword's number 0 or 1, the first slot 0 to 19, and the cell's identity 0 to 503.
@@ -74,13 +65,8 @@ pub enum Command {
         slot: u8,
         cell: u16,
     },
-    /// A hard stream as soft values of constellation points with noise (36.211 7.1): the numbers of
-    /// `Channel`.
-    Points {
-        amp: u8,
-        noise: u8,
-        seed: u64,
-    },
+    /// A hard stream as soft values of constellation points that come over a channel (36.211 7.1).
+    Points(NoiseChannel),
 }
 
 /// Returns what the words after a command's name ask for.

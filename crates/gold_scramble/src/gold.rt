@@ -12,7 +12,7 @@ use std::marker::Model;
 // 31 ones.
 const REGISTER: u64 = 0x7FFF_FFFF;
 
-// The 1,600 places before the sequence are left out in so many steps of so many places.
+// N_c = 1600 bits are discarded before the sequence, 16 at a time.
 const STEPS: u32 = 100;
 
 const STEP: u32 = 16;
@@ -38,7 +38,8 @@ impl Model for Gold {
 }
 
 impl Gold {
-    /// Returns the generator whose next bit is c(0): the first 1,600 places of x1 and x2 are left out.
+    /// Returns the generator whose next bit is c(0) (36.211 7.2): the first N_c = 1600 places of x1 and x2 are
+    /// discarded.
     pub fn new(init: Init) -> Gold
         ensures { result ≡ started init }
     {

@@ -71,8 +71,8 @@ fn turn_by_word(softs: &mut [Soft], word: u32)
     }
 }
 
-/// Turns a transmission's soft values of scrambled bits into those of the bits before: each is negated where
-/// the sequence's bit of its place is 1. Doing it twice gives them back.
+/// Descrambles a transmission's soft values (36.211 6.3.1, 5.3.1): each is negated where the sequence's bit of
+/// its place is 1. Doing it twice gives them back.
 pub fn turn_softs(softs: &mut [Soft], init: Init)
     ensures { softs.new ≡ turned init softs.old }
 {

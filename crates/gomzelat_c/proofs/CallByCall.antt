@@ -1,46 +1,46 @@
 -- What calls leave from transmission to transmission is what the definition has.
-use Rattle.std.proofs.Common.{◌≡◌, ℕ, zero, suc, ◌+◌, ◌-◌, ◌*◌, ◌<◌, ◌≤◌, ℤ, pos, neg_ℤ, ◌+ℤ◌, Bool, true, false, not, cond, ◌==◌, List, [], ◌∷◌, ◌++◌, length, map, take, drop, get_or, replicate, flat_map, fold, refl, sym, subst, ap, ◌∙◌, arith}
+use Rattle.std.proofs.Common.{◌≡◌, ℕ, zero, suc, ◌+◌, ◌<◌, ◌≤◌, ℤ, pos, Bool, true, false, not, cond, ◌==◌, List, [], ◌∷◌, ◌++◌, length, map, take, drop, get_or, replicate, flat_map, fold, refl, sym, ap, ◌∙◌, arith}
 use Rattle.std.specs.List.{range_with_len, sum, sum_by}
 use Rattle.std.specs.Prelude.{Option, None, Some, unwrap_or}
 use Rattle.std.proofs.Math.ListN as lists
 use Rattle.std.proofs.Math.Seq.{drop-length}
 use Rattle.std.proofs.lemmas.Int.{ints, clamps}
-use Rattle.std.proofs.lemmas.List.{drop-map, get_or-map, get_or-drop, get_or-replicate, get_or-take, get_or_append_left, length-append, length-drop, length-map, length-replicate, map-append, take-map, append-nil}
+use Rattle.std.proofs.lemmas.List.{drop-map, get_or-map, get_or-drop, get_or-replicate, get_or-take, get_or_append_left, length-append, length-map, length-replicate, take-map, append-nil}
 use Rattle.std.proofs.lemmas.List.Folds.{flat_map-map}
-use Rattle.std.proofs.lemmas.List.FromFn.{fill_by_all, get_or-map-range_with_len, length-map-range_with_len}
-use Rattle.std.proofs.lemmas.List.Sums.{fold-append, sum-map}
+use Rattle.std.proofs.lemmas.List.FromFn.{fill_by_all, get_or-map-range_with_len}
+use Rattle.std.proofs.lemmas.List.Sums.{sum-map}
 use Rattle.lte_bits.specs.Bits.{bit_of, digit}
 use Rattle.lte_bits.specs.Softs.{IsWithin, clamped}
 use Rattle.lte_bits.specs.declared.bit.Bit.{Bit}
 use Rattle.lte_bits.specs.declared.bit.Bit.TheVariants.{Zero, One}
-use Rattle.lte_bits.specs.declared.block.Block.{Block}
-use Rattle.model_sender.specs.Segmentation.{Plan, fill, plan_of, size}
+use Rattle.model_sender.specs.Segmentation.{Plan, plan_of, size}
 use Rattle.model_sender.specs.declared.spot.Spot.{Spot}
 use Rattle.model_receiver.specs.SoftCells.{Reception, added, reception, soft_cell, values_for}
 use Rattle.model_receiver.specs.declared.result.CodeResult.{CodeResult}
 use Rattle.model_receiver.specs.declared.result.TbOutcome.{TbOutcome}
 use Rattle.model_receiver.specs.declared.result.TbOutcome.TheVariants.{Delivered, Failed}
-use Rattle.model_receiver.specs.TransportBlocks.{Effort, Held, all_passed, block_result, delivers, held_after, if_passed, iterations_of, outcome, outcome_from, payload_of, tried, tried_block}
+use Rattle.model_receiver.specs.Limits.{DecoderLimits}
+use Rattle.model_receiver.specs.TransportBlocks.{Held, all_passed, block_result, delivers, held_after, if_passed, iterations_of, outcome, outcome_from, payload_of, tried, tried_block}
 use Rattle.rate_match.specs.declared.sends.Sending.{Sending}
 use Rattle.segmentation.specs.Shape.{AreBlocksOf}
 use Rattle.segmentation.proofs.OfPlans.{is_plan}
-use Rattle.soft_buffers.specs.Buffers.{Buffers, HaveTaken, Hold, IsBit, cell_index, cell_of, cells_of_block}
+use Rattle.soft_buffers.specs.Buffers.{Buffers, Hold, cell_index, cell_of, cells_of_block}
 use Rattle.soft_buffers.specs.Parts.{before, part}
 use Rattle.soft_buffers.specs.Flat.{by_block, cell_count, cells_in, combined}
 use Rattle.soft_buffers.proofs.Adding.{index-below}
 use Rattle.soft_buffers.proofs.Codewords.{hold-more}
-use Rattle.soft_buffers.proofs.FlatCells.{by_block-at, combined-long, combined-taken}
+use Rattle.soft_buffers.proofs.FlatCells.{by_block-at, combined-taken}
 use Rattle.soft_buffers.proofs.PartLaws.{part-is}
 use Rattle.rate_match.proofs.BlockNumbers.{block-numbers}
 use Rattle.block_receive.specs.Receptions.{receptions}
-use Rattle.block_receive.specs.Tries.{tried_from}
+use Rattle.block_receive.specs.Held.{IsShaped}
 use Rattle.block_receive.proofs.BlockResults.{AreLawful, held-at, tried-at, tried-long, unpassed}
-use Rattle.block_receive.proofs.ShapedBlocks.{AreShaped, IsShaped, blocks-count, blocks-shaped, from-received, from-shaped}
+use Rattle.block_receive.proofs.ShapedBlocks.{AreShaped, blocks-count, blocks-shaped, from-received, from-shaped}
 use Rattle.gomzelat_c.specs.Buffers.{with_front}
 use Rattle.gomzelat_c.specs.Receiving.{received}
 use Rattle.gomzelat_c.specs.Rounds.{State, by_calls, decoded, fresh, results_of, with_transmission}
 use Rattle.gomzelat_c.specs.State.{bit_count, cells_of, digits_of, entry_of, kept, kept_result, no_entry}
-use Rattle.gomzelat_c.specs.Steps.{came, effort_of}
+use Rattle.gomzelat_c.specs.Steps.{came, limits_of}
 use Rattle.gomzelat_c.specs.Transmissions.{limit_in, transmission_of, transmissions_of}
 use Rattle.gomzelat_c.specs.declared.receiver.Receiver.{Receiver}
 use Rattle.gomzelat_c.specs.declared.state.CodeBlock.{CodeBlock}
@@ -202,14 +202,14 @@ record MayReceive (bytes : ℕ) (r : Receiver) : Type 0 where
   some_iterations : 1 ≤ r.limit
   few_iterations : r.limit ≤ 16
 
-lawful-of : (bytes : ℕ) (r : Receiver) → MayReceive bytes r → AreLawful (plan_of bytes) (effort_of r)
+lawful-of : (bytes : ℕ) (r : Receiver) → MayReceive bytes r → AreLawful (plan_of bytes) (limits_of r)
 lawful-of bytes r may = record {
   fills = λ q below. (let block = block-numbers (plan_of bytes) q (is_plan bytes may.some may.few) below in block.fills);
   some = may.some_iterations;
   few = may.few_iterations;
 }
 
-tried-same : (plan : Plan) (e : Effort) (xs : List Reception) (h g : Held) → ((r : ℕ) → r < plan.c → get_or h r None ≡ get_or g r None) → tried plan e xs h ≡ tried plan e xs g
+tried-same : (plan : Plan) (e : DecoderLimits) (xs : List Reception) (h g : Held) → ((r : ℕ) → r < plan.c → get_or h r None ≡ get_or g r None) → tried plan e xs h ≡ tried plan e xs g
 tried-same plan e xs h g same =
     fill_by_all (tried_block plan e xs g) (tried plan e xs h) plan.c unpassed (tried-long plan e xs h)
     (λ r below. tried-at plan e xs h r below ∙ ap (λ (o : Option CodeResult). unwrap_or o (block_result plan e xs r)) (same r below))
@@ -224,13 +224,13 @@ hold-after bytes rec t v xs last s is =
     hold-next plan s.cells (drop (length new) s.cells) xs x is.hold
 
 results-are : (bytes : ℕ) (rec : Receiver) (t : Transmission) (v : List ℤ) (xs : List Reception) (last : List CodeResult) (s : State) → IsReached bytes xs last s
-    → results_of bytes rec (with_transmission bytes rec t v s) ≡ tried (plan_of bytes) (effort_of rec) (xs ++ came t rec.n_ir v ∷ []) (held_after last)
+    → results_of bytes rec (with_transmission bytes rec t v s) ≡ tried (plan_of bytes) (limits_of rec) (xs ++ came t rec.n_ir v ∷ []) (held_after last)
 results-are bytes rec t v xs last s is =
     let plan : Plan = plan_of bytes in
     let now : List Reception = xs ++ came t rec.n_ir v ∷ [] in
     let held : Held = held_after (kept plan s.blocks s.bits) in
-    from-received (buffers plan (with_transmission bytes rec t v s).cells) (effort_of rec) now held (hold-after bytes rec t v xs last s is)
-    ∙ tried-same plan (effort_of rec) now held (held_after last) is.held
+    from-received (buffers plan (with_transmission bytes rec t v s).cells) (limits_of rec) now held (hold-after bytes rec t v xs last s is)
+    ∙ tried-same plan (limits_of rec) now held (held_after last) is.held
 
 reached-next : (bytes : ℕ) (rec : Receiver) (t : Transmission) (v : List ℤ) (xs : List Reception) (last : List CodeResult) (s : State) → MayReceive bytes rec → IsReached bytes xs last s
     → IsReached bytes (xs ++ came t rec.n_ir v ∷ []) (results_of bytes rec (with_transmission bytes rec t v s)) (decoded bytes rec (with_transmission bytes rec t v s))
@@ -239,7 +239,7 @@ reached-next bytes rec t v xs last s may is =
     let s1 : State = with_transmission bytes rec t v s in
     let results : List CodeResult = results_of bytes rec s1 in
     let are : AreBlocksOf plan (map (λ x. x.block) results) =
-    from-shaped plan (effort_of rec) (cells_of plan s1.cells) (kept plan s.blocks s.bits) (lawful-of bytes rec may) (kept-shaped plan s.blocks s.bits is.bits_long) in
+    from-shaped plan (limits_of rec) (cells_of plan s1.cells) (kept plan s.blocks s.bits) (lawful-of bytes rec may) (kept-shaped plan s.blocks s.bits is.bits_long) in
     let entries : List CodeBlock = map entry_of results in
     let digits : List ℕ = digits_of results in
     let many : length entries ≡ plan.c = length-map results entry_of ∙ blocks-count plan results are in
@@ -257,7 +257,7 @@ reached-next bytes rec t v xs last s may is =
 -- the definition's outcome, from here on
 abbrev left_of : (bytes : ℕ) → Receiver → List Reception → List CodeResult → List Transmission → List ℤ → TbOutcome
 left_of bytes rec xs last ts values =
-    outcome_from (plan_of bytes) (effort_of rec) xs last (receptions (transmissions_of (limit_in rec.n_ir) ts) (map (clamped 127) values))
+    outcome_from (plan_of bytes) (limits_of rec) xs last (receptions (transmissions_of (limit_in rec.n_ir) ts) (map (clamped 127) values))
 
 one-more : (bytes : ℕ) (rec : Receiver) (t : Transmission) (ts : List Transmission) (values : List ℤ) (xs : List Reception) (last : List CodeResult) (s : State) (n : ℕ)
     → IsReached bytes xs last s → n ≡ length xs
@@ -267,7 +267,7 @@ one-more : (bytes : ℕ) (rec : Receiver) (t : Transmission) (ts : List Transmis
     → by_calls bytes rec s n (t ∷ ts) values ≡ left_of bytes rec xs last (t ∷ ts) values
 one-more bytes rec t ts values xs last s n is count rest =
     let plan : Plan = plan_of bytes in
-    let e : Effort = effort_of rec in
+    let e : DecoderLimits = limits_of rec in
     let x : Reception = came t rec.n_ir (take t.g values) in
     let now : List Reception = xs ++ x ∷ [] in
     let new : List CodeResult = tried plan e now (held_after last) in

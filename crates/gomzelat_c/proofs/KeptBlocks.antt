@@ -1,5 +1,5 @@
 -- What entries and bits tell, and what is written of results.
-use Rattle.std.proofs.Common.{◌≡◌, ℕ, Bool, refl, subst, ◌*◌, ◌<◌, ◌≤◌, List, [], ◌∷◌, length, map, flat_map, take, drop, sym, ap, ◌∙◌, arith}
+use Rattle.std.proofs.Common.{◌≡◌, ℕ, Bool, refl, subst, ◌<◌, ◌≤◌, List, [], ◌∷◌, length, map, drop, sym, ap, ◌∙◌, arith}
 use Rattle.std.specs.List.{range_with_len, sum}
 use Rattle.std.proofs.lemmas.List.{length-drop, length-map, length-take}
 use Rattle.std.proofs.lemmas.List.Concat.{length-flat_map}
@@ -13,7 +13,8 @@ use Rattle.segmentation.specs.Shape.{AreBlocksOf}
 use Rattle.soft_buffers.specs.Parts.{before, part}
 use Rattle.soft_buffers.proofs.PartLaws.{before-within}
 use Rattle.block_receive.proofs.BlockResults.{unpassed}
-use Rattle.block_receive.proofs.ShapedBlocks.{IsShaped, blocks-count, shaped-blocks}
+use Rattle.block_receive.specs.Held.{IsShaped}
+use Rattle.block_receive.proofs.ShapedBlocks.{shaped-blocks}
 use Rattle.gomzelat_c.specs.State.{bit_count, digits_of, kept, kept_result}
 use Rattle.gomzelat_c.specs.declared.state.CodeBlock.{CodeBlock}
 

@@ -1,5 +1,5 @@
 -- A code block that is decoded by itself: its shape, its streams, and its bits.
-use Rattle.std.proofs.Common.{◌≡◌, ℕ, ◌+◌, ◌<◌, ◌≤◌, ◌==◌, find, Option, None, Some, Contains, ℤ, List, length, refl, subst, sym, ap, ◌∙◌, arith}
+use Rattle.std.proofs.Common.{◌≡◌, ℕ, ◌<◌, ◌≤◌, ◌==◌, find, Option, None, Some, Contains, ℤ, List, length, refl, subst, sym, ap, ◌∙◌, arith}
 use Rattle.std.specs.Prelude.{is_some, IsSome, ◌↔◌, true, false}
 use Rattle.std.proofs.lemmas.Nat.Gcd.{dvd_of_mod-eq-zero}
 use Rattle.lte_bits.specs.declared.block.SoftStreams.{SoftStreams}
@@ -12,7 +12,7 @@ use Rattle.model_receiver.specs.HalfIteration.{IsShape, Shape, shape_of}
 use Rattle.model_receiver.specs.declared.result.CheckKind.{CheckKind}
 use Rattle.model_receiver.specs.declared.result.CodeResult.{CodeResult}
 use Rattle.model_receiver.proofs.DecodedOnce.{decoded-is}
-use Rattle.serial_decode.specs.Views.{AreStreams}
+use Rattle.half_iteration.specs.Views.{AreStreams}
 use Rattle.soft_buffers.specs.Buffers.{streams_of_cells}
 use Rattle.block_receive.proofs.LawfulShapes.{IsCount}
 use Rattle.block_receive.proofs.StreamLengths.{bits-long, streams-long}

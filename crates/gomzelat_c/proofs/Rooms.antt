@@ -3,7 +3,8 @@ use Rattle.std.proofs.Common.{◌≡◌, ℕ, ◌*◌, ◌≤◌, Bool, true, fa
 use Rattle.std.proofs.lemmas.List.{length-take}
 use Rattle.model_sender.specs.Segmentation.{Plan, plan_of}
 use Rattle.model_receiver.specs.SoftCells.{Reception}
-use Rattle.model_receiver.specs.TransportBlocks.{Effort, delivers, held_after, iterations_of, outcome, outcome_from, payload_of, tried, whole_of}
+use Rattle.model_receiver.specs.Limits.{DecoderLimits}
+use Rattle.model_receiver.specs.TransportBlocks.{delivers, held_after, iterations_of, outcome, outcome_from, payload_of, tried, whole_of}
 use Rattle.model_receiver.specs.declared.result.CodeResult.{CodeResult}
 use Rattle.model_receiver.specs.declared.result.TbOutcome.{TbOutcome}
 use Rattle.model_receiver.specs.declared.result.TbOutcome.TheVariants.{Delivered, Failed}
@@ -19,7 +20,7 @@ either : (b : Bool) (one other : TbOutcome) (room : ℕ) → HasRoom one room �
 either true one other room h k = h
 either false one other room h k = k
 
-from_here : (plan : Plan) (e : Effort) (seen : List Reception) (last : List CodeResult) (xs : List Reception) → HasRoom (outcome_from plan e seen last xs) plan.bytes
+from_here : (plan : Plan) (e : DecoderLimits) (seen : List Reception) (last : List CodeResult) (xs : List Reception) → HasRoom (outcome_from plan e seen last xs) plan.bytes
 from_here plan e seen last [] = tt
 from_here plan e seen last (x ∷ xs) =
     let now = seen ++ x ∷ [] in
@@ -27,7 +28,7 @@ from_here plan e seen last (x ∷ xs) =
     either (delivers plan results) (Delivered (payload_of plan results) (length now) (iterations_of results)) (outcome_from plan e now results xs) plan.bytes
     (payload_few plan results) (from_here plan e now results xs)
 
-pub has_room : (plan : Plan) (e : Effort) (xs : List Reception) → HasRoom (outcome plan e xs) plan.bytes
+pub has_room : (plan : Plan) (e : DecoderLimits) (xs : List Reception) → HasRoom (outcome plan e xs) plan.bytes
 unfolding outcome
 has_room plan e xs = from_here plan e [] [] xs
 

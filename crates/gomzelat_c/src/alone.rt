@@ -2,7 +2,7 @@
 ghost use Rattle.std.specs.Prelude.{◌≡◌, ◌+◌, ◌*◌, ◌≤◌, ◌<◌, IfOk, length};
 ghost use Rattle.model_receiver.specs.Decoding.{code_result};
 ghost use Rattle.model_receiver.specs.SoftCells.{begun_with};
-ghost use Rattle.serial_decode.specs.Views.{AreStreams};
+ghost use Rattle.half_iteration.specs.Views.{AreStreams};
 ghost use Rattle.soft_buffers.specs.Buffers.{streams_of_cells};
 
 use lane_windows::decode_block_lanes;

@@ -3,14 +3,14 @@ ghost use Rattle.std.specs.Prelude.{◌≡◌, ◌≢◌, ◌≤◌, IfOk, OnOk,
 ghost use Rattle.std.specs.Result.{result_err};
 ghost use Rattle.soft_channel.specs.TrialPayload.{trial_payload};
 ghost use Rattle.gomzelat_c.specs.Buffers.{with_front};
-ghost use Rattle.gomzelat_c.specs.Noise.{noisy_bits};
+ghost use Rattle.gomzelat_c.specs.Noise.{noise_channel, noisy_bits};
 ghost use Rattle.gomzelat_c.specs.Refusals.{IsDone, IsTold};
 ghost use Rattle.gomzelat_c.specs.Tests.{byte_count, first_failed, length_test, noise_tests};
 
 use crate::buffers::{bits_of, write_bytes, write_softs};
 use crate::refusal::{Refusal, accept, told};
 use segmentation::MOST_BYTES;
-use soft_channel::{noisy, payload};
+use soft_channel::{NoiseChannel, payload};
 use std::alloc::Global;
 
 /// A channel: the seed that its noise comes from; the amplitude of sent bits, 1 to 127; and the noise on
@@ -23,22 +23,29 @@ pub struct Channel {
     pub noise: u32,
 }
 
-/// Tests what is asked of a channel.
+/// Returns the channel of so many bits of a transmission; or what is refused.
 fn accepted(
     count: usize,
     bytes: usize,
     channel: &Channel,
     number: u32,
     room: usize,
-) -> Result<(), Refusal>
+) -> Result<NoiseChannel, Refusal>
     ensures refused { result_err result ≡ first_failed (noise_tests count bytes channel.now number room) }
+    ensures channel { IfOk result (λ own. own ≡ noise_channel channel.now) }
+    ensures number { OnOk result (number ≤ 7) }
     ensures room { OnOk result (count ≤ room) }
 {
     accept(count.div_ceil(8) <= bytes, Refusal::BadBits)?;
     accept((1..=127).contains(&channel.amp), Refusal::BadAmp)?;
     accept(channel.noise <= 127, Refusal::BadNoise)?;
     accept(number <= 7, Refusal::BadNumber)?;
-    accept(count <= room, Refusal::ShortOutput)
+    accept(count <= room, Refusal::ShortOutput)?;
+    Ok(NoiseChannel {
+        amp: channel.amp as u8,
+        noise: channel.noise as u8,
+        seed: channel.seed,
+    })
 }
 
 fn write_noisy(
@@ -56,17 +63,9 @@ fn write_noisy(
         ≡ with_front (noisy_bits count bits.now channel.now block number) out.old) }
     ensures kept { OnErr result (out.new ≡ out.old) }
 {
-    accepted(count, bits.len(), channel, number, out.len())?;
+    let channel = accepted(count, bits.len(), channel, number, out.len())?;
     let bits = bits_of(alloc, count, bits)?;
-    let softs = noisy(
-        alloc,
-        bits.as_slice(),
-        channel.amp as u8,
-        channel.noise as u8,
-        channel.seed,
-        block,
-        number as u8,
-    )?;
+    let softs = channel.noisy(alloc, bits.as_slice(), block, number as u8)?;
     write_softs(out, softs.as_slice());
     Ok(())
 }

@@ -7,12 +7,11 @@ ghost use Rattle.model_receiver.specs.TransportBlocks.{held_after, payload_of};
 ghost use Rattle.rate_match.specs.Matching.{limit_of};
 ghost use Rattle.segmentation.specs.Shape.{AreBlocksOf};
 ghost use Rattle.soft_buffers.specs.Flat.{cell_count};
-ghost use Rattle.block_receive.specs.Effort.{effort_in};
 ghost use Rattle.block_receive.specs.Tries.{tried_from};
 ghost use Rattle.gomzelat_c.specs.Buffers.{with_front};
 ghost use Rattle.gomzelat_c.specs.Refusals.{IsDone, IsTold};
 ghost use Rattle.gomzelat_c.specs.State.{bit_count, cells_of, digits_of, entry_of, kept};
-ghost use Rattle.gomzelat_c.specs.Steps.{delivery, effort_of, results_after};
+ghost use Rattle.gomzelat_c.specs.Steps.{delivery, limits_of, results_after};
 ghost use Rattle.gomzelat_c.specs.Tests.{decode_tests, first_failed};
 ghost use Rattle.gomzelat_c.specs.Transmissions.{limit_in};
 
@@ -21,7 +20,7 @@ use crate::receiver::Receiver;
 use crate::refusal::{Refusal, accept, told};
 use crate::state::{CodeBlock, bit_count, digits_of, entries_of, kept, write_entries};
 use crate::transmission::buffer_of;
-use block_receive::{Effort, Task, carried_by, try_alone};
+use block_receive::{DecoderLimits, Task, carried_by, try_alone};
 use lte_bits::{List, NoMemory};
 use model_receiver::CodeResult;
 use rate_match::{Buffer, fits_buffer};
@@ -43,7 +42,7 @@ pub struct Rooms {
 fn accepted(bytes: usize, receiver: &Receiver, rooms: &Rooms) -> Result<Task, Refusal>
     ensures refused { result_err result ≡ first_failed (decode_tests bytes receiver.now rooms.now) }
     ensures plan { IfOk result (λ task. task.plan ≡ plan_of bytes) }
-    ensures effort { IfOk result (λ task. effort_in task ≡ effort_of receiver.now) }
+    ensures limits { IfOk result (λ task. task.limits ≡ limits_of receiver.now) }
     ensures fits { OnOk result (FitsIn (limit_in receiver.now.n_ir) (plan_of bytes).c (plan_of bytes).k_plus) }
     ensures payload { OnOk result (bytes ≤ rooms.now.payload) }
     ensures cells { OnOk result (cell_count (plan_of bytes) ≤ rooms.now.cells) }
@@ -63,7 +62,7 @@ fn accepted(bytes: usize, receiver: &Receiver, rooms: &Rooms) -> Result<Task, Re
     accept(bit_count(&plan) <= rooms.bits, Refusal::ShortBits)?;
     Ok(Task {
         plan,
-        effort: Effort {
+        limits: DecoderLimits {
             windows: receiver.windows as usize,
             limit: receiver.limit as usize,
         },
@@ -82,7 +81,7 @@ fn results_of(
     requires cells { cell_count task.now.plan ≤ length cells.now }
     requires last { AreBlocksOf task.now.plan (map (λ x. x.block) last.items) }
     ensures results { IfOk result (λ results. results.items ≡ tried_from task.now.plan
-        (effort_in task.now) (cells_of task.now.plan cells.now) (held_after last.items)) }
+        task.now.limits (cells_of task.now.plan cells.now) (held_after last.items)) }
     ensures shaped { IfOk result (λ results. AreBlocksOf task.now.plan
         (map (λ x. x.block) results.items)) }
 {

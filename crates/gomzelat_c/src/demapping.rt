@@ -1,7 +1,7 @@
 //! Soft values of received points.
 ghost use Rattle.std.specs.Prelude.{◌≡◌, ◌≢◌, ◌≤◌, ◌*◌, All, IfOk, OnOk, OnErr, length};
 ghost use Rattle.std.specs.Result.{result_err};
-ghost use Rattle.qam_points.specs.Constellation.{IsOrder};
+ghost use Rattle.qam_points.specs.Constellation.{IsModulationOrder};
 ghost use Rattle.qam_points.specs.Demapping.{IsNearby};
 ghost use Rattle.gomzelat_c.specs.Buffers.{with_front};
 ghost use Rattle.gomzelat_c.specs.PointsInC.{demap_tests, demapped_values, in_the_plane};
@@ -18,7 +18,7 @@ use std::alloc::Global;
 /// Tests what is asked of points that are to be demapped.
 fn accepted(points: &[Point], qm: u32, amp: u32, room: usize) -> Result<(), Refusal>
     ensures refused { result_err result ≡ first_failed (demap_tests points.now qm amp room) }
-    ensures order { OnOk result (IsOrder qm) }
+    ensures order { OnOk result (IsModulationOrder qm) }
     ensures amp { OnOk result ((1 ≤ amp) × (amp ≤ 127)) }
     ensures near { OnOk result (All (λ p. IsNearby (in_the_plane p)) points.now) }
     ensures room { OnOk result (qm * length points.now ≤ room) }
@@ -31,7 +31,7 @@ fn accepted(points: &[Point], qm: u32, amp: u32, room: usize) -> Result<(), Refu
 
 /// Returns the soft values of points that are accepted.
 fn demapped(alloc: Global, points: &[Point], qm: u32, amp: u32) -> Result<List<Soft>, NoMemory>
-    requires order { IsOrder qm }
+    requires order { IsModulationOrder qm }
     requires amp { (1 ≤ amp) × (amp ≤ 127) }
     requires near { All (λ p. IsNearby (in_the_plane p)) points.now }
     ensures softs { IfOk result (λ softs. softs ≡ demapped_values qm amp points.now) }

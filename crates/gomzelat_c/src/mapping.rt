@@ -1,7 +1,7 @@
 //! Bits as points (36.211 7.1).
 ghost use Rattle.std.specs.Prelude.{◌≡◌, ◌≢◌, ◌≤◌, ◌/◌, ◌%◌, OnOk, OnErr, length};
 ghost use Rattle.std.specs.Result.{result_err};
-ghost use Rattle.qam_points.specs.Constellation.{IsOrder};
+ghost use Rattle.qam_points.specs.Constellation.{IsModulationOrder};
 ghost use Rattle.gomzelat_c.specs.Buffers.{with_front};
 ghost use Rattle.gomzelat_c.specs.PointsInC.{map_tests, mapped_points};
 ghost use Rattle.gomzelat_c.specs.Refusals.{IsDone, IsTold};
@@ -16,7 +16,7 @@ use std::alloc::Global;
 /// Tests what is asked of bits that are to be mapped.
 fn accepted(count: usize, bytes: usize, qm: u32, room: usize) -> Result<(), Refusal>
     ensures refused { result_err result ≡ first_failed (map_tests count bytes qm room) }
-    ensures order { OnOk result (IsOrder qm) }
+    ensures order { OnOk result (IsModulationOrder qm) }
     ensures bits { OnOk result (byte_count count ≤ bytes) }
     ensures whole { OnOk result (count % qm ≡ 0) }
     ensures room { OnOk result (count / qm ≤ room) }

@@ -2,7 +2,7 @@
 ghost use Rattle.std.specs.Prelude.{◌≡◌, ◌≤◌, IfOk, OnOk, [], ◌∷◌, length, map};
 ghost use Rattle.std.specs.List.{list_all};
 ghost use Rattle.std.specs.Result.{result_err};
-ghost use Rattle.qam_points.specs.Constellation.{IsOrder};
+ghost use Rattle.qam_points.specs.Constellation.{IsModulationOrder};
 ghost use Rattle.gomzelat_c.specs.Buffers.{with_front};
 ghost use Rattle.gomzelat_c.specs.PointsInC.{for_the_caller, in_the_plane, is_nearby, order_test};
 ghost use Rattle.gomzelat_c.specs.Tests.{first_failed};
@@ -22,7 +22,7 @@ pub struct Point {
 /// Tests how many bits a point has.
 pub fn accept_order(qm: u32) -> Result<(), Refusal>
     ensures refused { result_err result ≡ first_failed (order_test qm ∷ []) }
-    ensures order { OnOk result (IsOrder qm) }
+    ensures order { OnOk result (IsModulationOrder qm) }
 {
     accept(qm == 2 || qm == 4 || qm == 6, Refusal::BadQm)
 }

@@ -6,7 +6,6 @@ ghost use Rattle.model_sender.specs.CircularBuffer.{FitsIn};
 ghost use Rattle.model_sender.specs.Segmentation.{plan_of};
 ghost use Rattle.model_receiver.specs.TransportBlocks.{outcome};
 ghost use Rattle.rate_match.specs.Sendings.{common};
-ghost use Rattle.block_receive.specs.Effort.{effort_of};
 ghost use Rattle.block_receive.specs.Receptions.{receptions, value_count};
 ghost use Rattle.gomzelat_c.specs.Receiving.{HasRoom, received, summary, with_payload};
 ghost use Rattle.gomzelat_c.specs.Refusals.{IsDone, IsTold};
@@ -18,7 +17,7 @@ use crate::receiver::{Outcome, Receiver};
 use crate::refusal::{Refusal, accept, told};
 use crate::series::{bit_count, series_of};
 use crate::transmission::{Transmission, buffer_of};
-use block_receive::{Effort, receive_alone};
+use block_receive::{DecoderLimits, Task};
 use lte_bits::NoMemory;
 use model_receiver::TbOutcome;
 use rate_match::{Sends, fits_buffer};
@@ -28,24 +27,23 @@ use std::alloc::Global;
 /// What is to be received, with everything tested.
 #[derive(Clone, Copy)]
 struct Job {
-    plan: Plan,
+    task: Task,
     sends: Sends,
-    effort: Effort,
 }
 
-/// Returns the effort of a receiver for transmissions of so many bits, from so many soft values and with room
+/// Returns the limits of a receiver for transmissions of so many bits, from so many soft values and with room
 /// for so many bytes; or what is refused.
-fn effort(
+fn limits(
     plan: &Plan,
     bits: usize,
     receiver: &Receiver,
     values: usize,
     room: usize,
-) -> Result<Effort, Refusal>
+) -> Result<DecoderLimits, Refusal>
     requires plan { plan.now ≡ plan_of plan.now.bytes }
     ensures refused { result_err result
         ≡ first_failed (test_receiver plan.now.bytes bits receiver.now values room) }
-    ensures effort { IfOk result (λ effort. effort_of effort
+    ensures limits { IfOk result (λ limits. limits
         ≡ record { windows = receiver.now.windows; limit = receiver.now.limit }) }
     ensures fits { OnOk result (FitsIn (limit_in receiver.now.n_ir) plan.now.c plan.now.k_plus) }
     ensures values { OnOk result (values ≡ bits) }
@@ -59,7 +57,7 @@ fn effort(
     accept((1..=16).contains(&receiver.limit), Refusal::BadLimit)?;
     accept(values == bits, Refusal::BadValues)?;
     accept(plan.bytes <= room, Refusal::ShortOutput)?;
-    Ok(Effort {
+    Ok(DecoderLimits {
         windows: receiver.windows as usize,
         limit: receiver.limit as usize,
     })
@@ -76,17 +74,17 @@ fn accepted(
 ) -> Result<Job, Refusal>
     ensures refused { result_err result
         ≡ first_failed (reception_tests bytes transmissions.now receiver.now values room) }
-    ensures plan { IfOk result (λ job. job.plan ≡ plan_of bytes) }
+    ensures plan { IfOk result (λ job. job.task.plan ≡ plan_of bytes) }
     ensures sends { IfOk result
         (λ job. job.sends ≡ transmissions_of (limit_in receiver.now.n_ir) transmissions.now) }
-    ensures effort { IfOk result (λ job. effort_of job.effort
+    ensures limits { IfOk result (λ job. job.task.limits
         ≡ record { windows = receiver.now.windows; limit = receiver.now.limit }) }
-    ensures fits { IfOk result (λ job. FitsIn (common job.sends).limit job.plan.c job.plan.k_plus) }
+    ensures fits { IfOk result (λ job. FitsIn (common job.sends).limit job.task.plan.c job.task.plan.k_plus) }
     ensures values { IfOk result (λ job. values ≡ value_count job.sends) }
     ensures room { OnOk result (bytes ≤ room) }
 {
     let series = series_of(bytes, transmissions, buffer_of(receiver.n_ir))?;
-    let effort = effort(
+    let limits = limits(
         &series.plan,
         bit_count(&series.sends),
         receiver,
@@ -94,28 +92,23 @@ fn accepted(
         room,
     )?;
     Ok(Job {
-        plan: series.plan,
+        task: Task {
+            plan: series.plan,
+            limits,
+        },
         sends: series.sends,
-        effort,
     })
 }
 
 /// Returns what the transmissions of a job come to, from their soft values.
 fn outcome_of(alloc: Global, job: &Job, values: &[i8]) -> Result<TbOutcome, NoMemory>
-    requires fits { FitsIn (common job.now.sends).limit job.now.plan.c job.now.plan.k_plus }
+    requires fits { FitsIn (common job.now.sends).limit job.now.task.plan.c job.now.task.plan.k_plus }
     requires values { length values.now ≡ value_count job.now.sends }
-    ensures { IfOk result (λ o. o ≡ outcome job.now.plan (effort_of job.now.effort)
+    ensures { IfOk result (λ o. o ≡ outcome job.now.task.plan job.now.task.limits
         (receptions job.now.sends (map (clamped 127) values.now))) }
 {
     let softs = softs_of(alloc, values)?;
-    receive_alone(
-        alloc,
-        &job.plan,
-        &job.sends,
-        job.effort.windows,
-        job.effort.limit,
-        softs.as_slice(),
-    )
+    job.task.receive_alone(alloc, &job.sends, softs.as_slice())
 }
 
 /// Writes the payload to the beginning of a buffer, where it was delivered.
@@ -154,8 +147,8 @@ fn receive(
 }
 
 /// Receives a payload of `bytes` bytes, 1 to 18,722, from one to eight transmissions: `values` has the G
-/// soft values of each, one transmission after the other, where a value above 0 says that its bit is
-/// rather 0. Leaves in `outcome` what they came to, and the payload at the beginning of `payload`, where it
+/// soft values of each, one transmission after the other, positive where 0 is
+/// likelier. Leaves in `outcome` what they came to, and the payload at the beginning of `payload`, where it
 /// was delivered; else nothing is changed there. Answers 0, or a `Refusal`'s number, and then nothing is
 /// changed.
 #[unsafe(no_mangle)]

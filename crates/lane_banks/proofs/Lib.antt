@@ -1,6 +1,6 @@
 pub mod BankCells
 pub mod BankRows
-pub mod CrossingLaws
-pub mod CrossingSteps
-mod Turned
+pub mod PermutationLaws
+pub mod PermutationSteps
+mod Inverses
 mod Words

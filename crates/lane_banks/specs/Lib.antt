@@ -1,2 +1,2 @@
 pub mod Banks
-pub mod Crossings
+pub mod Permutations

@@ -1,15 +1,16 @@
 //! The cells of windows that run in lock step, in banks: those of all windows at one step are in one row.
 #![tactic(auto)]
 
-pub mod banks;
-pub mod bits;
-pub mod by_place;
-pub mod cells;
-pub mod crossings;
-pub mod places;
+mod banks;
+mod bits;
+mod cells;
+mod permutations;
+mod places;
+mod reference;
 mod shuffles;
-pub mod steps;
 
 pub use banks::Banks;
 pub use cell_shares::Order;
-pub use steps::crossbar;
+pub use permutations::LanePermutations;
+pub use places::permutations_of;
+pub use reference::{crossbar, follow};

@@ -1,10 +1,10 @@
-//! The crossings of a list of places.
+//! The permutations of a list of places.
 ghost use Rattle.std.specs.Prelude.{◌≡◌, ℕ, ◌+◌, ◌*◌, ◌/◌, ◌%◌, ◌<◌, ◌≤◌, IfOk, length, map, slice_index};
 ghost use Rattle.std.specs.List.{range_with_len};
 ghost use Rattle.window_rows.specs.Rows.{IsLaneCount};
-ghost use Rattle.lane_banks.specs.Crossings.{IsTable};
+ghost use Rattle.lane_banks.specs.Permutations.{IsTable};
 
-use crate::crossings::Crossings;
+use crate::permutations::LanePermutations;
 use lte_bits::NoMemory;
 use std::alloc::Global;
 
@@ -75,20 +75,20 @@ fn banks_at<const N: usize>(places: &[u16], banks: &[u8], width: usize, j: usize
     requires banks { banks.now ≡ map (λ n. n / width) (range_with_len 0 (length banks.now)) }
     ensures { (t : ℕ) → t < N → slice_index result t ≡ slice_index places.now (t * width + j) / width }
 {
-    let mut crossing = [0; N];
+    let mut permutation = [0; N];
     for t in 0..N {
-        crossing[t] = bank_at(places, banks, width, t * width + j);
+        permutation[t] = bank_at(places, banks, width, t * width + j);
     }
-    crossing
+    permutation
 }
 
-/// Returns the crossings of N windows of `width` positions at these places. It needs no division: a list has
+/// Returns the permutations of N windows of `width` positions at these places. It needs no division: a list has
 /// the bank of each place, and its row is what its bank leaves.
-pub fn crossings_of<const N: usize>(
+pub fn permutations_of<const N: usize>(
     alloc: Global,
     places: &[u16],
     width: usize,
-) -> Result<Crossings<N>, NoMemory>
+) -> Result<LanePermutations<N>, NoMemory>
     requires lanes { IsLaneCount N }
     requires least { 8 ≤ width }
     requires most { width ≤ 768 }
@@ -101,11 +101,11 @@ pub fn crossings_of<const N: usize>(
     ensures table { IfOk result (λ c. IsTable N width (slice_index places.now) c.rows.items c.banks.items) }
 {
     let banks = banks_of_places::<N>(alloc, width)?;
-    let mut crossings = Crossings::<N>::new(alloc, width)?;
+    let mut permutations = LanePermutations::<N>::new(alloc, width)?;
     let banks = banks.as_slice();
     for j in 0..width {
         let row = row_at(places, banks, width, j);
-        crossings.set(j, row, banks_at(places, banks, width, j));
+        permutations.set(j, row, banks_at(places, banks, width, j));
     }
-    Ok(crossings)
+    Ok(permutations)
 }

@@ -10,12 +10,14 @@ use Rattle.model_receiver.specs.Borders.{Border, at}
 use Rattle.model_receiver.specs.Windows.{Extrinsic, zero_cell, cell_at, new_cells, forward_left, backward_left}
 use Rattle.model_receiver.specs.HalfIteration.{Shape, BordersLeft, window_width, positions, order, position_of, tail_border, left_by, start_border, window, renewed, left_after, after}
 use Rattle.model_receiver.proofs.PlacesOfPositions.{position-is}
-use Rattle.serial_decode.specs.Runs.{start_of, window_from}
-use Rattle.serial_decode.specs.Views.{AreWhole, by_position}
-use Rattle.serial_decode.proofs.HalfSteps.{same-by_range}
-use Rattle.serial_decode.proofs.StripParts.{position-inside}
+use Rattle.half_iteration.specs.Runs.{start_of, window_from}
+use Rattle.half_iteration.specs.Views.{AreWhole, by_position}
+use Rattle.half_iteration.proofs.HalfSteps.{same-by_range}
+use Rattle.half_iteration.proofs.WindowParts.{position-inside}
 use Rattle.window_rows.specs.Rows.{column, values_of_window}
-use Rattle.lock_step.specs.Lanes.{border_at}
+use Rattle.lock_step.specs.declared.inputs.BordersIn.{BordersIn}
+use Rattle.lock_step.specs.declared.inputs.SoftRows.{SoftRows}
+use Rattle.lock_step.specs.Lanes.{border_at, AreSoftRows}
 use Rattle.lane_windows.specs.Lanes.{cells_of_window, window_of_rows, HaveRun}
 use Rattle.lane_windows.specs.Halves.{AreRowsOf, HaveRunHalf}
 
@@ -39,10 +41,10 @@ rows-of_order n soft shape g h sys par e rows = record {
   parity_soft = rows.parity_soft;
 }
 
-pub half-ran : (n : ℕ) (soft : SoftStreams) (shape : Shape) (h w : ℕ) (f : ℕ → ℕ) (from to : List Border) (sys par : List (List ℤ)) (old new : List Extrinsic) (ahead back : List Border)
-    → AreRowsOf n soft shape h sys par → w ≡ window_width shape → ((i : ℕ) → f i ≡ order shape.k h i)
-    → HaveRun n w f from to sys par old new ahead back → HaveRunHalf n soft shape h from to old new ahead back
-half-ran n soft shape h w f from to sys par old new ahead back rows ew ef ran = record {
+pub half-ran : (n : ℕ) (soft : SoftStreams) (shape : Shape) (h w : ℕ) (f : ℕ → ℕ) (borders : BordersIn) (read : SoftRows n) (old new : List Extrinsic) (alpha_out beta_out : List Border)
+    → AreRowsOf n soft shape h read.systematic.now read.parity.now → w ≡ window_width shape → ((i : ℕ) → f i ≡ order shape.k h i)
+    → HaveRun w f borders read old new alpha_out beta_out → HaveRunHalf n soft shape h borders.alpha.now borders.beta.now old new alpha_out beta_out
+half-ran n soft shape h w f borders read old new alpha_out beta_out rows ew ef ran = record {
   long = ran.long;
   cells = λ t lt. sym (same-cells new t) ∙ (ran.cells t lt ∙ ap new_cells (same-window t lt));
   forward = λ t lt. ran.forward t lt ∙ ap forward_left (same-window t lt);
@@ -55,10 +57,10 @@ half-ran n soft shape h w f from to sys par old new ahead back rows ew ef ran = 
         ∙ same-by_range (λ i. cell_at cells (f i)) (λ i. cell_at cells (order shape.k h i)) (t * window_width shape) (window_width shape) zero_cell
         (λ i li. ap (cell_at cells) (ef (t * window_width shape + i)))
 
-    same-window : (t : ℕ) → t < n → window_of_rows w f from to sys par old t ≡ window_from soft shape h t (border_at from t) (border_at to t) old
+    same-window : (t : ℕ) → t < n → window_of_rows w f borders read old t ≡ window_from soft shape h t (border_at borders.alpha.now t) (border_at borders.beta.now t) old
     same-window t lt = λ i. record {
-      start = border_at from t;
-      end = border_at to t;
+      start = border_at borders.alpha.now t;
+      end = border_at borders.beta.now t;
       sys = rows.systematic t lt i;
       par = rows.parity t lt i;
       cells = map (λ c. c.value) (same-cells old t i);
@@ -66,19 +68,19 @@ half-ran n soft shape h w f from to sys par old new ahead back rows ew ef ran = 
 
 -- ---- the windows of a half that starts from cells and borders
 
-module _ (soft : SoftStreams) (shape : Shape) (h : ℕ) (old : List Extrinsic) (left : List BordersLeft) (from to : List Border)
+module _ (soft : SoftStreams) (shape : Shape) (h : ℕ) (old : List Extrinsic) (left : List BordersLeft) (alpha_in beta_in : List Border)
     (whole : AreWhole shape) (many : length left ≡ shape.windows)
-    (starts : (t : ℕ) → t < length left → border_at from t ≡ start_border (start_of [] left) t)
-    (ends : (t : ℕ) → t < length left → border_at to t ≡ cond (t + 1 == length left) (tail_border soft shape.k h) (left_by left (t + 1)).backward) where
+    (starts : (t : ℕ) → t < length left → border_at alpha_in t ≡ start_border (start_of [] left) t)
+    (ends : (t : ℕ) → t < length left → border_at beta_in t ≡ cond (t + 1 == length left) (tail_border soft shape.k h) (left_by left (t + 1)).backward) where
   window-between_borders : (t : ℕ) → t < shape.windows
-      → window_from soft shape h t (border_at from t) (border_at to t) old ≡ window soft shape h (start_of old left) t
+      → window_from soft shape h t (border_at alpha_in t) (border_at beta_in t) old ≡ window soft shape h (start_of old left) t
   window-between_borders t lt =
       let l : t < length left = omega (arith, many, lt) in
-      ap (λ (b : Border). window_from soft shape h t b (border_at to t) old) (starts t l)
+      ap (λ (b : Border). window_from soft shape h t b (border_at beta_in t) old) (starts t l)
       ∙ ap (λ (b : Border). window_from soft shape h t (start_border (start_of old left) t) b old)
       (ends t l ∙ ap (λ (k : ℕ). cond (t + 1 == k) (tail_border soft shape.k h) (left_by left (t + 1)).backward) many)
 
-  module _ (new : List Extrinsic) (ahead back : List Border) (ran : HaveRunHalf shape.windows soft shape h from to old new ahead back) where
+  module _ (new : List Extrinsic) (alpha_out beta_out : List Border) (ran : HaveRunHalf shape.windows soft shape h alpha_in beta_in old new alpha_out beta_out) where
     cell-renewed : (i : ℕ) → i < shape.k → cell_at new (order shape.k h i) ≡ renewed soft shape h (start_of old left) i
     cell-renewed i lt =
         let w : ℕ = window_width shape in
@@ -96,7 +98,7 @@ module _ (soft : SoftStreams) (shape : Shape) (h : ℕ) (old : List Extrinsic) (
         (λ n lt. let p = position-is shape.k h n whole.size lt in
         ap (cell_at new) (sym p.1) ∙ cell-renewed (position_of shape.k h n) p.0)
 
-    pub left-after : (more : List BordersLeft) → more ≡ map (λ t. record { forward = border_at ahead t; backward = border_at back t }) (range_with_len 0 (length left))
+    pub left-after : (more : List BordersLeft) → more ≡ map (λ t. record { forward = border_at alpha_out t; backward = border_at beta_out t }) (range_with_len 0 (length left))
         → more ≡ (after soft shape h (start_of old left)).left
     left-after more e =
         e ∙ (ap (λ (k : ℕ). map left_of (range_with_len 0 k)) many
@@ -104,7 +106,7 @@ module _ (soft : SoftStreams) (shape : Shape) (h : ℕ) (old : List Extrinsic) (
         (λ t lt. same t lt))
       where
         left_of : ℕ → BordersLeft
-        left_of t = record { forward = border_at ahead t; backward = border_at back t }
+        left_of t = record { forward = border_at alpha_out t; backward = border_at beta_out t }
 
         same : (t : ℕ) → t < shape.windows → left_of (0 + t) ≡ left_after soft shape h (start_of old left) (0 + t)
         same t lt = let z : t ≡ 0 + t = omega arith in subst (λ (k : ℕ). left_of k ≡ left_after soft shape h (start_of old left) k) z (λ i. record {
@@ -113,9 +115,19 @@ module _ (soft : SoftStreams) (shape : Shape) (h : ℕ) (old : List Extrinsic) (
         })
 
 -- rows as they are read
-pub rows-read : (n : ℕ) (soft : SoftStreams) (shape : Shape) (h : ℕ) (sys par s p : List (List ℤ)) → s ≡ sys → p ≡ par → AreRowsOf n soft shape h sys par → AreRowsOf n soft shape h s p
-rows-read n soft shape h sys par s p es ep rows =
-    subst (λ (xs : List (List ℤ)). AreRowsOf n soft shape h xs p) (sym es) (subst (λ (xs : List (List ℤ)). AreRowsOf n soft shape h sys xs) (sym ep) rows)
+pub rows-read : (n : ℕ) (soft : SoftStreams) (shape : Shape) (h : ℕ) (sys par : List (List ℤ)) (read : SoftRows n) → read.systematic.now ≡ sys → read.parity.now ≡ par
+    → AreRowsOf n soft shape h sys par → AreRowsOf n soft shape h read.systematic.now read.parity.now
+rows-read n soft shape h sys par read es ep rows =
+    subst (λ (xs : List (List ℤ)). AreRowsOf n soft shape h xs read.parity.now) (sym es) (subst (λ (xs : List (List ℤ)). AreRowsOf n soft shape h sys xs) (sym ep) rows)
+
+pub rows-soft : (n : ℕ) (soft : SoftStreams) (shape : Shape) (h w : ℕ) (read : SoftRows n) → w ≡ window_width shape → AreRowsOf n soft shape h read.systematic.now read.parity.now
+    → AreSoftRows w read
+rows-soft n soft shape h w read e rows = record {
+  systematic_long = rows.systematic_long ∙ sym e;
+  parity_long = rows.parity_long ∙ sym e;
+  systematic = rows.systematic_soft;
+  parity = rows.parity_soft;
+}
 
 -- windows of a code block that are 8 or more
 pub narrow : (n w k : ℕ) → n * w ≡ k → 8 ≤ n → k ≤ 6144 → w ≤ 768

@@ -4,7 +4,7 @@ use Rattle.lane_windows.specs.declared.borders.Borders.{Borders}
 
 -- borders of so many windows
 pub record HaveWindows (windows : ℕ) (b : Borders) : Type 0 where
-  pub from : length b.from.items ≡ windows
-  pub to : length b.to.items ≡ windows
-  pub ahead : length b.ahead.items ≡ windows
-  pub back : length b.back.items ≡ windows
+  pub alpha_in : length b.alpha_in.items ≡ windows
+  pub beta_in : length b.beta_in.items ≡ windows
+  pub alpha_out : length b.alpha_out.items ≡ windows
+  pub beta_out : length b.beta_out.items ≡ windows

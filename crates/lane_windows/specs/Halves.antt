@@ -4,7 +4,7 @@ use Rattle.lte_bits.specs.declared.block.SoftStreams.{SoftStreams}
 use Rattle.model_receiver.specs.Borders.{Border}
 use Rattle.model_receiver.specs.Windows.{Extrinsic, new_cells, forward_left, backward_left}
 use Rattle.model_receiver.specs.HalfIteration.{Shape, window_width, positions, order, systematic_at, parity_at}
-use Rattle.serial_decode.specs.Runs.{window_from}
+use Rattle.half_iteration.specs.Runs.{window_from}
 use Rattle.window_rows.specs.Rows.{column, AreWithin}
 use Rattle.lock_step.specs.Lanes.{border_at}
 use Rattle.lane_windows.specs.Lanes.{cells_of_window}
@@ -20,12 +20,12 @@ pub record AreRowsOf (n : ℕ) (soft : SoftStreams) (shape : Shape) (h : ℕ) (s
 
 -- the windows of half h have run between their borders: their new cells and the borders that they leave
 pub record HaveRunHalf
-    (n : ℕ) (soft : SoftStreams) (shape : Shape) (h : ℕ) (from to : List Border)
-    (old new : List Extrinsic) (ahead back : List Border) : Type 0 where
+    (n : ℕ) (soft : SoftStreams) (shape : Shape) (h : ℕ) (alpha_in beta_in : List Border)
+    (old new : List Extrinsic) (alpha_out beta_out : List Border) : Type 0 where
   pub long : length new ≡ length old
   pub cells : (t : ℕ) → t < n → cells_of_window (window_width shape) (order shape.k h) new t
-      ≡ new_cells (window_from soft shape h t (border_at from t) (border_at to t) old)
+      ≡ new_cells (window_from soft shape h t (border_at alpha_in t) (border_at beta_in t) old)
   pub forward : (t : ℕ) → t < n
-      → border_at ahead t ≡ forward_left (window_from soft shape h t (border_at from t) (border_at to t) old)
+      → border_at alpha_out t ≡ forward_left (window_from soft shape h t (border_at alpha_in t) (border_at beta_in t) old)
   pub backward : (t : ℕ) → t < n
-      → border_at back t ≡ backward_left (window_from soft shape h t (border_at from t) (border_at to t) old)
+      → border_at beta_out t ≡ backward_left (window_from soft shape h t (border_at alpha_in t) (border_at beta_in t) old)

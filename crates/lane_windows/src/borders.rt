@@ -5,18 +5,18 @@ ghost use Rattle.model_receiver.specs.HalfIteration.{start_by, end_by};
 ghost use Rattle.lock_step.specs.Lanes.{border_at};
 ghost use Rattle.lane_windows.specs.Borders.{HaveWindows};
 
+use half_iteration::{BordersLeft, end_of};
 use lte_bits::NoMemory;
-use serial_decode::left::{BordersLeft, end_of};
 use std::alloc::Global;
 use window_decode::Border;
 
 /// The borders between which each window runs, and those that it leaves.
 #[derive(Drop)]
 pub struct Borders {
-    pub from: Vec<Border>,
-    pub to: Vec<Border>,
-    pub ahead: Vec<Border>,
-    pub back: Vec<Border>,
+    pub alpha_in: Vec<Border>,
+    pub beta_in: Vec<Border>,
+    pub alpha_out: Vec<Border>,
+    pub beta_out: Vec<Border>,
 }
 
 impl Borders {
@@ -24,15 +24,15 @@ impl Borders {
     pub fn new(alloc: Global, windows: usize) -> Result<Borders, NoMemory>
         ensures { IfOk result (λ b. HaveWindows windows b) }
     {
-        let from = vec![in alloc; Border::known(); windows]?;
-        let to = vec![in alloc; Border::unknown(); windows]?;
-        let ahead = vec![in alloc; Border::unknown(); windows]?;
-        let back = vec![in alloc; Border::unknown(); windows]?;
+        let alpha_in = vec![in alloc; Border::known(); windows]?;
+        let beta_in = vec![in alloc; Border::unknown(); windows]?;
+        let alpha_out = vec![in alloc; Border::unknown(); windows]?;
+        let beta_out = vec![in alloc; Border::unknown(); windows]?;
         Ok(Borders {
-            from,
-            to,
-            ahead,
-            back,
+            alpha_in,
+            beta_in,
+            alpha_out,
+            beta_out,
         })
     }
 }
@@ -44,38 +44,38 @@ pub fn take_left(
     windows: usize,
     left: &[BordersLeft],
     tail: Border,
-    from: &mut [Border],
-    to: &mut [Border],
+    alpha_in: &mut [Border],
+    beta_in: &mut [Border],
 )
     requires left { length left.now ≡ windows }
-    requires from { length from.old ≡ length left.now }
-    requires to { length to.old ≡ length left.now }
-    ensures from { (t : ℕ) → t < length left.now
-        → border_at from.new t ≡ start_by left.now t }
-    ensures to { (t : ℕ) → t < length left.now
-        → border_at to.new t ≡ end_by (length left.now) left.now tail t }
+    requires alpha_in { length alpha_in.old ≡ length left.now }
+    requires beta_in { length beta_in.old ≡ length left.now }
+    ensures alpha_in { (t : ℕ) → t < length left.now
+        → border_at alpha_in.new t ≡ start_by left.now t }
+    ensures beta_in { (t : ℕ) → t < length left.now
+        → border_at beta_in.new t ≡ end_by (length left.now) left.now tail t }
 {
     let mut start = Border::known();
     for t in 0..windows {
-        from[t] = start;
-        to[t] = end_of(left.len(), left, tail, t);
+        alpha_in[t] = start;
+        beta_in[t] = end_of(left.len(), left, tail, t);
         let this = left[t];
         start = this.forward;
     }
 }
 
 /// Writes the borders that windows left.
-pub fn leave(ahead: &[Border], back: &[Border], left: &mut [BordersLeft])
-    requires ahead { length ahead.now ≡ length left.old }
-    requires back { length back.now ≡ length left.old }
+pub fn leave(alpha_out: &[Border], beta_out: &[Border], left: &mut [BordersLeft])
+    requires alpha_out { length alpha_out.now ≡ length left.old }
+    requires beta_out { length beta_out.now ≡ length left.old }
     ensures { left.new
-        ≡ map (λ t. record { forward = border_at ahead.now t; backward = border_at back.now t })
+        ≡ map (λ t. record { forward = border_at alpha_out.now t; backward = border_at beta_out.now t })
         (range_with_len 0 (length left.old)) }
 {
     for (t, left) in left.iter_mut().enumerate() {
         *left = BordersLeft {
-            forward: ahead[t],
-            backward: back[t],
+            forward: alpha_out[t],
+            backward: beta_out[t],
         };
     }
 }

@@ -6,11 +6,10 @@ ghost use Rattle.lane_windows.specs.Borders.{HaveWindows};
 use crate::borders::Borders;
 use crate::halves::decode_half;
 use crate::lane_views::LaneViews;
-use crate::work::Engine;
-use lane_banks::banks::Banks;
+use crate::scratch::LaneScratch;
+use half_iteration::{BordersLeft, HalfDecoder};
+use lane_banks::Banks;
 use lte_bits::{Bit, NoMemory, SoftStreams};
-use serial_decode::block::HalfDecoder;
-use serial_decode::left::BordersLeft;
 use std::alloc::Global;
 use window_decode::Shape;
 
@@ -19,12 +18,12 @@ use window_decode::Shape;
 #[derive(Drop)]
 pub struct LaneDecoder<'a, const N: usize> {
     views: LaneViews<'a, N>,
-    engine: Engine<N>,
+    scratch: LaneScratch<N>,
     borders: Borders,
     banks: Banks<N>,
     left: Vec<BordersLeft>,
     left_before_last: Vec<BordersLeft>,
-    ghost room: { window_width views.views.shape ≤ engine.kernel },
+    ghost room: { window_width views.views.shape ≤ scratch.kernel },
     ghost border_room: { HaveWindows N borders },
     ghost all_places: { length banks ≡ views.views.shape.k },
     ghost all_windows: { length left.items ≡ N },
@@ -33,7 +32,7 @@ pub struct LaneDecoder<'a, const N: usize> {
 
 impl<'a, const N: usize> LaneDecoder<'a, N> {
     ghost use Rattle.model_receiver.specs.HalfIteration.{opening};
-    ghost use Rattle.serial_decode.specs.Views.{AreStreams};
+    ghost use Rattle.half_iteration.specs.Views.{AreStreams};
     ghost use Rattle.window_rows.specs.Rows.{IsLaneCount};
     ghost use Rattle.lane_windows.specs.Progress.{before_of};
 
@@ -52,14 +51,14 @@ impl<'a, const N: usize> LaneDecoder<'a, N> {
     {
         let views = LaneViews::<N>::new(alloc, streams, shape)?;
         let width = views.views.width();
-        let engine = Engine::<N>::new(alloc, width)?;
+        let scratch = LaneScratch::<N>::new(alloc, width)?;
         let borders = Borders::new(alloc, N)?;
         let banks = Banks::<N>::zeros(alloc, width)?;
         let left = vec![in alloc; BordersLeft::none(); N]?;
         let left_before_last = vec![in alloc; BordersLeft::none(); N]?;
         Ok(LaneDecoder {
             views,
-            engine,
+            scratch,
             borders,
             banks,
             left,
@@ -80,7 +79,7 @@ impl<const N: usize> HalfDecoder for LaneDecoder<'_, N> {
     fn half(self, h: usize) -> Self {
         let LaneDecoder {
             views,
-            mut engine,
+            mut scratch,
             mut borders,
             mut banks,
             left,
@@ -89,17 +88,17 @@ impl<const N: usize> HalfDecoder for LaneDecoder<'_, N> {
         decode_half(
             &views,
             h,
-            &mut engine,
-            borders.from.as_mut_slice(),
-            borders.to.as_mut_slice(),
-            borders.ahead.as_mut_slice(),
-            borders.back.as_mut_slice(),
+            &mut scratch,
+            borders.alpha_in.as_mut_slice(),
+            borders.beta_in.as_mut_slice(),
+            borders.alpha_out.as_mut_slice(),
+            borders.beta_out.as_mut_slice(),
             &mut banks,
             left_before_last.as_mut_slice(),
         );
         LaneDecoder {
             views,
-            engine,
+            scratch,
             borders,
             banks,
             left: left_before_last,

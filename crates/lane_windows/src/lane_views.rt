@@ -2,17 +2,16 @@
 ghost use Rattle.std.specs.Prelude.{◌≡◌, ◌≤◌, length};
 ghost use Rattle.model_sender.specs.Interleaver.{place};
 ghost use Rattle.model_receiver.specs.HalfIteration.{window_width};
-ghost use Rattle.lane_banks.specs.Crossings.{AreApart, IsTable};
+ghost use Rattle.lane_banks.specs.Permutations.{AreApart, IsTable};
 ghost use Rattle.lane_windows.specs.Halves.{AreRowsOf};
 
 use crate::crossed::{run_crossed, run_straight};
-use crate::soft_rows::SoftRows;
-use crate::work::Engine;
-use lane_banks::banks::Banks;
-use lane_banks::crossings::Crossings;
-use lane_banks::places::crossings_of;
+use crate::half_rows::HalfRows;
+use crate::scratch::LaneScratch;
+use half_iteration::Views;
+use lane_banks::{Banks, LanePermutations, permutations_of};
+use lock_step::BordersIn;
 use lte_bits::{NoMemory, SoftStreams};
-use serial_decode::views::Views;
 use std::alloc::Global;
 use window_decode::{Border, Shape};
 
@@ -20,26 +19,27 @@ use window_decode::{Border, Shape};
 #[derive(Drop)]
 pub struct LaneViews<'a, const N: usize> {
     pub views: Views<'a>,
-    natural: SoftRows<N>,
-    interleaved: SoftRows<N>,
-    crossings: Crossings<N>,
+    natural: HalfRows<N>,
+    interleaved: HalfRows<N>,
+    permutations: LanePermutations<N>,
     ghost few: { N ≤ 64 },
     pub ghost windows: { views.shape.windows ≡ N },
     ghost natural_rows: { AreRowsOf N views.streams.now views.shape 0 natural.systematic.items
         natural.parity.items },
     ghost interleaved_rows: { AreRowsOf N views.streams.now views.shape 1 interleaved.systematic.items
         interleaved.parity.items },
-    ghost steps: { length crossings.rows.items ≡ window_width views.shape },
-    ghost bank_steps: { length crossings.banks.items ≡ window_width views.shape },
-    ghost table: { IsTable N (window_width views.shape) (place views.shape.k) crossings.rows.items
-        crossings.banks.items },
+    ghost steps: { length permutations.rows.items ≡ window_width views.shape },
+    ghost bank_steps: { length permutations.banks.items ≡ window_width views.shape },
+    ghost table: { IsTable N (window_width views.shape) (place views.shape.k) permutations.rows.items
+        permutations.banks.items },
     ghost apart: { AreApart N (window_width views.shape) (place views.shape.k) },
 }
 
 impl<'a, const N: usize> LaneViews<'a, N> {
     ghost use Rattle.std.specs.Prelude.{IfOk};
-    ghost use Rattle.serial_decode.specs.Views.{AreStreams};
+    ghost use Rattle.half_iteration.specs.Views.{AreStreams};
     ghost use Rattle.window_rows.specs.Rows.{IsLaneCount};
+    ghost use Rattle.lock_step.specs.Lanes.{AreBordersOf};
     ghost use Rattle.lane_windows.specs.Halves.{HaveRunHalf};
 
     /// Allocates the views of a code block of N windows. The streams have length K + 4, and the shape's
@@ -56,14 +56,14 @@ impl<'a, const N: usize> LaneViews<'a, N> {
         ensures shape { IfOk result (λ v. v.views.shape ≡ shape.now) }
     {
         let views = Views::new(alloc, streams, shape)?;
-        let natural = SoftRows::new(alloc, &views, 0)?;
-        let interleaved = SoftRows::new(alloc, &views, 1)?;
-        let crossings = crossings_of(alloc, views.places(1), views.width())?;
+        let natural = HalfRows::new(alloc, &views, 0)?;
+        let interleaved = HalfRows::new(alloc, &views, 1)?;
+        let permutations = permutations_of(alloc, views.places(1), views.width())?;
         Ok(LaneViews {
             views,
             natural,
             interleaved,
-            crossings,
+            permutations,
         })
     }
 
@@ -71,44 +71,40 @@ impl<'a, const N: usize> LaneViews<'a, N> {
     pub fn run(
         &self,
         h: usize,
-        engine: &mut Engine<N>,
-        from: &[Border],
-        to: &[Border],
-        ahead: &mut [Border],
-        back: &mut [Border],
+        scratch: &mut LaneScratch<N>,
+        borders: BordersIn<'_>,
+        alpha_out: &mut [Border],
+        beta_out: &mut [Border],
         banks: &mut Banks<N>,
     )
-        requires room { window_width self.now.views.shape ≤ engine.old.kernel }
+        requires room { window_width self.now.views.shape ≤ scratch.old.kernel }
         requires cells { length banks.old ≡ self.now.views.shape.k }
-        requires from { length from.now ≡ N }
-        requires to { length to.now ≡ N }
-        requires ahead { length ahead.old ≡ N }
-        requires back { length back.old ≡ N }
-        ensures room { engine.new.kernel ≡ engine.old.kernel }
-        ensures ran { HaveRunHalf N self.now.views.streams.now self.now.views.shape h from.now to.now
-            banks.old banks.new ahead.new back.new }
+        requires borders { AreBordersOf N borders }
+        requires alpha_out { length alpha_out.old ≡ N }
+        requires beta_out { length beta_out.old ≡ N }
+        ensures room { scratch.new.kernel ≡ scratch.old.kernel }
+        ensures ran { HaveRunHalf N self.now.views.streams.now self.now.views.shape h
+            borders.entry.alpha.now borders.entry.beta.now banks.old banks.new alpha_out.new beta_out.new }
     {
         if h % 2 == 0 {
+            let soft = self.natural.as_rows();
             run_straight(
-                &mut engine.kernel,
-                self.natural.systematic.as_slice(),
-                self.natural.parity.as_slice(),
-                from,
-                to,
-                ahead,
-                back,
+                &mut scratch.kernel,
+                borders,
+                soft,
+                alpha_out,
+                beta_out,
                 banks,
             );
         } else {
+            let soft = self.interleaved.as_rows();
             run_crossed(
-                engine,
-                &self.crossings,
-                self.interleaved.systematic.as_slice(),
-                self.interleaved.parity.as_slice(),
-                from,
-                to,
-                ahead,
-                back,
+                scratch,
+                &self.permutations,
+                borders,
+                soft,
+                alpha_out,
+                beta_out,
                 banks,
             );
         }

@@ -6,22 +6,20 @@ ghost use Rattle.std.specs.Prelude.{◌≡◌, ◌+◌, IfOk, length};
 ghost use Rattle.model_receiver.specs.Decoding.{code_result};
 ghost use Rattle.window_rows.specs.Rows.{IsLaneCount};
 
-pub mod borders;
-pub mod by_order;
-pub mod crossed;
-pub mod decoder;
-pub mod halves;
-pub mod lane_views;
-pub mod order_work;
-pub mod soft_rows;
-pub mod work;
+mod borders;
+mod crossed;
+mod decoder;
+mod half_rows;
+mod halves;
+mod lane_views;
+mod reference;
+mod scratch;
 
-pub use by_order::run_lock_step;
 use decoder::LaneDecoder;
+use half_iteration::decode_halves;
 pub use lane_banks::{Banks, Order, crossbar};
 use lte_bits::{NoMemory, SoftStreams};
-pub use order_work::LaneWork;
-use serial_decode::block::decode_halves;
+pub use reference::{LaneWork, run_lock_step};
 use std::alloc::Global;
 use window_decode::{CodeResult, Shape};
 

@@ -1,13 +1,21 @@
--- How metrics join lane by lane.
-use Rattle.std.proofs.Common.{◌≡◌, ℕ, List, length, ℤ, pos, ◌+ℤ◌, sym, ap, ◌∙◌, arith}
+-- How the metrics before and after a position join.
+use Rattle.std.proofs.Common.{◌≡◌, ℕ, ◌<◌, List, [], ◌∷◌, length, map, ℤ, pos, ◌+ℤ◌, refl, sym, ap, ◌∙◌, subst, arith}
+use Rattle.std.specs.Prelude.{slice_index_or}
 use Rattle.std.specs.Int.{int_max}
 use Rattle.std.proofs.lemmas.Int.{ints, clamps}
+use Rattle.std.proofs.lemmas.List.{get_or-map, length-map}
+use Rattle.lte_bits.specs.declared.bit.Bit.{Bit}
 use Rattle.lte_bits.specs.declared.bit.Bit.TheVariants.{Zero, One}
-use Rattle.model_sender.specs.ConstituentCoder.{State}
+use Rattle.model_sender.specs.ConstituentCoder.{State, zero_state, state_number, next}
 use Rattle.model_receiver.specs.Borders.{number_for, at}
+use Rattle.model_receiver.specs.Paths.{greatest}
 use Rattle.window_decode.specs.Recursions.{joined, through}
 use Rattle.window_rows.specs.Rows.{row_at, column}
-use Rattle.lock_step.proofs.StateRows.{s0, s1, s2, s3, s4, s5, s6, s7, number-column}
+use Rattle.lock_step.specs.Branches.{states_with, branches, best_along}
+use Rattle.lock_step.specs.Vectors.{IsVector, AreRelative}
+use Rattle.lock_step.proofs.StateRows.{s0, s1, s2, s3, s4, s5, s6, s7, number-column, row-vector}
+
+-- ---- the greatest of four and of eight
 
 max-assoc : (x y z : ℤ) → int_max (int_max x y) z ≡ int_max x (int_max y z)
 max-assoc x y z = omega (arith, ints, clamps)
@@ -21,8 +29,11 @@ max-comm x y = omega (arith, ints, clamps)
 abbrev of_four : (a b c d : ℤ) → ℤ
 of_four a b c d = int_max (int_max a b) (int_max c d)
 
+abbrev in_turn : (a b c d : ℤ) → ℤ
+in_turn a b c d = int_max (int_max (int_max a b) c) d
+
 abbrev of_eight : (a b c d e f g h : ℤ) → ℤ
-of_eight a b c d e f g h = int_max (int_max (int_max (int_max (int_max (int_max (int_max a b) c) d) e) f) g) h
+of_eight a b c d e f g h = int_max (int_max (int_max (int_max (in_turn a b c d) e) f) g) h
 
 -- the greatest of eight by the outer and the inner four
 by_fours : (a b c d e f g h : ℤ) → int_max (of_four a b g h) (of_four c d e f) ≡ of_eight a b c d e f g h
@@ -33,68 +44,104 @@ by_fours a b c d e f g h =
     ∙ (ap (λ z. int_max z (int_max g h)) (max-assoc (int_max (int_max u c) d) e f ∙ (ap (λ z. int_max z (int_max e f)) (max-assoc u c d) ∙ max-assoc u (int_max c d) (int_max e f)))
     ∙ max-swap u (of_four c d e f) (int_max g h)))
 
-four-more : (a b c d p : ℤ) → of_four a b c d +ℤ p ≡ of_four (a +ℤ p) (b +ℤ p) (c +ℤ p) (d +ℤ p)
-four-more a b c d p = two (int_max a b) (int_max c d) p ∙ (ap (λ z. int_max z (int_max c d +ℤ p)) (two a b p) ∙ ap (λ z. int_max (int_max (a +ℤ p) (b +ℤ p)) z) (two c d p))
+greatest-four : (xs : List ℤ) → length xs ≡ 4 → greatest xs ≡ of_four (at xs 0) (at xs 1) (at xs 2) (at xs 3)
+greatest-four [] l = absurd (omega (arith, l))
+greatest-four (a ∷ []) l = absurd (omega (arith, l))
+greatest-four (a ∷ b ∷ []) l = absurd (omega (arith, l))
+greatest-four (a ∷ b ∷ c ∷ []) l = absurd (omega (arith, l))
+greatest-four (a ∷ b ∷ c ∷ d ∷ []) l = max-assoc (int_max a b) c d
+greatest-four (a ∷ b ∷ c ∷ d ∷ e ∷ xs) l = absurd (omega (arith, l))
+
+-- ---- four branches, as a list has them
+
+four-states : (u r : Bit) → length (states_with u r) ≡ 4
+four-states Zero Zero = refl
+four-states Zero One = refl
+four-states One Zero = refl
+four-states One One = refl
+
+abbrev branch : Bit → State → ℕ × ℕ
+branch u s = (state_number s, state_number (next s u))
+
+abbrev state_of : (u r : Bit) → ℕ → State
+state_of u r i = slice_index_or (states_with u r) i zero_state
+
+branch-of_state : (u r : Bit) (bs : List (ℕ × ℕ)) (i : ℕ) → i < 4 → bs ≡ branches u r → slice_index_or bs i (0, 0) ≡ branch u (state_of u r i)
+branch-of_state u r bs i lt e =
+    ap (λ (xs : List (ℕ × ℕ)). slice_index_or xs i (0, 0)) e ∙ get_or-map (branch u) (states_with u r) i zero_state (0, 0) (let four = four-states u r in omega (arith, lt, four))
+
+-- the rows of the states before and after branch i
+pub branch-rows : (n : ℕ) (alpha beta : List (List ℤ)) (u r : Bit) (bs : List (ℕ × ℕ)) → AreRelative n alpha → AreRelative n beta → bs ≡ branches u r → (i : ℕ) → i < 4
+    → (let b = slice_index_or bs i (0, 0) in IsVector n 6391 (row_at alpha b.0) × IsVector n 6391 (row_at beta b.1))
+branch-rows n alpha beta u r bs h k e i lt =
+    subst (λ (b : ℕ × ℕ). IsVector n 6391 (row_at alpha b.0) × IsVector n 6391 (row_at beta b.1)) (sym (branch-of_state u r bs i lt e))
+    (row-vector n alpha h (state_of u r i), row-vector n beta k (next (state_of u r i) u))
+
+-- the sum of the metrics before and after branch i in lane t
+abbrev sum_along : (t : ℕ) → (alpha beta : List (List ℤ)) → List (ℕ × ℕ) → ℕ → ℤ
+sum_along t alpha beta bs i = let b = slice_index_or bs i (0, 0) in at (row_at alpha b.0) t +ℤ at (row_at beta b.1) t
+
+pub along-lane : (t : ℕ) (alpha beta : List (List ℤ)) (u r : Bit) (bs : List (ℕ × ℕ)) → length alpha ≡ 8 → length beta ≡ 8 → bs ≡ branches u r
+    → of_four (sum_along t alpha beta bs 0) (sum_along t alpha beta bs 1) (sum_along t alpha beta bs 2) (sum_along t alpha beta bs 3)
+    ≡ best_along u r (column t alpha) (column t beta)
+along-lane t alpha beta u r bs l k e =
+    same_four _ _ _ _ _ _ _ _ (sum-is 0 (omega arith)) (sum-is 1 (omega arith)) (sum-is 2 (omega arith)) (sum-is 3 (omega arith))
+    ∙ sym (greatest-four (map sum (states_with u r)) (length-map (states_with u r) sum ∙ four-states u r))
   where
-    two : (x y p : ℤ) → int_max x y +ℤ p ≡ int_max (x +ℤ p) (y +ℤ p)
-    two x y p = omega (arith, ints, clamps)
+    sum : State → ℤ
+    sum s = number_for (column t alpha) s +ℤ number_for (column t beta) (next s u)
 
-same_four : (a b c d a' b' c' d' : ℤ) → a ≡ a' → b ≡ b' → c ≡ c' → d ≡ d' → of_four a b c d ≡ of_four a' b' c' d'
-same_four a b c d a' b' c' d' e f g h = cc
+    same_four : (a b c d a' b' c' d' : ℤ) → a ≡ a' → b ≡ b' → c ≡ c' → d ≡ d' → of_four a b c d ≡ of_four a' b' c' d'
+    same_four a b c d a' b' c' d' p q r s = cc
 
--- a sum of two states' numbers, as it was computed and as it is wanted
-earning : (m k m' k' p : ℤ) → m' ≡ m → k' ≡ k → (m +ℤ k) +ℤ p ≡ m' +ℤ p +ℤ k'
-earning m k m' k' p e f = omega (arith, ints)
+    same_sum : (a b a' b' : ℤ) → a' ≡ a → b' ≡ b → a +ℤ b ≡ a' +ℤ b'
+    same_sum a b a' b' p q = cc
 
-idle : (m k m' k' : ℤ) → m' ≡ m → k' ≡ k → m +ℤ k ≡ m' +ℤ pos 0 +ℤ k'
-idle m k m' k' e f = omega (arith, ints)
+    sum-is : (i : ℕ) → i < 4 → sum_along t alpha beta bs i ≡ at (map sum (states_with u r)) i
+    sum-is i lt =
+        let s : State = state_of u r i in
+        ap (λ (b : ℕ × ℕ). at (row_at alpha b.0) t +ℤ at (row_at beta b.1) t) (branch-of_state u r bs i lt e)
+        ∙ (same_sum _ _ _ _ (number-column alpha t s l) (number-column beta t (next s u) k)
+        ∙ sym (get_or-map sum (states_with u r) i zero_state (pos 0) (let four = four-states u r in omega (arith, lt, four))))
 
--- the greatest of eight, where the outer four earn p, or the inner ones
-outer : (u0 u1 u2 u3 u4 u5 u6 u7 p j0 j1 j2 j3 j4 j5 j6 j7 : ℤ) → u0 +ℤ p ≡ j0 → u1 +ℤ p ≡ j1 → u2 ≡ j2 → u3 ≡ j3 → u4 ≡ j4 → u5 ≡ j5 → u6 +ℤ p ≡ j6 → u7 +ℤ p ≡ j7
-    → int_max (of_four u0 u1 u6 u7 +ℤ p) (of_four u2 u3 u4 u5) ≡ of_eight j0 j1 j2 j3 j4 j5 j6 j7
-outer u0 u1 u2 u3 u4 u5 u6 u7 p j0 j1 j2 j3 j4 j5 j6 j7 e0 e1 e2 e3 e4 e5 e6 e7 =
-    let x : of_four u0 u1 u6 u7 +ℤ p ≡ of_four j0 j1 j6 j7 = four-more u0 u1 u6 u7 p ∙ same_four (u0 +ℤ p) (u1 +ℤ p) (u6 +ℤ p) (u7 +ℤ p) j0 j1 j6 j7 e0 e1 e6 e7 in
-    let y : of_four u2 u3 u4 u5 ≡ of_four j2 j3 j4 j5 = same_four u2 u3 u4 u5 j2 j3 j4 j5 e2 e3 e4 e5 in
-    ap (λ z. int_max z (of_four u2 u3 u4 u5)) x ∙ (ap (λ z. int_max (of_four j0 j1 j6 j7) z) y ∙ by_fours j0 j1 j2 j3 j4 j5 j6 j7)
+-- ---- the branches that earn what a parity bit 0 earns, and the others
 
-inner : (u0 u1 u2 u3 u4 u5 u6 u7 p j0 j1 j2 j3 j4 j5 j6 j7 : ℤ) → u0 ≡ j0 → u1 ≡ j1 → u2 +ℤ p ≡ j2 → u3 +ℤ p ≡ j3 → u4 +ℤ p ≡ j4 → u5 +ℤ p ≡ j5 → u6 ≡ j6 → u7 ≡ j7
-    → int_max (of_four u2 u3 u4 u5 +ℤ p) (of_four u0 u1 u6 u7) ≡ of_eight j0 j1 j2 j3 j4 j5 j6 j7
-inner u0 u1 u2 u3 u4 u5 u6 u7 p j0 j1 j2 j3 j4 j5 j6 j7 e0 e1 e2 e3 e4 e5 e6 e7 =
-    let x : of_four u2 u3 u4 u5 +ℤ p ≡ of_four j2 j3 j4 j5 = four-more u2 u3 u4 u5 p ∙ same_four (u2 +ℤ p) (u3 +ℤ p) (u4 +ℤ p) (u5 +ℤ p) j2 j3 j4 j5 e2 e3 e4 e5 in
-    let y : of_four u0 u1 u6 u7 ≡ of_four j0 j1 j6 j7 = same_four u0 u1 u6 u7 j0 j1 j6 j7 e0 e1 e6 e7 in
-    ap (λ z. int_max z (of_four u0 u1 u6 u7)) x
-    ∙ (ap (λ z. int_max (of_four j2 j3 j4 j5) z) y ∙ (max-comm (of_four j2 j3 j4 j5) (of_four j0 j1 j6 j7) ∙ by_fours j0 j1 j2 j3 j4 j5 j6 j7))
+-- four of which each earns p, as they are computed and as they are wanted
+earning : (m0 m1 m2 m3 k0 k1 k2 k3 p : ℤ) → in_turn (m0 +ℤ k0) (m1 +ℤ k1) (m2 +ℤ k2) (m3 +ℤ k3) +ℤ p
+    ≡ of_four (m0 +ℤ p +ℤ k0) (m1 +ℤ p +ℤ k1) (m2 +ℤ p +ℤ k2) (m3 +ℤ p +ℤ k3)
+earning m0 m1 m2 m3 k0 k1 k2 k3 p =
+    ap (λ z. z +ℤ p) (max-assoc (int_max (m0 +ℤ k0) (m1 +ℤ k1)) (m2 +ℤ k2) (m3 +ℤ k3))
+    ∙ (both (int_max (m0 +ℤ k0) (m1 +ℤ k1)) (int_max (m2 +ℤ k2) (m3 +ℤ k3)) p
+    ∙ (ap (λ z. int_max z (int_max (m2 +ℤ k2) (m3 +ℤ k3) +ℤ p)) (two m0 m1 k0 k1 p) ∙ ap (λ z. int_max (int_max (m0 +ℤ p +ℤ k0) (m1 +ℤ p +ℤ k1)) z) (two m2 m3 k2 k3 p)))
+  where
+    both : (x y p : ℤ) → int_max x y +ℤ p ≡ int_max (x +ℤ p) (y +ℤ p)
+    both x y p = omega (arith, ints, clamps)
 
--- the sum of two states' metrics in lane t
-abbrev both_at : ℕ → (before after : List (List ℤ)) → (i k : ℕ) → ℤ
-both_at t before after i k = at (row_at before i) t +ℤ at (row_at after k) t
+    two : (m n k l p : ℤ) → int_max (m +ℤ k) (n +ℤ l) +ℤ p ≡ int_max (m +ℤ p +ℤ k) (n +ℤ p +ℤ l)
+    two m n k l p = omega (arith, ints, clamps)
 
--- the greater of two of them
-abbrev pub pair : ℕ → (before after : List (List ℤ)) → (i k j l : ℕ) → ℤ
-pair t before after i k j l = int_max (both_at t before after i k) (both_at t before after j l)
+idle : (m0 m1 m2 m3 k0 k1 k2 k3 : ℤ) → in_turn (m0 +ℤ k0) (m1 +ℤ k1) (m2 +ℤ k2) (m3 +ℤ k3)
+    ≡ of_four (m0 +ℤ pos 0 +ℤ k0) (m1 +ℤ pos 0 +ℤ k1) (m2 +ℤ pos 0 +ℤ k2) (m3 +ℤ pos 0 +ℤ k3)
+idle m0 m1 m2 m3 k0 k1 k2 k3 =
+    max-assoc (int_max (m0 +ℤ k0) (m1 +ℤ k1)) (m2 +ℤ k2) (m3 +ℤ k3)
+    ∙ (ap (λ z. int_max z (int_max (m2 +ℤ k2) (m3 +ℤ k3))) (two m0 m1 k0 k1) ∙ ap (λ z. int_max (int_max (m0 +ℤ pos 0 +ℤ k0) (m1 +ℤ pos 0 +ℤ k1)) z) (two m2 m3 k2 k3))
+  where
+    two : (m n k l : ℤ) → int_max (m +ℤ k) (n +ℤ l) ≡ int_max (m +ℤ pos 0 +ℤ k) (n +ℤ pos 0 +ℤ l)
+    two m n k l = omega (arith, ints, clamps)
 
-pub zero-lane : (t : ℕ) (before after : List (List ℤ)) (p : ℤ) → length before ≡ 8 → length after ≡ 8
-    → int_max (int_max (pair t before after 0 0 1 4) (pair t before after 6 7 7 3) +ℤ p) (int_max (pair t before after 2 5 3 1) (pair t before after 4 2 5 6))
-    ≡ through (column t before) (column t after) p Zero
-zero-lane t before after p l k =
-    let m : (s : State) → number_for (column t before) s ≡ _ = λ s. number-column before t s l in
-    let n : (s : State) → number_for (column t after) s ≡ _ = λ s. number-column after t s k in
-    let j : State → ℤ = joined (number_for (column t before)) (number_for (column t after)) p Zero in
-    outer (both_at t before after 0 0) (both_at t before after 1 4) (both_at t before after 2 5) (both_at t before after 3 1) (both_at t before after 4 2)
-    (both_at t before after 5 6) (both_at t before after 6 7) (both_at t before after 7 3) p
-    (j s0) (j s1) (j s2) (j s3) (j s4) (j s5) (j s6) (j s7)
-    (earning _ _ _ _ p (m s0) (n s0)) (earning _ _ _ _ p (m s1) (n s4)) (idle _ _ _ _ (m s2) (n s5)) (idle _ _ _ _ (m s3) (n s1))
-    (idle _ _ _ _ (m s4) (n s2)) (idle _ _ _ _ (m s5) (n s6)) (earning _ _ _ _ p (m s6) (n s7)) (earning _ _ _ _ p (m s7) (n s3))
-
-pub one-lane : (t : ℕ) (before after : List (List ℤ)) (p : ℤ) → length before ≡ 8 → length after ≡ 8
-    → int_max (int_max (pair t before after 2 1 3 5) (pair t before after 4 6 5 2) +ℤ p) (int_max (pair t before after 0 4 1 0) (pair t before after 6 3 7 7))
-    ≡ through (column t before) (column t after) p One
-one-lane t before after p l k =
-    let m : (s : State) → number_for (column t before) s ≡ _ = λ s. number-column before t s l in
-    let n : (s : State) → number_for (column t after) s ≡ _ = λ s. number-column after t s k in
-    let j : State → ℤ = joined (number_for (column t before)) (number_for (column t after)) p One in
-    inner (both_at t before after 0 4) (both_at t before after 1 0) (both_at t before after 2 1) (both_at t before after 3 5) (both_at t before after 4 6)
-    (both_at t before after 5 2) (both_at t before after 6 3) (both_at t before after 7 7) p
-    (j s0) (j s1) (j s2) (j s3) (j s4) (j s5) (j s6) (j s7)
-    (idle _ _ _ _ (m s0) (n s4)) (idle _ _ _ _ (m s1) (n s0)) (earning _ _ _ _ p (m s2) (n s1)) (earning _ _ _ _ p (m s3) (n s5))
-    (earning _ _ _ _ p (m s4) (n s6)) (earning _ _ _ _ p (m s5) (n s2)) (idle _ _ _ _ (m s6) (n s3)) (idle _ _ _ _ (m s7) (n s7))
+-- by the input 0 the outer states have the parity bit 0, by the input 1 the inner ones
+pub joined-lane : (u : Bit) (alpha beta : List ℤ) (p : ℤ) → int_max (best_along u Zero alpha beta +ℤ p) (best_along u One alpha beta) ≡ through alpha beta p u
+joined-lane Zero alpha beta p =
+    let m : State → ℤ = number_for alpha in
+    let k : State → ℤ = λ s. number_for beta (next s Zero) in
+    let j : State → ℤ = joined m (number_for beta) p Zero in
+    ap (λ z. int_max z (best_along Zero One alpha beta)) (earning (m s0) (m s1) (m s6) (m s7) (k s0) (k s1) (k s6) (k s7) p)
+    ∙ (ap (λ z. int_max (of_four (j s0) (j s1) (j s6) (j s7)) z) (idle (m s2) (m s3) (m s4) (m s5) (k s2) (k s3) (k s4) (k s5))
+    ∙ by_fours (j s0) (j s1) (j s2) (j s3) (j s4) (j s5) (j s6) (j s7))
+joined-lane One alpha beta p =
+    let m : State → ℤ = number_for alpha in
+    let k : State → ℤ = λ s. number_for beta (next s One) in
+    let j : State → ℤ = joined m (number_for beta) p One in
+    ap (λ z. int_max z (best_along One One alpha beta)) (earning (m s2) (m s3) (m s4) (m s5) (k s2) (k s3) (k s4) (k s5) p)
+    ∙ (ap (λ z. int_max (of_four (j s2) (j s3) (j s4) (j s5)) z) (idle (m s0) (m s1) (m s6) (m s7) (k s0) (k s1) (k s6) (k s7))
+    ∙ (max-comm (of_four (j s2) (j s3) (j s4) (j s5)) (of_four (j s0) (j s1) (j s6) (j s7)) ∙ by_fours (j s0) (j s1) (j s2) (j s3) (j s4) (j s5) (j s6) (j s7)))

@@ -11,7 +11,7 @@ use Rattle.model_receiver.specs.Borders.{at}
 use Rattle.window_decode.proofs.Within.{within-same, within-more, within-sum}
 use Rattle.window_decode.proofs.LaneSteps.{stored, IsSum, IsDifference, AreStored}
 use Rattle.window_decode.proofs.LaneNumbers.{passed}
-use Rattle.lock_step.specs.Vectors.{IsSmall, IsVector}
+use Rattle.lock_step.specs.Vectors.{IsSmall, IsVector, AreLanes}
 
 -- what holds at each lane holds of the lanes in turn
 pub each_at : (R : ℤ → ℤ → Type 0) (xs ys : List ℤ) → length xs ≡ length ys → ((t : ℕ) → t < length xs → R (at xs t) (at ys t)) → Each2 R xs ys
@@ -73,11 +73,12 @@ pub greater-within : (b : ℕ) (x y : ℤ) → IsWithin b x → IsWithin b y →
 greater-within b x y h k = (omega (arith, ints, clamps), omega (arith, ints, clamps))
 
 -- a result that is known lane by lane
-pub known-vector : (n b : ℕ) (f : ℤ → ℤ → ℤ) (xs ys r : List ℤ) → length xs ≡ n → length ys ≡ n → r ≡ zip2 f xs ys → ((t : ℕ) → t < n → IsWithin b (f (at xs t) (at ys t))) → IsVector n b r
-known-vector n b f xs ys r l k e h = subst (λ zs. IsVector n b zs) (sym e) (zip2-vector f n b xs ys l k h)
-
-pub known-lane : (n : ℕ) (f : ℤ → ℤ → ℤ) (xs ys r : List ℤ) → length xs ≡ n → length ys ≡ n → r ≡ zip2 f xs ys → (t : ℕ) → t < n → at r t ≡ f (at xs t) (at ys t)
-known-lane n f xs ys r l k e t lt = ap (λ zs. at zs t) e ∙ at-zip2 f n xs ys l k t lt
+pub known-lanes : (n b : ℕ) (f : ℤ → ℤ → ℤ) (xs ys r : List ℤ) → length xs ≡ n → length ys ≡ n → r ≡ zip2 f xs ys → ((t : ℕ) → t < n → IsWithin b (f (at xs t) (at ys t)))
+    → AreLanes n b (λ t. f (at xs t) (at ys t)) r
+known-lanes n b f xs ys r l k e h = record {
+  vector = subst (λ zs. IsVector n b zs) (sym e) (zip2-vector f n b xs ys l k h);
+  lanes = λ t lt. ap (λ zs. at zs t) e ∙ at-zip2 f n xs ys l k t lt;
+}
 
 -- a vector takes the place of a row
 pub put_all : (xs ys : List ℤ) → length xs ≡ length ys → put_chunk 0 xs ys ≡ ys
@@ -88,12 +89,8 @@ put_all (x ∷ xs) (y ∷ ys) l = ap (λ zs. y ∷ zs) (put_all xs ys (omega (ar
 
 -- ---- numbers that are known lane by lane
 
-pub record AreLanes (n b : ℕ) (f : ℕ → ℤ) (xs : List ℤ) : Type 0 where
-  pub vector : IsVector n b xs
-  pub is : (t : ℕ) → t < n → at xs t ≡ f t
-
 pub own-lanes : (n b : ℕ) (xs : List ℤ) → IsVector n b xs → AreLanes n b (at xs) xs
-own-lanes n b xs h = record { vector = h; is = λ t lt. refl }
+own-lanes n b xs h = record { vector = h; lanes = λ t lt. refl }
 
 pub same-lanes : (n b : ℕ) (xs r : List ℤ) → r ≡ xs → IsVector n b xs → AreLanes n b (at xs) r
 same-lanes n b xs r e h = subst (λ zs. AreLanes n b (at xs) zs) (sym e) (own-lanes n b xs h)
@@ -105,17 +102,17 @@ pub lanes_stored : (n b : ℕ) (f : ℕ → ℤ) (xs r : List ℤ) → b ≤ 327
 lanes_stored n b f xs r le e h = subst (λ zs. AreLanes n b f zs) (sym e) (lanes_passed n b f xs le h)
 
 pub lanes_within : (n b : ℕ) (f : ℕ → ℤ) (xs : List ℤ) → AreLanes n b f xs → (t : ℕ) → t < n → IsWithin b (f t)
-lanes_within n b f xs h t lt = within-same b (f t) (at xs t) (sym (h.is t lt)) (h.vector.bounded t)
+lanes_within n b f xs h t lt = within-same b (f t) (at xs t) (sym (h.lanes t lt)) (h.vector.bounded t)
 
 -- an operation on two vectors
 pub op-lanes : (op : ℤ → ℤ → ℤ) (n m k b : ℕ) (f h : ℕ → ℤ) (xs ys r : List ℤ) → m ≤ 32767 → k ≤ 32767 → ((x y : ℤ) → IsWithin m x → IsWithin k y → IsWithin b (op x y))
     → AreLanes n m f xs → AreLanes n k h ys → length r ≡ n → ((t : ℕ) → t < n → at r t ≡ op (at (passed xs) t) (at (passed ys) t)) → AreLanes n b (λ t. op (f t) (h t)) r
 op-lanes op n m k b f h xs ys r lm lk within p q long e =
     let is : (t : ℕ) → t < n → at r t ≡ op (f t) (h t) =
-    λ t lt. e t lt ∙ (ap (λ z. op z (at (passed ys) t)) ((lanes_passed n m f xs lm p).is t lt) ∙ ap (λ z. op (f t) z) ((lanes_passed n k h ys lk q).is t lt)) in
+    λ t lt. e t lt ∙ (ap (λ z. op z (at (passed ys) t)) ((lanes_passed n m f xs lm p).lanes t lt) ∙ ap (λ z. op (f t) z) ((lanes_passed n k h ys lk q).lanes t lt)) in
     record {
       vector = vector_from n b r long (λ t lt. within-same b (at r t) (op (f t) (h t)) (is t lt) (within (f t) (h t) (lanes_within n m f xs p t lt) (lanes_within n k h ys q t lt)));
-      is = is;
+      lanes = is;
     }
 
 pub difference-within : (m k : ℕ) (x y : ℤ) → IsWithin m x → IsWithin k y → IsWithin (m + k) (x -ℤ y)
@@ -150,15 +147,20 @@ pub any_passed : (n b : ℕ) (f : ℕ → ℤ) (xs : List ℤ) → b ≤ 32767 �
 any_passed n b f xs le h = vector-still n b 32767 xs le (omega arith) h.vector
 
 -- a function of each lane
-pub map-lane : (f : ℤ → ℤ) (n : ℕ) (xs r : List ℤ) → r ≡ map f xs → length xs ≡ n → (t : ℕ) → t < n → at r t ≡ f (at xs t)
-map-lane f n xs r e long t lt = ap (λ zs. at zs t) e ∙ get_or-map f xs t (pos 0) (pos 0) (omega (arith, long, lt))
-
-pub map-vector : (f : ℤ → ℤ) (n b : ℕ) (xs r : List ℤ) → r ≡ map f xs → length xs ≡ n → ((t : ℕ) → IsWithin b (f (at xs t))) → IsVector n b r
-map-vector f n b xs r e long h =
-    vector_from n b r (ap length e ∙ (length-map xs f ∙ long)) (λ t lt. within-same b (at r t) (f (at xs t)) (map-lane f n xs r e long t lt) (h t))
+pub map-lanes : (f : ℤ → ℤ) (n b : ℕ) (xs r : List ℤ) → r ≡ map f xs → length xs ≡ n → ((t : ℕ) → IsWithin b (f (at xs t))) → AreLanes n b (λ t. f (at xs t)) r
+map-lanes f n b xs r e long h =
+    let lane : (t : ℕ) → t < n → at r t ≡ f (at xs t) = λ t lt. ap (λ zs. at zs t) e ∙ get_or-map f xs t (pos 0) (pos 0) (omega (arith, long, lt)) in
+    record {
+      vector = vector_from n b r (ap length e ∙ (length-map xs f ∙ long)) (λ t lt. within-same b (at r t) (f (at xs t)) (lane t lt) (h t));
+      lanes = lane;
+    }
 
 pub more-lanes : (n b c : ℕ) (f : ℕ → ℤ) (xs : List ℤ) → b ≤ c → AreLanes n b f xs → AreLanes n c f xs
-more-lanes n b c f xs le h = record { vector = vector_more n b c xs le h.vector; is = h.is }
+more-lanes n b c f xs le h = record { vector = vector_more n b c xs le h.vector; lanes = h.lanes }
+
+-- a function of lanes that are known
+pub lanes_of : (op : ℤ → ℤ) (n m b : ℕ) (f : ℕ → ℤ) (xs r : List ℤ) → m ≤ 32767 → AreLanes n m f xs → AreLanes n b (λ t. op (at (passed xs) t)) r → AreLanes n b (λ t. op (f t)) r
+lanes_of op n m b f xs r le p h = record { vector = h.vector; lanes = λ t lt. h.lanes t lt ∙ ap op ((lanes_passed n m f xs le p).lanes t lt) }
 
 -- small numbers in a row of n lanes
 pub small-vector : (n b : ℕ) (xs : List ℤ) → length xs ≡ n → IsSmall n b xs → IsVector n b xs

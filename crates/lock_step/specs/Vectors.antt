@@ -21,6 +21,11 @@ pub record IsVector (n b : ℕ) (lanes : List ℤ) : Type 0 where
   pub long : length lanes ≡ n
   pub bounded : (t : ℕ) → IsWithin b (at lanes t)
 
+-- the number f t in each lane t of n, from -b to b
+pub record AreLanes (n b : ℕ) (f : ℕ → ℤ) (row : List ℤ) : Type 0 where
+  pub vector : IsVector n b row
+  pub lanes : (t : ℕ) → t < n → at row t ≡ f t
+
 -- eight vectors of n lanes, one for each state
 pub record AreMetrics (n : ℕ) (m : List (List ℤ)) : Type 0 where
   pub eight : length m ≡ 8

@@ -1,107 +1,106 @@
-//! How the metrics before and after a position join.
-ghost use Rattle.std.specs.Prelude.{◌≡◌, ◌<◌, ℕ, ◌+ℤ◌};
-ghost use Rattle.lte_bits.specs.declared.bit.Bit.TheVariants.{Zero, One};
+//! How the metrics before and after a position join: the extrinsic values, and the new cells by them.
+ghost use Rattle.std.specs.Prelude.{◌≡◌, ◌+ℤ◌};
 ghost use Rattle.model_receiver.specs.Borders.{at};
 ghost use Rattle.model_receiver.specs.Windows.{scaled};
 ghost use Rattle.window_decode.specs.Recursions.{through};
 ghost use Rattle.window_rows.specs.Rows.{column};
-ghost use Rattle.lock_step.specs.Vectors.{IsSmall, IsVector, AreRelative, better_by};
+ghost use Rattle.lock_step.specs.Branches.{branches, best_along};
+ghost use Rattle.lock_step.specs.Vectors.{IsSmall, AreLanes, AreRelative, better_by};
 
 use crate::lanes::{self, better, difference, larger, loaded, scaled, store};
+use lte_bits::Bit;
 use std::simd::prelude::*;
 
-/// Returns the greatest number of a path by bit 0, without what the bit itself earns.
+/// Returns the branches by an input bit that have a parity bit: the states before and after each.
 #[inline]
-fn through_zero<const N: usize>(
-    before: &[[i16; N]; 8],
-    after: &[[i16; N]; 8],
-    p: &[i16; N],
-) -> Simd<i16, N>
-    requires before { AreRelative N before.now }
-    requires after { AreRelative N after.now }
-    requires parity { IsSmall N 127 p.now }
-    ensures vector { IsVector N 12909 result }
-    ensures lanes { (t : ℕ) → t < N → at result t
-        ≡ through (column t before.now) (column t after.now) (at p.now t) Zero }
+fn branches(input: Bit, parity: Bit) -> [(usize, usize); 4]
+    ensures { result ≡ branches input parity }
 {
-    let zero = larger(
-        better(&before[0], &after[0], &before[1], &after[4]),
-        better(&before[6], &after[7], &before[7], &after[3]),
-    );
-    let one = larger(
-        better(&before[2], &after[5], &before[3], &after[1]),
-        better(&before[4], &after[2], &before[5], &after[6]),
-    );
-    larger(lanes::sum(zero, loaded(p)), one)
+    match (input, parity) {
+        (Bit::Zero, Bit::Zero) => [(0, 0), (1, 4), (6, 7), (7, 3)],
+        (Bit::Zero, Bit::One) => [(2, 5), (3, 1), (4, 2), (5, 6)],
+        (Bit::One, Bit::Zero) => [(2, 1), (3, 5), (4, 6), (5, 2)],
+        (Bit::One, Bit::One) => [(0, 4), (1, 0), (6, 3), (7, 7)],
+    }
 }
 
-/// Returns the greatest number of a path by bit 1.
+/// Returns the greatest number of a path along these branches, without what their bits earn.
 #[inline]
-fn through_one<const N: usize>(
-    before: &[[i16; N]; 8],
-    after: &[[i16; N]; 8],
+fn best_along<const N: usize>(
+    input: Bit,
+    parity: Bit,
+    alpha: &[[i16; N]; 8],
+    beta: &[[i16; N]; 8],
+) -> Simd<i16, N>
+    requires alpha { AreRelative N alpha.now }
+    requires beta { AreRelative N beta.now }
+    ensures { AreLanes N 12782
+        (λ t. best_along input parity (column t alpha.now) (column t beta.now)) result }
+{
+    let [a, b, c, d] = branches(input, parity);
+    larger(
+        better(&alpha[a.0], &beta[a.1], &alpha[b.0], &beta[b.1]),
+        better(&alpha[c.0], &beta[c.1], &alpha[d.0], &beta[d.1]),
+    )
+}
+
+/// Returns the greatest number of a path by an input bit, without what the bit itself earns.
+#[inline]
+fn best_with<const N: usize>(
+    input: Bit,
+    alpha: &[[i16; N]; 8],
+    beta: &[[i16; N]; 8],
     p: &[i16; N],
 ) -> Simd<i16, N>
-    requires before { AreRelative N before.now }
-    requires after { AreRelative N after.now }
+    requires alpha { AreRelative N alpha.now }
+    requires beta { AreRelative N beta.now }
     requires parity { IsSmall N 127 p.now }
-    ensures vector { IsVector N 12909 result }
-    ensures lanes { (t : ℕ) → t < N → at result t
-        ≡ through (column t before.now) (column t after.now) (at p.now t) One }
+    ensures { AreLanes N 12909
+        (λ t. through (column t alpha.now) (column t beta.now) (at p.now t) input) result }
 {
-    let zero = larger(
-        better(&before[2], &after[1], &before[3], &after[5]),
-        better(&before[4], &after[6], &before[5], &after[2]),
-    );
-    let one = larger(
-        better(&before[0], &after[4], &before[1], &after[0]),
-        better(&before[6], &after[3], &before[7], &after[7]),
-    );
+    let zero = best_along(input, Bit::Zero, alpha, beta);
+    let one = best_along(input, Bit::One, alpha, beta);
     larger(lanes::sum(zero, loaded(p)), one)
 }
 
 /// Returns how much better 0 is than 1 at a position, by all but what the bit itself earns.
 #[inline]
 pub fn extrinsic<const N: usize>(
-    before: &[[i16; N]; 8],
-    after: &[[i16; N]; 8],
+    alpha: &[[i16; N]; 8],
+    beta: &[[i16; N]; 8],
     p: &[i16; N],
 ) -> Simd<i16, N>
-    requires before { AreRelative N before.now }
-    requires after { AreRelative N after.now }
+    requires alpha { AreRelative N alpha.now }
+    requires beta { AreRelative N beta.now }
     requires parity { IsSmall N 127 p.now }
-    ensures vector { IsVector N 25818 result }
-    ensures lanes { (t : ℕ) → t < N → at result t
-        ≡ better_by before.now after.now (at p.now t) t }
+    ensures { AreLanes N 25818 (λ t. better_by alpha.now beta.now (at p.now t) t) result }
 {
-    let zero = through_zero(before, after, p);
-    let one = through_one(before, after, p);
+    let zero = best_with(Bit::Zero, alpha, beta, p);
+    let one = best_with(Bit::One, alpha, beta, p);
     difference(zero, one)
 }
 
 /// Writes the new cell of a position, and the extrinsic value with what an input bit 0 earns, which is
 /// negative exactly where the decided bit is 1.
 #[inline]
-pub fn join<const N: usize>(
-    before: &[[i16; N]; 8],
-    after: &[[i16; N]; 8],
+pub fn write_extrinsic<const N: usize>(
+    alpha: &[[i16; N]; 8],
+    beta: &[[i16; N]; 8],
     p: &[i16; N],
     x: &[i16; N],
     cell: &mut [i16; N],
     sum: &mut [i16; N],
 )
-    requires before { AreRelative N before.now }
-    requires after { AreRelative N after.now }
+    requires alpha { AreRelative N alpha.now }
+    requires beta { AreRelative N beta.now }
     requires parity { IsSmall N 127 p.now }
     requires input { IsSmall N 638 x.now }
-    ensures cell { IsVector N 511 cell.new }
-    ensures sum { IsVector N 32767 sum.new }
-    ensures cells { (t : ℕ) → t < N → at cell.new t
-        ≡ scaled (better_by before.now after.now (at p.now t) t) }
-    ensures sums { (t : ℕ) → t < N → at sum.new t
-        ≡ better_by before.now after.now (at p.now t) t +ℤ at x.now t }
+    ensures cell { AreLanes N 511
+        (λ t. scaled (better_by alpha.now beta.now (at p.now t) t)) cell.new }
+    ensures sum { AreLanes N 32767
+        (λ t. better_by alpha.now beta.now (at p.now t) t +ℤ at x.now t) sum.new }
 {
-    let e = extrinsic(before, after, p);
+    let e = extrinsic(alpha, beta, p);
     store(scaled(e), cell);
     store(lanes::sum(e, loaded(x)), sum);
 }

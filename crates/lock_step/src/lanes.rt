@@ -1,10 +1,10 @@
 //! Operations on a number of 16 bits for each of N windows, as lanes of one vector.
-ghost use Rattle.std.specs.Prelude.{◌≡◌, ◌<◌, ℕ, pos, ◌+ℤ◌, ◌-ℤ◌, ◌*ℤ◌, int_div};
+ghost use Rattle.std.specs.Prelude.{◌≡◌, ℕ, pos, ◌+ℤ◌, ◌-ℤ◌, ◌*ℤ◌, int_div};
 ghost use Rattle.std.specs.Int.{int_max};
 ghost use Rattle.lte_bits.specs.Softs.{IsWithin, clamped};
 ghost use Rattle.model_receiver.specs.Borders.{at};
 ghost use Rattle.model_receiver.specs.Windows.{scaled};
-ghost use Rattle.lock_step.specs.Vectors.{IsSmall, IsVector};
+ghost use Rattle.lock_step.specs.Vectors.{IsSmall, IsVector, AreLanes};
 
 use std::simd::prelude::*;
 
@@ -32,8 +32,7 @@ pub fn sum<const N: usize>(a: Simd<i16, N>, b: Simd<i16, N>) -> Simd<i16, N>
     requires first { IsVector N 32767 a }
     requires second { IsVector N 32767 b }
     requires fits { (t : ℕ) → IsWithin 32767 (at a t +ℤ at b t) }
-    ensures vector { IsVector N 32767 result }
-    ensures lanes { (t : ℕ) → t < N → at result t ≡ at a.entry t +ℤ at b.entry t }
+    ensures { AreLanes N 32767 (λ t. at a.entry t +ℤ at b.entry t) result }
 {
     a.strict_add(b)
 }
@@ -44,8 +43,7 @@ pub fn difference<const N: usize>(a: Simd<i16, N>, b: Simd<i16, N>) -> Simd<i16,
     requires first { IsVector N 32767 a }
     requires second { IsVector N 32767 b }
     requires fits { (t : ℕ) → IsWithin 32767 (at a t -ℤ at b t) }
-    ensures vector { IsVector N 32767 result }
-    ensures lanes { (t : ℕ) → t < N → at result t ≡ at a.entry t -ℤ at b.entry t }
+    ensures { AreLanes N 32767 (λ t. at a.entry t -ℤ at b.entry t) result }
 {
     a.strict_sub(b)
 }
@@ -55,8 +53,7 @@ pub fn difference<const N: usize>(a: Simd<i16, N>, b: Simd<i16, N>) -> Simd<i16,
 pub fn larger<const N: usize>(a: Simd<i16, N>, b: Simd<i16, N>) -> Simd<i16, N>
     requires first { IsVector N 32767 a }
     requires second { IsVector N 32767 b }
-    ensures vector { IsVector N 32767 result }
-    ensures lanes { (t : ℕ) → t < N → at result t ≡ int_max (at a.entry t) (at b.entry t) }
+    ensures { AreLanes N 32767 (λ t. int_max (at a.entry t) (at b.entry t)) result }
 {
     a.simd_max(b)
 }
@@ -65,8 +62,7 @@ pub fn larger<const N: usize>(a: Simd<i16, N>, b: Simd<i16, N>) -> Simd<i16, N>
 #[inline]
 fn near<const N: usize>(a: Simd<i16, N>) -> Simd<i16, N>
     requires { IsVector N 32767 a }
-    ensures vector { IsVector N 682 result }
-    ensures lanes { (t : ℕ) → t < N → at result t ≡ clamped 682 (at a.entry t) }
+    ensures { AreLanes N 682 (λ t. clamped 682 (at a.entry t)) result }
 {
     a.simd_min(Simd::splat(682)).simd_max(Simd::splat(-682))
 }
@@ -75,8 +71,7 @@ fn near<const N: usize>(a: Simd<i16, N>) -> Simd<i16, N>
 #[inline]
 fn three_quarters<const N: usize>(a: Simd<i16, N>) -> Simd<i16, N>
     requires { IsVector N 682 a }
-    ensures vector { IsVector N 511 result }
-    ensures lanes { (t : ℕ) → t < N → at result t ≡ int_div (at a.entry t *ℤ pos 3) (pos 4) }
+    ensures { AreLanes N 511 (λ t. int_div (at a.entry t *ℤ pos 3) (pos 4)) result }
 {
     a.strict_mul(Simd::splat(3)) / Simd::splat(4)
 }
@@ -85,8 +80,7 @@ fn three_quarters<const N: usize>(a: Simd<i16, N>) -> Simd<i16, N>
 #[inline]
 pub fn scaled<const N: usize>(a: Simd<i16, N>) -> Simd<i16, N>
     requires { IsVector N 32767 a }
-    ensures vector { IsVector N 511 result }
-    ensures lanes { (t : ℕ) → t < N → at result t ≡ scaled (at a.entry t) }
+    ensures { AreLanes N 511 (λ t. scaled (at a.entry t)) result }
 {
     // 682 * 3 / 4 is 511.
     three_quarters(near(a))
@@ -102,9 +96,8 @@ pub fn better<const N: usize>(
 ) -> Simd<i16, N>
     requires first { IsVector N 6391 a.now × IsVector N 6391 x.now }
     requires second { IsVector N 6391 b.now × IsVector N 6391 y.now }
-    ensures vector { IsVector N 12782 result }
-    ensures lanes { (t : ℕ) → t < N
-        → at result t ≡ int_max (at a.now t +ℤ at x.now t) (at b.now t +ℤ at y.now t) }
+    ensures { AreLanes N 12782
+        (λ t. int_max (at a.now t +ℤ at x.now t) (at b.now t +ℤ at y.now t)) result }
 {
     larger(sum(loaded(a), loaded(x)), sum(loaded(b), loaded(y)))
 }
@@ -120,9 +113,8 @@ pub fn greater<const N: usize>(
 )
     requires first { IsVector N 6391 a.now × IsVector N 6391 x.now }
     requires second { IsVector N 6391 b.now × IsVector N 6391 y.now }
-    ensures vector { IsVector N 12782 out.new }
-    ensures lanes { (t : ℕ) → t < N
-        → at out.new t ≡ int_max (at a.now t +ℤ at x.now t) (at b.now t +ℤ at y.now t) }
+    ensures { AreLanes N 12782
+        (λ t. int_max (at a.now t +ℤ at x.now t) (at b.now t +ℤ at y.now t)) out.new }
 {
     store(better(a, x, b, y), out);
 }
@@ -132,8 +124,7 @@ pub fn greater<const N: usize>(
 pub fn add<const N: usize>(a: &[i16; N], b: &[i16; N], out: &mut [i16; N])
     requires first { IsSmall N 638 a.now }
     requires second { IsSmall N 511 b.now }
-    ensures vector { IsVector N 1149 out.new }
-    ensures lanes { (t : ℕ) → t < N → at out.new t ≡ at a.now t +ℤ at b.now t }
+    ensures { AreLanes N 1149 (λ t. at a.now t +ℤ at b.now t) out.new }
 {
     store(sum(loaded(a), loaded(b)), out);
 }

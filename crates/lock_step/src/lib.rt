@@ -2,11 +2,13 @@
 #![tactic(auto)]
 
 mod borders;
+mod inputs;
 mod joined;
 mod lanes;
 mod metrics;
-pub mod rows;
-pub mod work;
+mod rows;
+mod scratch;
 
+pub use inputs::{BordersIn, SoftRows};
 pub use rows::run_rows;
-pub use work::LaneWork;
+pub use scratch::KernelScratch;

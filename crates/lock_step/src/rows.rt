@@ -7,17 +7,17 @@ ghost use Rattle.window_decode.specs.Recursions.{step_gain, backward, cell_throu
 ghost use Rattle.window_decode.specs.Metrics.{IsForwardRow, IsBackwardRow};
 ghost use Rattle.window_rows.specs.Rows.{column, AreWithin, IsLaneCount};
 ghost use Rattle.lock_step.specs.Lanes.{border_at, lane_window, window_at, decided_cells};
-ghost use Rattle.lock_step.specs.Lanes.{AreSoft};
+ghost use Rattle.lock_step.specs.Lanes.{AreSoft, AreBordersOf, AreSoftRows};
 ghost use Rattle.lock_step.specs.Vectors.{IsSmall, AreMetrics, AreRelative, AreBorders};
 ghost use Rattle.lock_step.specs.Vectors.{lane_gain, metrics_at, AreForwardRows};
 
 use crate::borders::{put_borders, take_borders};
-use crate::joined::join;
+use crate::inputs::{BordersIn, SoftRows};
+use crate::joined::write_extrinsic;
 use crate::lanes::add;
 use crate::metrics::{backward, forward, keep};
-use crate::work::LaneWork;
-use window_decode::Border;
-use window_decode::metrics::metrics_stay_near;
+use crate::scratch::KernelScratch;
+use window_decode::{Border, metrics_stay_near};
 
 /// Keeps the metrics before each position in the rows, and leaves those after the last.
 fn sweep_forward<const N: usize>(
@@ -50,34 +50,34 @@ fn sweep_forward<const N: usize>(
 
 /// Writes the new cells of a position and their sums, and the metrics before it.
 fn step_back<const N: usize>(
-    before: &[[i16; N]; 8],
-    m: &mut [[i16; N]; 8],
+    alpha: &[[i16; N]; 8],
+    beta: &mut [[i16; N]; 8],
     sys: &[i16; N],
     par: &[i16; N],
     cell: &mut [i16; N],
     sum: &mut [i16; N],
 )
-    requires before { AreRelative N before.now }
-    requires after { AreRelative N m.old }
+    requires alpha { AreRelative N alpha.now }
+    requires beta { AreRelative N beta.old }
     requires systematic { IsSmall N 127 sys.now }
     requires parity { IsSmall N 127 par.now }
     requires cell { IsSmall N 511 cell.old }
-    ensures shape { AreMetrics N m.new }
-    ensures metrics { (t : ℕ) → t < N → column t m.new
-        ≡ relative (backward (number_for (column t m.old))
+    ensures shape { AreMetrics N beta.new }
+    ensures metrics { (t : ℕ) → t < N → column t beta.new
+        ≡ relative (backward (number_for (column t beta.old))
         (step_gain (at sys.now t +ℤ at cell.old t) (at par.now t))) }
     ensures cells { (t : ℕ) → t < N
         → record { value = at cell.new t; one = int_lt (at sum.new t) (pos 0) }
-        ≡ cell_through (column t before.now) (column t m.old)
+        ≡ cell_through (column t alpha.now) (column t beta.old)
         (at sys.now t) (at par.now t) (at cell.old t) }
     ensures sum { IsSmall N 32767 sum.new }
 {
     let mut x = [0; N];
     add(sys, cell, &mut x);
-    join(before, m, par, &x, cell, sum);
+    write_extrinsic(alpha, beta, par, &x, cell, sum);
     let mut after = [[0; N]; 8];
-    keep(m, &mut after);
-    backward(&after, &x, par, m);
+    keep(beta, &mut after);
+    backward(&after, &x, par, beta);
 }
 
 /// Writes the new cells with their sums, and the metrics before the first position.
@@ -113,46 +113,43 @@ fn sweep_backward<const N: usize>(
     }
 }
 
-/// Decodes N windows between their borders: window t has lane t of each row.
+/// Decodes N windows between their borders, window `t` in lane `t` of each row: leaves the new cells with their
+/// sums, and the forward and the backward border of each window.
 pub fn run_rows<const N: usize>(
-    work: &mut LaneWork<N>,
-    from: &[Border],
-    to: &[Border],
-    sys: &[[i16; N]],
-    par: &[[i16; N]],
+    scratch: &mut KernelScratch<N>,
+    borders: BordersIn<'_>,
+    soft: SoftRows<'_, N>,
     cells: &mut [[i16; N]],
     sums: &mut [[i16; N]],
-    ahead: &mut [Border],
-    back: &mut [Border],
+    alpha_out: &mut [Border],
+    beta_out: &mut [Border],
 )
     requires lanes { IsLaneCount N }
-    requires least { 8 ≤ length sys.now }
-    requires room { length sys.now ≤ work.old }
-    requires parities { length par.now ≡ length sys.now }
-    requires cells { length cells.old ≡ length sys.now }
-    requires sums { length sums.old ≡ length sys.now }
-    requires from { length from.now ≡ N }
-    requires to { length to.now ≡ N }
-    requires ahead { length ahead.old ≡ N }
-    requires back { length back.old ≡ N }
-    requires soft { AreSoft N sys.now par.now cells.old }
+    requires least { 8 ≤ length cells.old }
+    requires room { length cells.old ≤ scratch.old }
+    requires borders { AreBordersOf N borders }
+    requires soft { AreSoftRows (length cells.old) soft }
+    requires cells { AreWithin N 511 cells.old }
+    requires sums { length sums.old ≡ length cells.old }
+    requires alpha_out { length alpha_out.old ≡ N }
+    requires beta_out { length beta_out.old ≡ N }
     ensures cells { (t : ℕ) → t < N → decided_cells (column t cells.new) (column t sums.new)
-        ≡ new_cells (window_at t from.now to.now sys.now par.now cells.old) }
+        ≡ new_cells (window_at t borders.entry soft.entry cells.old) }
     ensures within { AreWithin N 511 cells.new }
     ensures sums { AreWithin N 32767 sums.new }
-    ensures forward { (t : ℕ) → t < N → border_at ahead.new t
-        ≡ forward_left (window_at t from.now to.now sys.now par.now cells.old) }
-    ensures backward { (t : ℕ) → t < N → border_at back.new t
-        ≡ backward_left (window_at t from.now to.now sys.now par.now cells.old) }
-    ensures room { work.new ≡ work.old }
+    ensures forward { (t : ℕ) → t < N → border_at alpha_out.new t
+        ≡ forward_left (window_at t borders.entry soft.entry cells.old) }
+    ensures backward { (t : ℕ) → t < N → border_at beta_out.new t
+        ≡ backward_left (window_at t borders.entry soft.entry cells.old) }
+    ensures room { scratch.new ≡ scratch.old }
 {
     metrics_stay_near();
-    let rows = work.rows.as_mut_slice();
+    let rows = scratch.rows.as_mut_slice();
     let mut m = [[0; N]; 8];
-    put_borders(from, &mut m);
-    sweep_forward(rows, &mut m, sys, par, cells);
-    take_borders(&m, ahead);
-    put_borders(to, &mut m);
-    sweep_backward(rows, &mut m, sys, par, cells, sums);
-    take_borders(&m, back);
+    put_borders(borders.alpha, &mut m);
+    sweep_forward(rows, &mut m, soft.systematic, soft.parity, cells);
+    take_borders(&m, alpha_out);
+    put_borders(borders.beta, &mut m);
+    sweep_backward(rows, &mut m, soft.systematic, soft.parity, cells, sums);
+    take_borders(&m, beta_out);
 }

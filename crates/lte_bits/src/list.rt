@@ -91,7 +91,8 @@ impl<T> List<T> {
 impl<T: Copy> List<T> {
     ghost use Rattle.lte_bits.specs.Lists.{resized};
 
-    /// Keeps the first `n` values, followed by as many `v` as are missing to `n`.
+    /// Keeps the first `n` values, followed by as many `v` as are missing to `n`. Where memory runs out the list
+    /// stays as it was.
     pub fn resize(&mut self, n: usize, v: T) -> Result<(), NoMemory>
         ensures ok { OnOk result (self.new ≡ resized self.old n v) }
         ensures err { OnErr result (self.new ≡ self.old) }

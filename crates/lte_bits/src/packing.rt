@@ -49,7 +49,7 @@ fn write_unpacked(bits: &mut [Bit], bytes: &[u8])
     }
 }
 
-/// Returns the bits of each byte, the highest first.
+/// Returns the bits of each byte, the highest first. Allocates eight for each.
 pub fn unpack(alloc: Global, bytes: &[u8]) -> Result<List<Bit>, NoMemory>
     ensures { IfOk result (λ bits. bits ≡ unpacked bytes.now) }
 {
@@ -92,7 +92,8 @@ fn write_packed(bytes: &mut [u8], bits: &[Bit])
     }
 }
 
-/// Returns the bits as bytes, the highest first. The unused low bits of the last byte are 0.
+/// Returns the bits as bytes, the highest first: ceil(n / 8) of them, which are allocated. The unused low
+/// bits of the last are 0.
 pub fn pack(alloc: Global, bits: &[Bit]) -> Result<List<u8>, NoMemory>
     ensures { IfOk result (λ bytes. bytes ≡ packed bits.now) }
 {

@@ -4,7 +4,7 @@ ghost use Rattle.lte_bits.specs.Softs.{clamped, IsWithin};
 
 use std::marker::Model;
 
-/// A soft value, a number from -127 to 127: above 0 where its bit is rather 0, below where rather 1.
+/// A soft value, a number from -127 to 127: positive where 0 is likelier, negative where 1 is.
 #[derive(Clone, Copy, Debug, PartialEq, Eq, Hash)]
 pub struct Soft {
     value: i8,
@@ -24,7 +24,7 @@ impl Model for Soft {
 }
 
 impl Soft {
-    /// The soft value that says nothing.
+    /// An erasure (LLR 0).
     pub const ZERO: Soft = Soft { value: 0 };
 
     /// Returns the number, and -127 for -128.

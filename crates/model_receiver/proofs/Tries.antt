@@ -8,15 +8,16 @@ use Rattle.model_sender.specs.Segmentation.{Plan}
 use Rattle.model_receiver.specs.declared.result.CodeResult.{CodeResult}
 use Rattle.model_receiver.specs.declared.result.TbOutcome.TheVariants.{Delivered, Failed}
 use Rattle.model_receiver.specs.SoftCells.{Reception}
-use Rattle.model_receiver.specs.TransportBlocks.{Effort, delivers, delivering_try, held_after, iterations_of, outcome, outcome_from, outcome_in, payload_of, results_in, tried}
+use Rattle.model_receiver.specs.Limits.{DecoderLimits}
+use Rattle.model_receiver.specs.TransportBlocks.{delivers, delivering_try, held_after, iterations_of, outcome, outcome_from, outcome_in, payload_of, results_in, tried}
 
 -- a number of tries, with the receptions before and after them and the results of the last
-record AreTried (plan : Plan) (e : Effort) (all seen xs : List Reception) (last : List CodeResult) (n : ℕ) : Type 0 where
+record AreTried (plan : Plan) (e : DecoderLimits) (all seen xs : List Reception) (last : List CodeResult) (n : ℕ) : Type 0 where
   is : all ≡ seen ++ xs
   long : length seen ≡ n
   last_is : last ≡ results_in plan e all n
 
-seen-more : (plan : Plan) (e : Effort) (all seen : List Reception) (x : Reception) (xs : List Reception) (last : List CodeResult) (n : ℕ)
+seen-more : (plan : Plan) (e : DecoderLimits) (all seen : List Reception) (x : Reception) (xs : List Reception) (last : List CodeResult) (n : ℕ)
     → AreTried plan e all seen (x ∷ xs) last n
     → AreTried plan e all (seen ++ x ∷ []) xs (tried plan e (seen ++ x ∷ []) (held_after last)) (suc n)
 seen-more plan e all seen x xs last n h =
@@ -28,7 +29,7 @@ seen-more plan e all seen x xs last n h =
       last_is = ap (λ (ys : List Reception). tried plan e ys (held_after last)) (sym taken) ∙ ap (λ rs. tried plan e (take (suc n) all) (held_after rs)) h.last_is;
     }
 
-from : (plan : Plan) (e : Effort) (all seen xs : List Reception) (last : List CodeResult) (n a : ℕ)
+from : (plan : Plan) (e : DecoderLimits) (all seen xs : List Reception) (last : List CodeResult) (n a : ℕ)
     → AreTried plan e all seen xs last n → a ≡ suc n
     → outcome_from plan e seen last xs ≡ outcome_in plan e all (find (λ t. delivers plan (results_in plan e all t)) (range_with_len a (length xs)))
 from plan e all seen [] last n a h next =
@@ -68,6 +69,6 @@ from plan e all seen (x ∷ xs) last n a h next =
         ∙ later
         ∙ sym (ap (λ b. outcome_in plan e all (cond b (Some a) rest)) (ap (delivers plan) (sym same) ∙ is))
 
-pub first-delivers : (plan : Plan) (e : Effort) (xs : List Reception) → outcome plan e xs ≡ outcome_in plan e xs (delivering_try plan e xs)
+pub first-delivers : (plan : Plan) (e : DecoderLimits) (xs : List Reception) → outcome plan e xs ≡ outcome_in plan e xs (delivering_try plan e xs)
 unfolding outcome
 first-delivers plan e xs = from plan e xs [] xs [] 0 1 (record { is = refl; long = refl; last_is = refl }) refl

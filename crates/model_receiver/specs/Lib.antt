@@ -4,4 +4,5 @@ pub mod Windows
 pub mod HalfIteration
 pub mod Decoding
 pub mod SoftCells
+pub mod Limits
 pub mod TransportBlocks

@@ -14,12 +14,8 @@ use Rattle.model_receiver.specs.declared.result.TbOutcome.{TbOutcome}
 use Rattle.model_receiver.specs.declared.result.TbOutcome.TheVariants.{Delivered, Failed}
 use Rattle.model_receiver.specs.HalfIteration.{Shape, shape_of}
 use Rattle.model_receiver.specs.Decoding.{check_holds, code_result}
+use Rattle.model_receiver.specs.Limits.{DecoderLimits}
 use Rattle.model_receiver.specs.SoftCells.{Reception, soft_streams}
-
--- how a receiver decodes: in so many windows at most, and with so many iterations at most
-pub record Effort : Type 0 where
-  pub windows : ℕ
-  pub limit : ℕ
 
 -- whether d windows of one width, at least 8, make up a block of k bits
 abbrev pub divides_into : ℕ → ℕ → Bool
@@ -34,13 +30,13 @@ abbrev pub check_kind : ℕ → CheckKind
 check_kind c = if c == 1 then A else B
 
 -- how block r is decoded
-abbrev pub block_shape : Plan → Effort → ℕ → Shape
-block_shape plan e r =
-    shape_of (size plan r) (fill plan r) (check_kind plan.c) (window_count (size plan r) e.windows) e.limit
+abbrev pub block_shape : Plan → DecoderLimits → ℕ → Shape
+block_shape plan limits r =
+    shape_of (size plan r) (fill plan r) (check_kind plan.c) (window_count (size plan r) limits.windows) limits.limit
 
 -- what its decoding gives, from the beginning, after these receptions
-abbrev pub block_result : Plan → Effort → List Reception → ℕ → CodeResult
-block_result plan e xs r = code_result (soft_streams plan xs r) (block_shape plan e r)
+abbrev pub block_result : Plan → DecoderLimits → List Reception → ℕ → CodeResult
+block_result plan limits xs r = code_result (soft_streams plan xs r) (block_shape plan limits r)
 
 -- ---- One try.
 
@@ -49,11 +45,11 @@ abbrev pub Held : Type 0
 Held = List (Option CodeResult)
 
 -- the result of block r in a try after these receptions: the one that is held, or else it is decoded
-abbrev pub tried_block : Plan → Effort → List Reception → Held → ℕ → CodeResult
-tried_block plan e xs held r = unwrap_or (slice_index_or held r None) (block_result plan e xs r)
+abbrev pub tried_block : Plan → DecoderLimits → List Reception → Held → ℕ → CodeResult
+tried_block plan limits xs held r = unwrap_or (slice_index_or held r None) (block_result plan limits xs r)
 
-abbrev pub tried : Plan → Effort → List Reception → Held → List CodeResult
-tried plan e xs held = map (tried_block plan e xs held) (range_with_len 0 plan.c)
+abbrev pub tried : Plan → DecoderLimits → List Reception → Held → List CodeResult
+tried plan limits xs held = map (tried_block plan limits xs held) (range_with_len 0 plan.c)
 
 -- whether the check of each code block holds
 abbrev pub all_passed : List CodeResult → Bool
@@ -85,33 +81,33 @@ abbrev pub held_after : List CodeResult → Held
 held_after results = if all_passed results then [] else map if_passed results
 
 -- the outcome, from the receptions so far, the results of the last try, and the receptions still to come
-abbrev pub outcome_from : Plan → Effort → List Reception → List CodeResult → List Reception → TbOutcome
-outcome_from plan e seen last [] = Failed (length seen) (iterations_of last)
-outcome_from plan e seen last (x ∷ xs) =
+abbrev pub outcome_from : Plan → DecoderLimits → List Reception → List CodeResult → List Reception → TbOutcome
+outcome_from plan limits seen last [] = Failed (length seen) (iterations_of last)
+outcome_from plan limits seen last (x ∷ xs) =
     let now = seen ++ x ∷ [] in
-    let results = tried plan e now (held_after last) in
+    let results = tried plan limits now (held_after last) in
     if delivers plan results
     then Delivered (payload_of plan results) (length now) (iterations_of results)
-    else outcome_from plan e now results xs
+    else outcome_from plan limits now results xs
 
 -- what the reception of a transport block gives; before the first try there are no results, so none is held
-unfoldable pub outcome : Plan → Effort → List Reception → TbOutcome
-outcome plan e xs = outcome_from plan e [] [] xs
+unfoldable pub outcome : Plan → DecoderLimits → List Reception → TbOutcome
+outcome plan limits xs = outcome_from plan limits [] [] xs
 
 -- ---- The same by numbers of tries, from 1, which a law ties to the recursion.
 
 -- the results of try t
-abbrev pub results_in : Plan → Effort → List Reception → ℕ → List CodeResult
-results_in plan e xs zero = []
-results_in plan e xs (suc t) = tried plan e (take (suc t) xs) (held_after (results_in plan e xs t))
+abbrev pub results_in : Plan → DecoderLimits → List Reception → ℕ → List CodeResult
+results_in plan limits xs zero = []
+results_in plan limits xs (suc t) = tried plan limits (take (suc t) xs) (held_after (results_in plan limits xs t))
 
 -- the first try that delivers
-abbrev pub delivering_try : Plan → Effort → List Reception → Option ℕ
-delivering_try plan e xs =
-    find (λ t. delivers plan (results_in plan e xs t)) (range_with_len 1 (length xs))
+abbrev pub delivering_try : Plan → DecoderLimits → List Reception → Option ℕ
+delivering_try plan limits xs =
+    find (λ t. delivers plan (results_in plan limits xs t)) (range_with_len 1 (length xs))
 
 -- the outcome with the results of that try, or of the last
-abbrev pub outcome_in : Plan → Effort → List Reception → Option ℕ → TbOutcome
-outcome_in plan e xs (Some t) =
-    let results = results_in plan e xs t in Delivered (payload_of plan results) t (iterations_of results)
-outcome_in plan e xs None = Failed (length xs) (iterations_of (results_in plan e xs (length xs)))
+abbrev pub outcome_in : Plan → DecoderLimits → List Reception → Option ℕ → TbOutcome
+outcome_in plan limits xs (Some t) =
+    let results = results_in plan limits xs t in Delivered (payload_of plan results) t (iterations_of results)
+outcome_in plan limits xs None = Failed (length xs) (iterations_of (results_in plan limits xs (length xs)))

@@ -3,6 +3,7 @@
 #![tactic(auto)]
 
 pub mod decoding;
+pub mod limits;
 pub mod paths;
 pub mod positions;
 pub mod result;
@@ -10,4 +11,5 @@ pub mod soft_cells;
 pub mod transport_blocks;
 pub mod windows;
 
+pub use limits::DecoderLimits;
 pub use result::{CheckKind, CodeResult, TbOutcome};

@@ -3,7 +3,8 @@ ghost use Rattle.std.specs.Prelude.{◌≡◌, ℕ, ◌*◌, ◌≤◌, List};
 ghost use Prim.Native.Nat.{◌∣◌};
 ghost use Rattle.model_sender.specs.Segmentation.{Plan};
 ghost use Rattle.model_receiver.specs.SoftCells.{Reception};
-ghost use Rattle.model_receiver.specs.TransportBlocks.{Effort, delivering_try, outcome, outcome_in, window_count};
+ghost use Rattle.model_receiver.specs.Limits.{DecoderLimits};
+ghost use Rattle.model_receiver.specs.TransportBlocks.{delivering_try, outcome, outcome_in, window_count};
 
 /// The number of windows is the one that divides the block, leaves each window 8 positions, isn't above
 /// the limit, and that none such exceeds.
@@ -14,8 +15,8 @@ pub fn window_counts_are_the_greatest()
 
 /// The outcome is that of the first try that delivers, by its number; where there is none, of the last.
 pub fn the_first_delivery_decides()
-    ensures { (plan : Plan) (e : Effort) (xs : List Reception) →
-        outcome plan e xs ≡ outcome_in plan e xs (delivering_try plan e xs) }
+    ensures { (plan : Plan) (limits : DecoderLimits) (xs : List Reception) →
+        outcome plan limits xs ≡ outcome_in plan limits xs (delivering_try plan limits xs) }
 {}
 
 /// Worked: blocks of 40, 3072 and 6144 bits, for at most 8, 8 and 64 windows.

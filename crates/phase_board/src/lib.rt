@@ -8,7 +8,7 @@ mod claiming;
 mod closed;
 mod closing;
 mod finishing;
-mod making;
+mod new_board;
 mod piece;
 mod plays;
 mod putting_back;
@@ -20,6 +20,6 @@ mod view;
 
 pub use board::Board;
 pub use closed::Closed;
-pub use making::NewRefused;
+pub use new_board::NewRefused;
 pub use piece::Piece;
 pub use seats::{Claim, Finish, Idle, Turning, Working};

@@ -7,8 +7,8 @@ use Rattle.lte_bits.specs.declared.bit.Bit.TheVariants.{Zero, One}
 use Rattle.qam_points.specs.declared.point.Point.{Point}
 
 -- how many bits a point can have: 2 with QPSK, 4 with 16QAM, 6 with 64QAM
-abbrev pub IsOrder : ℕ → Type 0
-IsOrder qm = (qm ≡ 2) ⊎ (qm ≡ 4) ⊎ (qm ≡ 6)
+abbrev pub IsModulationOrder : ℕ → Type 0
+IsModulationOrder qm = (qm ≡ 2) ⊎ (qm ≡ 4) ⊎ (qm ≡ 6)
 
 -- 1 - 2b
 abbrev pub sign : Bit → ℤ

@@ -1,7 +1,7 @@
 //! Soft values of received points.
 ghost use Rattle.std.specs.Prelude.{◌≡◌, ◌<◌, ◌≤◌, ℕ, All, IfOk};
 ghost use Rattle.lte_bits.specs.Softs.{IsWithin, clamped};
-ghost use Rattle.qam_points.specs.Constellation.{IsOrder};
+ghost use Rattle.qam_points.specs.Constellation.{IsModulationOrder};
 ghost use Rattle.qam_points.specs.Demapping.{IsNearby, demapped, soft_values};
 
 use crate::coordinate::{first_of_three, first_of_two, rest_of_three, second_of_two};
@@ -62,7 +62,7 @@ fn six_values(y: Point, amp: u8) -> [Soft; 6]
 /// much the nearest point whose bit is 1 is further, by its squared distance, than the nearest whose bit is
 /// 0, divided by four times the amplitude, rounded toward zero, and clamped.
 pub fn demap(alloc: Global, points: &[Point], qm: u8, amp: u8) -> Result<List<Soft>, NoMemory>
-    requires order { IsOrder qm }
+    requires order { IsModulationOrder qm }
     requires amp { (1 ≤ amp) × (amp ≤ 127) }
     requires near { All IsNearby points.now }
     ensures { IfOk result (λ softs. softs ≡ demapped qm amp points.now) }

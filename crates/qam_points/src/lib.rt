@@ -6,7 +6,9 @@ pub mod demapping;
 pub mod laws;
 pub mod mapping;
 pub mod point;
+pub mod reception;
 
 pub use demapping::demap;
 pub use mapping::map;
 pub use point::Point;
+pub use reception::receive;

@@ -1,7 +1,7 @@
 //! Bits as points.
 ghost use Rattle.std.specs.Prelude.{◌≡◌, ◌%◌, ◌*◌, IfOk, length, pos, ◌-ℤ◌, ◌*ℤ◌};
 ghost use Rattle.lte_bits.specs.Softs.{IsWithin};
-ghost use Rattle.qam_points.specs.Constellation.{IsOrder, mapped, point, sign};
+ghost use Rattle.qam_points.specs.Constellation.{IsModulationOrder, mapped, point, sign};
 
 use crate::point::Point;
 use lte_bits::{Bit, List, NoMemory};
@@ -35,7 +35,7 @@ fn level_of_three(a: Bit, b: Bit, c: Bit) -> i32
 
 /// Returns the point of 2, 4 or 6 bits.
 fn point(bits: &[Bit]) -> Point
-    requires { IsOrder (length bits.now) }
+    requires { IsModulationOrder (length bits.now) }
     ensures { result ≡ point bits.now }
 {
     match bits {
@@ -57,7 +57,7 @@ fn point(bits: &[Bit]) -> Point
 
 /// Returns the points of bits, `qm` bits each: 2, 4 or 6, which divides their number.
 pub fn map(alloc: Global, bits: &[Bit], qm: u8) -> Result<List<Point>, NoMemory>
-    requires order { IsOrder qm }
+    requires order { IsModulationOrder qm }
     requires whole { length bits.now % qm ≡ 0 }
     ensures { IfOk result (λ points. points ≡ mapped qm bits.now) }
 {

@@ -2,14 +2,14 @@
 //! and banks, and interleavers whose numbers are constants.
 #![tactic(auto)]
 
-pub mod banks;
-pub mod fixed;
+mod banks;
+mod fixed;
 mod groups;
 pub mod interleaver;
 mod modular;
-pub mod table;
-pub mod walk;
-pub mod windows;
+mod table;
+mod walk;
+mod windows;
 
 pub use banks::{bank_row, windows_stay_apart};
 pub use fixed::FixedQpp;

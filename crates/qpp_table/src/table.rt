@@ -18,7 +18,8 @@ fn find_row(rows: &[Row], k: usize) -> Option<Row>
     rows.iter().copied().find(|row| row.0 == k)
 }
 
-/// Returns the interleaver of size `k`, and `None` exactly where `k` isn't one of the 188 sizes.
+/// Returns the interleaver of size `k` (36.212 5.1.3.2.3), and `None` exactly where `k` isn't one of the 188
+/// sizes of table 5.1.3-3.
 pub fn qpp(k: usize) -> Option<Qpp>
     ensures some { IsSome result ↔ Contains sizes k }
     ensures row { IfSome result (λ q. row_in q ≡ row_of k) }
@@ -31,8 +32,8 @@ pub fn qpp(k: usize) -> Option<Qpp>
     }
 }
 
-/// Writes to `out` the place from which each place of a block takes its bit. `k` is one of the 188 sizes, and
-/// `out` has length `k`.
+/// Writes to `out` the place from which each place of a block takes its bit, Pi(0) to Pi(K - 1)
+/// (36.212 5.1.3.2.3). `k` is one of the 188 sizes, and `out` has length `k`. Allocates nothing.
 #[tactic(auto, unfolding(crate::specs::Groups::addresses_of))]
 pub fn addresses(k: usize, out: &mut [u16])
     requires size { Contains sizes k }

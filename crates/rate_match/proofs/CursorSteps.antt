@@ -146,3 +146,7 @@ third-first k fill n p later odd is last =
 pub third-later : (k fill n p : ℕ) → 32 * rows_of k ≤ n → (n % 2 ≡ 0 → ⊥) → p ≡ read_place (rows_of k) (order_of (rows_of k) n) → p + 1 < 32 * rows_of k →
     padded (third k) (p + 1) ≡ spot k fill n
 third-later k fill n p later odd is inner = sym (spot-odd k fill n p later odd is ∙ ap (padded (third k)) (mod-eq_of_lt inner))
+
+-- a cursor's place is its own
+pub lawful-at : (r m : ℕ) (c : Cursor) → c ≡ cursor_at r m → c ≡ cursor_at r c.n
+lawful-at r m c is = is ∙ ap (cursor_at r) (sym (ap (λ (c : Cursor). c.n) is))

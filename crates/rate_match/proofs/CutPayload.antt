@@ -9,17 +9,13 @@ use Rattle.model_sender.specs.CodedStreams.{streams}
 use Rattle.model_sender.specs.CircularBuffer.{AreStreams}
 use Rattle.segmentation.specs.Plans.{IsPlan}
 use Rattle.segmentation.specs.Shape.{AreBlocksOf}
+use Rattle.segmentation.proofs.CutBlocks.{blocks-shape}
 use Rattle.segmentation.proofs.OfPlans.{is_plan, sound-plan}
+use Rattle.rate_match.specs.Coded.{AreCut}
 use Rattle.rate_match.proofs.BlockNumbers.{block-numbers}
 use Rattle.rate_match.proofs.BlockStreams.{block-inside, block-streams, shape-count}
 
--- the blocks of a payload, whose plan it is
-pub record AreCut (payload : List ℕ) (p : Plan) (bs : List Block) : Type 0 where
-  pub planned : p ≡ plan_of (length payload)
-  pub lawful : IsPlan p
-  pub are : bs ≡ blocks p payload
-  pub shape : AreBlocksOf p bs
-
+-- the blocks of a payload, by its plan
 pub are_cut : (payload : List ℕ) (p : Plan) (bs list : List Block) → 1 ≤ length payload → length payload ≤ 18722 → p ≡ plan_of (length payload) → bs ≡ list
     → list ≡ blocks p payload → AreBlocksOf p list
     → AreCut payload p bs
@@ -55,3 +51,37 @@ cut_block payload p bs r b cut within at =
       inside = block-inside p bs r b numbers cut.shape below at;
       streams_are = block-streams p bs r b numbers cut.shape below at;
     }
+
+-- blocks that are lent are those of the payload that is seen
+cut-lent : (payload view : List ℕ) (p : Plan) (bs lent : List Block) → view ≡ payload → lent ≡ bs → AreCut view p bs → AreCut payload p lent
+cut-lent payload view p bs lent seen lends cut =
+    subst (λ (xs : List ℕ). AreCut xs p lent) seen (subst (λ (l : List Block). AreCut view p l) (sym lends) cut)
+
+-- r is one of them
+pub record IsBlockAt (payload : List ℕ) (p : Plan) (lent : List Block) (r : ℕ) : Type 0 where
+  pub cut : AreCut payload p lent
+  pub below : r < p.c
+  pub within : r < length lent
+  pub few : p.c ≤ 25
+
+pub block-at : (payload view : List ℕ) (p : Plan) (bs lent : List Block) (r : ℕ) → view ≡ payload → lent ≡ bs → AreCut view p bs → r < (plan_of (length payload)).c → IsBlockAt payload p lent r
+block-at payload view p bs lent r seen lends is inside =
+    let cut = cut-lent payload view p bs lent seen lends is in
+    let below : r < p.c = omega (arith, inside, ap (λ (q : Plan). q.c) cut.planned) in
+    record {
+      cut = cut;
+      below = below;
+      within = omega (arith, below, shape-count p lent cut.shape);
+      few = (block-numbers p r cut.lawful below).few;
+    }
+
+-- the streams of block r
+pub coded_streams : (payload : List ℕ) (r : ℕ) → 1 ≤ length payload → length payload ≤ 18722 → r < (plan_of (length payload)).c
+    → AreStreams (size (plan_of (length payload)) r) (fill (plan_of (length payload)) r) (streams (block (plan_of (length payload)) payload r))
+coded_streams payload r some few below =
+    let p : Plan = plan_of (length payload) in
+    let bs : List Block = blocks p payload in
+    let b : Block = block p payload r in
+    let shape = blocks-shape payload some few in
+    let stands : b ≡ get_or bs r b = sym (get_or-map-range_with_len (block p payload) 0 p.c r r b below (let e : 0 + r ≡ r = omega arith in e)) in
+    block-streams p bs r b (block-numbers p r (is_plan (length payload) some few) below) shape below stands

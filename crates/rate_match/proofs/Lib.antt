@@ -4,9 +4,8 @@ pub mod FitTest
 pub mod BlockNumbers
 pub mod Matchings
 pub mod Walked
-pub mod Selected
 pub mod CursorSteps
-pub mod Runs
+pub mod ColumnRuns
 pub mod Parts
 pub mod BlockStreams
 pub mod Lengths

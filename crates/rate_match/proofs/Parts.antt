@@ -1,5 +1,7 @@
 -- Parts of a list that are written.
-use Rattle.std.proofs.Common.{◌≡◌, ℕ, ◌+◌, ◌-◌, ◌≤◌, List, ◌++◌, length, take, drop, ap, ◌∙◌, append_assoc, arith}
+use Rattle.std.proofs.Common.{◌≡◌, ℕ, zero, suc, ◌+◌, ◌-◌, ◌<◌, ◌≤◌, List, ◌∷◌, ◌++◌, length, map, take, drop, refl, sym, ap, ◌∙◌, append_assoc, arith}
+use Rattle.std.specs.List.{range_with_len}
+use Rattle.std.proofs.lemmas.Simd.{map-map}
 use Rattle.std.specs.Prelude.{replicate}
 use Rattle.std.proofs.lemmas.List.{length-append, length-drop, length-take-le, take_all}
 use Rattle.std.proofs.Math.Seq.{take-append-add, take-append_seam}
@@ -38,3 +40,17 @@ longer-kept {X} from n x old now items first same is =
 
 pub rest-long : {X : Type 0} (from n : ℕ) (now : List X) → length now ≡ from + n → length (take (length now - from) (drop from now)) ≡ n
 rest-long from n now long = length-take-le (length now - from) (drop from now) (omega (arith, length-drop from now)) ∙ omega (arith, long)
+
+-- what is made of each of so many numbers, in two ways
+pub map-alike : {X : Type 0} (g : ℕ → X) (p : ℕ → ℕ) (f : ℕ → X) (n : ℕ) → ((i : ℕ) → i < n → g i ≡ f (p i)) → map g (range_with_len 0 n) ≡ map f (map p (range_with_len 0 n))
+map-alike {X} g p f n alike = from 0 n (λ i h. at i alike h) ∙ sym (map-map f p (range_with_len 0 n))
+  where
+    at : (i : ℕ) → ((i : ℕ) → i < n → g i ≡ f (p i)) → i < n → g (0 + i) ≡ f (p (0 + i))
+    at i alike h = ap g (let e : 0 + i ≡ i = omega arith in e) ∙ alike i h ∙ ap (λ j. f (p j)) (let e : i ≡ 0 + i = omega arith in e)
+
+    from : (a m : ℕ) → ((i : ℕ) → i < m → g (a + i) ≡ f (p (a + i))) → map g (range_with_len a m) ≡ map (λ i. f (p i)) (range_with_len a m)
+    from a zero alike = refl
+    from a (suc m) alike =
+        ap (λ (x : X). x ∷ map g (range_with_len (a + 1) m)) (ap g (let e : a ≡ a + 0 = omega arith in e) ∙ alike 0 (omega arith) ∙ ap (λ j. f (p j)) (let e : a + 0 ≡ a = omega arith in e))
+        ∙ ap (λ (xs : List X). f (p a) ∷ xs) (from (a + 1) m
+        (λ i h. ap g (let e : a + 1 + i ≡ a + suc i = omega arith in e) ∙ alike (suc i) (omega (arith, h)) ∙ ap (λ j. f (p j)) (let e : a + suc i ≡ a + 1 + i = omega arith in e)))

@@ -4,8 +4,8 @@ use Rattle.std.specs.List.{range_with_len}
 use Rattle.std.proofs.lemmas.Bool.{cases_lt}
 use Rattle.std.proofs.lemmas.List.{map-append, length-append, get_or_append_left, get_or-append_right, append-nil}
 use Rattle.std.proofs.lemmas.List.Elements.{filter-append}
-use Rattle.std.proofs.lemmas.List.FromFn.{filter_of_map_range_with_len_more, fill_by_all}
-use Rattle.std.proofs.Math.Nat.{add-mod_left, add-mod_right, add-mod-mod, mod-eq_of_lt}
+use Rattle.std.proofs.lemmas.List.FromFn.{filter_of_map_range_with_len_more, fill_by_all, length-map-range_with_len}
+use Rattle.std.proofs.Math.Nat.{add-mod_left, add-mod_right, add-mod-mod, mod-eq_of_lt, mul-le-mul_left}
 use Rattle.model_sender.specs.Selection.{repeated}
 
 -- what s steps from k on find
@@ -18,16 +18,26 @@ range-split a (suc m) s =
     ap (λ n. range_with_len a n) (let e : suc m + s ≡ suc (m + s) = omega arith in e)
     ∙ ap (λ xs. a ∷ xs) (range-split (a + 1) m s ∙ ap (λ b. range_with_len (a + 1) m ++ range_with_len b s) (let e : a + 1 + m ≡ a + suc m = omega arith in e))
 
+-- the same places, counted from elsewhere
+moved : (k q n a b s : ℕ) → ((i : ℕ) → (k + (a + i)) % n ≡ (q + (b + i)) % n) → map (λ i. (k + i) % n) (range_with_len a s) ≡ map (λ i. (q + i) % n) (range_with_len b s)
+moved k q n a b zero at = refl
+moved k q n a b (suc s) at =
+    let first : (k + a) % n ≡ (q + b) % n = ap (λ m. (k + m) % n) (let e : a ≡ a + 0 = omega arith in e) ∙ at 0 ∙ ap (λ m. (q + m) % n) (let e : b + 0 ≡ b = omega arith in e) in
+    ap (λ x. x ∷ map (λ i. (k + i) % n) (range_with_len (a + 1) s)) first
+    ∙ ap (λ xs. (q + b) % n ∷ xs) (moved k q n (a + 1) (b + 1) s
+    (λ i. ap (λ m. (k + m) % n) (let e : a + 1 + i ≡ a + suc i = omega arith in e) ∙ at (suc i) ∙ ap (λ m. (q + m) % n) (let e : b + suc i ≡ b + 1 + i = omega arith in e)))
+
+-- a place that is reduced
+reduced : (k n i : ℕ) → (k % n + i) % n ≡ (k + i) % n
+reduced k n i =
+    ap (λ m. m % n) (let e : k % n + i ≡ i + k % n = omega arith in e) ∙ add-mod-mod i k n ∙ ap (λ m. m % n) (let e : i + k ≡ k + i = omega arith in e)
+
 -- a round further the places are the same
 shifted : (k n a s : ℕ) → map (λ i. (k + i) % n) (range_with_len (a + n) s) ≡ map (λ i. (k + i) % n) (range_with_len a s)
-shifted k n a zero = refl
-shifted k n a (suc s) =
-    let e : (k + (a + n)) % n ≡ (k + a) % n = ap (λ m. m % n) (let f : k + (a + n) ≡ k + a + n = omega arith in f) ∙ add-mod_right (k + a) n in
-    ap (λ x. x ∷ map (λ i. (k + i) % n) (range_with_len (a + n + 1) s)) e
-    ∙ ap (λ xs. (k + a) % n ∷ xs) (ap (λ b. map (λ i. (k + i) % n) (range_with_len b s)) (let f : a + n + 1 ≡ a + 1 + n = omega arith in f) ∙ shifted k n (a + 1) s)
+shifted k n a s = moved k k n (a + n) a s (λ i. ap (λ m. m % n) (let e : k + (a + n + i) ≡ k + (a + i) + n = omega arith in e) ∙ add-mod_right (k + (a + i)) n)
 
 -- steps after steps
-pub walked-split : (keep : ℕ → Bool) (k n m s : ℕ) → walked keep k n (m + s) ≡ walked keep k n m ++ filter keep (map (λ i. (k + i) % n) (range_with_len (0 + m) s))
+walked-split : (keep : ℕ → Bool) (k n m s : ℕ) → walked keep k n (m + s) ≡ walked keep k n m ++ filter keep (map (λ i. (k + i) % n) (range_with_len (0 + m) s))
 walked-split keep k n m s =
     ap (λ xs. filter keep (map (λ i. (k + i) % n) xs)) (range-split 0 m s)
     ∙ (ap (filter keep) (map-append (λ i. (k + i) % n) (range_with_len 0 m) (range_with_len (0 + m) s))
@@ -37,14 +47,14 @@ walked-split keep k n m s =
 round : (keep : ℕ → Bool) (k n s : ℕ) → walked keep k n (n + s) ≡ walked keep k n n ++ walked keep k n s
 round keep k n s = walked-split keep k n n s ∙ ap (λ xs. walked keep k n n ++ filter keep xs) (shifted k n 0 s)
 
-pub rounds-long : (keep : ℕ → Bool) (k n q : ℕ) → length (walked keep k n (q * n)) ≡ q * length (walked keep k n n)
+rounds-long : (keep : ℕ → Bool) (k n q : ℕ) → length (walked keep k n (q * n)) ≡ q * length (walked keep k n n)
 rounds-long keep k n zero = ap (λ m. length (walked keep k n m)) (let e : 0 * n ≡ 0 = omega arith in e) ∙ (let f : 0 ≡ 0 * length (walked keep k n n) = omega arith in f)
 rounds-long keep k n (suc q) =
     let e : suc q * n ≡ n + q * n = omega arith in
     let a : length (walked keep k n (suc q * n)) ≡ length (walked keep k n n ++ walked keep k n (q * n)) = ap length (ap (walked keep k n) e ∙ round keep k n (q * n)) in
     omega (arith, a, length-append (walked keep k n n) (walked keep k n (q * n)), rounds-long keep k n q)
 
-pub walked-cyclic : (keep : ℕ → Bool) (k n q s i : ℕ) → s ≤ q * n → i < length (walked keep k n s) → get_or (walked keep k n s) i 0 ≡ get_or (walked keep k n n) (i % length (walked keep k n n)) 0
+walked-cyclic : (keep : ℕ → Bool) (k n q s i : ℕ) → s ≤ q * n → i < length (walked keep k n s) → get_or (walked keep k n s) i 0 ≡ get_or (walked keep k n n) (i % length (walked keep k n n)) 0
 walked-cyclic keep k n zero s i le lt =
     let e : s ≡ 0 = omega (arith, le) in
     absurd (let h : length (walked keep k n s) ≡ 0 = ap (λ m. length (walked keep k n m)) e in omega (arith, h, lt))
@@ -74,27 +84,14 @@ walked-cyclic keep k n (suc q) s i le lt =
     ]
 
 -- as many as were wanted are the places of one round, over and over
-pub walked-again : (keep : ℕ → Bool) (k n q e s : ℕ) → s ≤ q * n → length (walked keep k n s) ≡ e → walked keep k n s ≡ repeated (walked keep k n n) e
+walked-again : (keep : ℕ → Bool) (k n q e s : ℕ) → s ≤ q * n → length (walked keep k n s) ≡ e → walked keep k n s ≡ repeated (walked keep k n n) e
 walked-again keep k n q e s le long =
     let v : List ℕ = walked keep k n n in
     fill_by_all (λ i. get_or v (i % length v) 0) (walked keep k n s) e 0 long (λ i lt. walked-cyclic keep k n q s i le (omega (arith, lt, long)))
 
-pub walked-repeated : (keep : ℕ → Bool) (k n e s : ℕ) → s ≤ e * n → length (walked keep k n s) ≡ e → walked keep k n s ≡ repeated (walked keep k n n) e
-walked-repeated keep k n e s le long = walked-again keep k n e e s le long
-
--- more steps find no less
-pub walked-grows : (keep : ℕ → Bool) (k n m s : ℕ) → m ≤ s → length (walked keep k n m) ≤ length (walked keep k n s)
-walked-grows keep k n m s le =
-    let more : List ℕ = filter keep (map (λ i. (k + i) % n) (range_with_len (0 + m) (s - m))) in
-    let e : walked keep k n s ≡ walked keep k n m ++ more = ap (walked keep k n) (let f : s ≡ m + (s - m) = omega (arith, le) in f) ∙ walked-split keep k n m (s - m) in
-    omega (arith, ap length e, length-append (walked keep k n m) more)
-
 -- one more step
 stepped : (keep : ℕ → Bool) (k n s p : ℕ) → p ≡ (k + s) % n → walked keep k n (s + 1) ≡ walked keep k n s ++ cond (keep p) (p ∷ []) []
 stepped keep k n s p e = filter_of_map_range_with_len_more keep (λ i. (k + i) % n) 0 s s (let z : 0 + s ≡ s = omega arith in z) ∙ ap (λ q. walked keep k n s ++ cond (keep q) (q ∷ []) []) (sym e)
-
-pub step_kept : (keep : ℕ → Bool) (k n s p : ℕ) → p ≡ (k + s) % n → keep p ≡ true → walked keep k n (s + 1) ≡ walked keep k n s ++ p ∷ []
-step_kept keep k n s p e t = stepped keep k n s p e ∙ ap (λ b. walked keep k n s ++ cond b (p ∷ []) []) t
 
 pub step_left : (keep : ℕ → Bool) (k n s p : ℕ) → p ≡ (k + s) % n → keep p ≡ false → walked keep k n (s + 1) ≡ walked keep k n s
 step_left keep k n s p e t = stepped keep k n s p e ∙ (ap (λ b. walked keep k n s ++ cond b (p ∷ []) []) t ∙ append-nil (walked keep k n s))
@@ -121,7 +118,7 @@ run-found keep k n p a b (suc m) at kept =
     (λ i h. ap (λ q. (k + q) % n) (let e : a + 1 + i ≡ a + suc i = omega arith in e) ∙ at (suc i) (omega (arith, h)) ∙ (let e : p + (b + suc i) ≡ p + (b + 1 + i) = omega arith in e))
     (λ i h. ap keep (let e : p + (b + 1 + i) ≡ p + (b + suc i) = omega arith in e) ∙ kept (suc i) (omega (arith, h))))
 
-pub run_kept : (keep : ℕ → Bool) (k n s p m : ℕ) → p ≡ (k + s) % n → p + m ≤ n → ((i : ℕ) → i < m → keep (p + i) ≡ true)
+run_kept : (keep : ℕ → Bool) (k n s p m : ℕ) → p ≡ (k + s) % n → p + m ≤ n → ((i : ℕ) → i < m → keep (p + i) ≡ true)
     → walked keep k n (s + m) ≡ walked keep k n s ++ map (λ i. p + i) (range_with_len 0 m)
 run_kept keep k n s p m is within kept =
     let at : (i : ℕ) → i < m → (k + (0 + s + i)) % n ≡ p + (0 + i) = λ i h. (
@@ -140,3 +137,57 @@ place_after k s n p q m is some end =
     ∙ ap (λ (q : ℕ). (m + q) % n) is
     ∙ add-mod-mod m (k + s) n
     ∙ ap (λ (m : ℕ). m % n) (let e : m + (k + s) ≡ k + (s + m) = omega arith in e)
+
+-- ---- from place to place
+
+-- it does not matter how often a walk has gone round before it begins
+pub walked-reduced : (keep : ℕ → Bool) (k n s : ℕ) → walked keep (k % n) n s ≡ walked keep k n s
+walked-reduced keep k n s = ap (filter keep) (moved (k % n) k n 0 0 s (λ i. reduced k n (0 + i)))
+
+-- the steps after some are those from the place that they come to
+walked-after : (keep : ℕ → Bool) (k n m q s : ℕ) → q ≡ (k + m) % n → walked keep k n (m + s) ≡ walked keep k n m ++ walked keep q n s
+walked-after keep k n m q s is =
+    walked-split keep k n m s
+    ∙ ap (λ xs. walked keep k n m ++ filter keep xs)
+    (moved k q n (0 + m) 0 s (λ i. ap (λ p. p % n) (let e : k + (0 + m + i) ≡ k + m + (0 + i) = omega arith in e) ∙ sym (reduced (k + m) n (0 + i)) ∙ ap (λ p. (p + (0 + i)) % n) (sym is)))
+
+one-more : (keep : ℕ → Bool) (k n s : ℕ) → length (walked keep k n (s + 1)) ≤ length (walked keep k n s) + 1
+one-more keep k n s =
+    let p : ℕ = (k + s) % n in
+    let few : (b : Bool) → length (walked keep k n s ++ cond b (p ∷ []) []) ≤ length (walked keep k n s) + 1 =
+    λ b. elim b as (λ b. length (walked keep k n s ++ cond b (p ∷ []) []) ≤ length (walked keep k n s) + 1) [
+      | true ↦ omega (arith, length-append (walked keep k n s) (p ∷ []))
+      | false ↦ omega (arith, length-append (walked keep k n s) [])
+    ] in
+    omega (arith, ap length (stepped keep k n s p refl), few (keep p))
+
+-- some number of steps finds just so many
+steps_for : (keep : ℕ → Bool) (k n e s : ℕ) → e ≤ length (walked keep k n s) → (t : ℕ) × (length (walked keep k n t) ≡ e)
+steps_for keep k n e zero enough = (0, omega (arith, enough))
+steps_for keep k n e (suc s) enough =
+    elim (cases_lt (length (walked keep k n s)) e) [
+      | inl fewer ↦ (
+        s + 1,
+        (let same : length (walked keep k n (suc s)) ≡ length (walked keep k n (s + 1)) = ap (λ m. length (walked keep k n m)) (let e : suc s ≡ s + 1 = omega arith in e) in
+            omega (arith, enough, fewer, same, one-more keep k n s)),
+      )
+      | inr more ↦ steps_for keep k n e s more
+    ]
+
+-- as many places as are wanted, in a round and round of those that are kept
+found : (keep : ℕ → Bool) (k n s e : ℕ) → 0 < n → length (walked keep k n s) ≡ e → walked keep k n s ≡ repeated (walked keep k n n) e
+found keep k n s e some long = walked-again keep k n s e s (let within : s * 1 ≤ s * n = mul-le-mul_left s some in omega (arith, within)) long
+
+-- Steps that find nothing come to a run of places that are all kept: first come those, and then what comes from
+-- the place after the run on.
+pub run-next : (keep : ℕ → Bool) (k n s p m q e : ℕ) → 0 < n → walked keep k n s ≡ [] → p ≡ (k + s) % n → p + m ≤ n → ((i : ℕ) → i < m → keep (p + i) ≡ true)
+    → q ≡ (k + (s + m)) % n → 0 < length (walked keep q n n) → repeated (walked keep k n n) (m + e) ≡ map (λ i. p + i) (range_with_len 0 m) ++ repeated (walked keep q n n) e
+run-next keep k n s p m q e some none is within kept next bit =
+    let places : List ℕ = map (λ i. p + i) (range_with_len 0 m) in
+    let enough : e * 1 ≤ e * length (walked keep q n n) = mul-le-mul_left e bit in
+    let steps = steps_for keep q n e (e * n) (omega (arith, enough, rounds-long keep q n e)) in
+    let run : walked keep k n (s + m) ≡ places = run_kept keep k n s p m is within kept ∙ ap (λ xs. xs ++ places) none in
+    let all : walked keep k n (s + m + steps.0) ≡ places ++ walked keep q n steps.0 = walked-after keep k n (s + m) q steps.0 next ∙ ap (λ xs. xs ++ walked keep q n steps.0) run in
+    let long : length (walked keep k n (s + m + steps.0)) ≡ m + e =
+    omega (arith, ap length all, length-append places (walked keep q n steps.0), length-map-range_with_len (λ i. p + i) 0 m, steps.1) in
+    sym (found keep k n (s + m + steps.0) (m + e) some long) ∙ all ∙ ap (λ xs. places ++ xs) (found keep q n steps.0 e some steps.1)

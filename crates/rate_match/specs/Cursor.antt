@@ -16,7 +16,7 @@ cursor_at r n = record {
   by_rows = read_place r (order_of r n);
 }
 
--- ---- A run: places one after the other that hold bits of one column.
+-- ---- The places of one column.
 
 -- how many rows of the column the place is below that stands i places further on, where a stream takes r rows
 abbrev pub rows_down : ℕ → Cursor → ℕ → ℕ
@@ -31,7 +31,7 @@ spot_down r k c i =
     else record { stream = 2; index = index + 1 }
 
 -- from a cursor on, so many places stand in its column and hold these bits
-pub record IsRun (r k fill : ℕ) (c : Cursor) (count : ℕ) : Type 0 where
+pub record IsInColumn (r k fill : ℕ) (c : Cursor) (count : ℕ) : Type 0 where
   pub above : (i : ℕ) → i < count → padding k ≤ c.by_rows
   pub column : (i : ℕ) → i < count → c.by_rows / 32 + rows_down r c i < r
   pub bits : (i : ℕ) → i < count → spot k fill (c.n + i) ≡ Some (spot_down r k c i)

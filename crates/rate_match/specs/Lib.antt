@@ -5,3 +5,6 @@ pub mod Held
 pub mod Fitting
 pub mod Cursor
 pub mod Coded
+pub mod Runs
+pub mod Walk
+pub mod Streams

@@ -4,13 +4,13 @@ ghost use Rattle.model_sender.specs.Segmentation.{plan_of};
 ghost use Rattle.model_sender.specs.CircularBuffer.{Fits};
 ghost use Rattle.model_sender.specs.Codeword.{codeword};
 
+use crate::code_blocks::CodeBlocks;
 use crate::matching::Match;
 use crate::selecting::push_piece;
 use lte_bits::{Bit, List, NoMemory, Streams};
-use segmentation::{cut, plan, size};
+use segmentation::plan;
 use std::alloc::Global;
 use std::marker::Model;
-use turbo_encode::{Order, encode_in_order};
 
 /// A payload of 1 to 18,722 bytes, with the coded streams of its code blocks. Contracts see the payload.
 #[derive(Debug, Drop)]
@@ -38,13 +38,13 @@ impl<'a> Coded<'a> {
         requires few { length payload.now ≤ 18722 }
         ensures { IfOk result (λ coded. coded ≡ payload.now) }
     {
-        let plan = plan(payload.len()).unwrap();
-        let blocks = cut(alloc, payload, &plan)?;
-        let mut streams = Vec::with_capacity(alloc, plan.c)?;
-        let mut order = Order::new(alloc, size(&plan, 0))?;
-        for block in blocks.as_slice() {
-            order = order.for_size(alloc, block.bits.as_slice().len())?;
-            streams.push(encode_in_order(alloc, block, &order)?)?;
+        let mut blocks = CodeBlocks::new(alloc, payload)?;
+        let count = blocks.plan().c;
+        let mut streams = Vec::with_capacity(alloc, count)?;
+        for r in 0..count {
+            let (coded, others) = blocks.coded(alloc, r)?;
+            streams.push(coded)?;
+            blocks = others;
         }
         Ok(Coded { payload, streams })
     }

@@ -4,12 +4,11 @@ ghost use Rattle.model_sender.specs.Segmentation.{plan_of};
 ghost use Rattle.model_sender.specs.CircularBuffer.{Fits};
 ghost use Rattle.model_sender.specs.Codeword.{codeword};
 
+use crate::code_blocks::CodeBlocks;
 use crate::matching::Match;
 use crate::selecting::push_piece;
 use lte_bits::{Bit, List, NoMemory};
-use segmentation::{cut, plan, size};
 use std::alloc::Global;
-use turbo_encode::{Order, encode_in_order};
 
 /// Returns the G bits that redundancy version `rv`, 0 to 3, sends of a payload of 1 to 18,722 bytes, whose
 /// plan the buffer fits. One code block's streams are held at a time.
@@ -21,14 +20,13 @@ pub fn codeword(alloc: Global, payload: &[u8], m: &Match, rv: u8) -> Result<List
     ensures codeword { IfOk result (λ bits. bits ≡ codeword payload.now m.now rv) }
     ensures long { IfOk result (λ bits. length bits ≡ m.now.g) }
 {
-    let plan = plan(payload.len()).unwrap();
-    let blocks = cut(alloc, payload, &plan)?;
+    let mut blocks = CodeBlocks::new(alloc, payload)?;
+    let plan = blocks.plan();
     let mut bits = Vec::with_capacity(alloc, m.g())?;
-    let mut order = Order::new(alloc, size(&plan, 0))?;
-    for (r, block) in blocks.as_slice().iter().enumerate() {
-        order = order.for_size(alloc, block.bits.as_slice().len())?;
-        let streams = encode_in_order(alloc, block, &order)?;
+    for r in 0..plan.c {
+        let (streams, others) = blocks.coded(alloc, r)?;
         push_piece(&mut bits, &streams, m, r, &plan, rv)?;
+        blocks = others;
     }
     Ok(List::from_vec(bits))
 }

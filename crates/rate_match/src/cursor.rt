@@ -1,9 +1,11 @@
 //! A walk round the circular buffer, from place to place by additions alone.
-ghost use Rattle.std.specs.Prelude.{◌≡◌, ◌+◌, ◌*◌, ◌/◌, ◌%◌, ◌<◌, ◌≤◌, slice_index, IfSome, Some};
-ghost use Rattle.model_sender.specs.CircularBuffer.{column_order, padded, padding, spot};
-ghost use Rattle.rate_match.specs.Cursor.{IsRun, cursor_at, order_of, rows_down, spot_down};
+ghost use Rattle.std.specs.Prelude.{◌≡◌, ◌+◌, ◌-◌, ◌*◌, ◌/◌, ◌%◌, ◌<◌, ◌≤◌, slice_index, IfSome, IsNone, None};
+ghost use Rattle.model_sender.specs.CircularBuffer.{column_order, padded, spot};
+ghost use Rattle.rate_match.specs.Cursor.{IsInColumn, cursor_at, order_of, rows_down};
+ghost use Rattle.rate_match.specs.Runs.{IsRun};
 
 use crate::rings::Ring;
+use crate::runs::Run;
 use model_sender::Spot;
 
 /// P, the order in which the 32 columns are read.
@@ -138,10 +140,10 @@ impl Cursor {
 
     /// Returns how many places from here on, `most` at most, hold bits of one column and stand in the ring.
     /// Where it is 0, a bit may stand here all the same.
-    pub fn run(self, ring: Ring, most: usize) -> usize
+    fn column_left(self, ring: Ring, most: usize) -> usize
         requires within { self.n < ring.size }
         requires lawful { self ≡ cursor_at ring.rows self.n }
-        ensures run { IsRun ring.rows ring.k ring.fill self result }
+        ensures column { IsInColumn ring.rows ring.k ring.fill self result }
         ensures within { self.n + result ≤ ring.size }
         ensures most { result ≤ most }
     {
@@ -156,6 +158,26 @@ impl Cursor {
             (2 * (places - 1 - self.by_rows).div_ceil(32)).saturating_sub(self.n % 2)
         };
         column.min(ring.size - self.n).min(most)
+    }
+
+    /// Returns the bits of one column that stand from here on, `most` at most, where a bit stands here.
+    pub fn run(self, ring: Ring, most: usize) -> Option<Run>
+        requires within { self.n < ring.size }
+        requires lawful { self ≡ cursor_at ring.rows self.n }
+        requires some { 0 < most }
+        ensures none { IsNone result → spot ring.k ring.fill self.n ≡ None }
+        ensures here { IfSome result (λ run. run.place ≡ self.n) }
+        ensures run { IfSome result (IsRun ring.k ring.fill ring.size) }
+        ensures most { IfSome result (λ run. run.count ≤ most) }
+        ensures column { IfSome result (λ run.
+            self.by_rows / 32 + rows_down ring.rows self (run.count - 1) < ring.rows) }
+    {
+        let first = self.spot(ring)?;
+        Some(Run {
+            place: self.n,
+            first,
+            count: self.column_left(ring, most).max(1),
+        })
     }
 
     /// Returns how many rows of the column the place is below, that stands `i` places further on.
@@ -181,29 +203,6 @@ impl Cursor {
             n: self.n + i,
             column: self.column,
             by_rows: self.by_rows + 32 * self.rows_down(ring, i),
-        }
-    }
-
-    /// Returns the bit that stands `i` places further on in the same column.
-    pub fn spot_down(self, ring: Ring, i: usize) -> Spot
-        requires within { self.n + i < ring.size }
-        requires above { padding ring.k ≤ self.by_rows }
-        requires column { self.by_rows / 32 + rows_down ring.rows self i < ring.rows }
-        requires bit { spot ring.k ring.fill (self.n + i) ≡ Some (spot_down ring.rows ring.k self i) }
-        ensures value { result ≡ spot_down ring.rows ring.k self i }
-        ensures inside { (result.stream ≤ 2) × (result.index < ring.k + 4) }
-    {
-        let padding = 32 * ring.rows - (ring.k + 4);
-        let index = self.by_rows - padding + 32 * self.rows_down(ring, i);
-        if self.n < 32 * ring.rows {
-            return Spot { stream: 0, index };
-        }
-        match (self.n + i) % 2 {
-            0 => Spot { stream: 1, index },
-            _ => Spot {
-                stream: 2,
-                index: index + 1,
-            },
         }
     }
 }

@@ -6,7 +6,7 @@ ghost use Rattle.rate_match.specs.Fitting.{FitsAll, fits_all};
 
 use crate::matching::{Buffer, Match};
 use crate::numbers::rows_of;
-use segmentation::planning::plan;
+use segmentation::plan;
 use segmentation::plans::Plan;
 
 /// Returns whether the buffer is full, or its part for each code block holds all of the first stream of the
@@ -27,16 +27,25 @@ pub fn fits_plan(m: &Match, plan: &Plan) -> bool
     fits_buffer(m.buffer(), plan)
 }
 
-/// Returns whether `fits_plan` holds for the plan of every length from 1 to `tb`, which is 1 to 18,722. A
+/// Returns whether `fits_buffer` holds for the plan of every length from 1 to `tb`, which is 1 to 18,722. A
 /// longer transport block needs no less, so that the plan of `tb` tells.
+pub fn fits_lengths(buffer: Buffer, tb: usize) -> bool
+    requires some { 1 ≤ tb }
+    requires few { tb ≤ 18722 }
+    ensures { result ≡ fits_all (limit_of buffer) tb }
+{
+    match plan(tb) {
+        Ok(plan) => fits_buffer(buffer, &plan),
+        Err(_) => unreachable!(),
+    }
+}
+
+/// Returns `fits_lengths` of the buffer of a matching.
 pub fn fits(m: &Match, tb: usize) -> bool
     requires some { 1 ≤ tb }
     requires few { tb ≤ 18722 }
     ensures fits { IsTrue result ↔ FitsAll m.now.limit tb }
     ensures test { result ≡ fits_all m.now.limit tb }
 {
-    match plan(tb) {
-        Ok(plan) => fits_plan(m, &plan),
-        Err(_) => unreachable!(),
-    }
+    fits_lengths(m.buffer(), tb)
 }

@@ -2,23 +2,27 @@
 //! transmissions are sent, which soft buffers are large enough, and the bits that are sent.
 #![tactic(auto)]
 
+mod code_blocks;
 mod coded;
 mod codewords;
-pub mod cursor;
-pub mod fitting;
+mod cursor;
+mod fitting;
 pub mod matching;
-pub mod numbers;
+mod numbers;
 pub mod rings;
-pub mod selecting;
+pub mod runs;
+mod selecting;
 pub mod sends;
+pub mod walk;
 
 pub use coded::Coded;
 pub use codewords::codeword;
-pub use cursor::Cursor;
-pub use fitting::{fits, fits_buffer, fits_plan};
+pub use fitting::{fits, fits_buffer, fits_lengths, fits_plan};
 pub use matching::{BadMatch, Buffer, Match};
 pub use model_sender::Spot;
 pub use numbers::{buffer_len, piece_len, start};
 pub use rings::{Ring, ring_of};
+pub use runs::Run;
 pub use selecting::{select, spot};
 pub use sends::Sends;
+pub use walk::Walk;

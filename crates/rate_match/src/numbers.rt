@@ -8,8 +8,8 @@ ghost use Rattle.model_sender.specs.CircularBuffer.{piece_length, rows_of, start
 ghost use Rattle.rate_match.specs.Matching.{IsMatch};
 
 use crate::matching::{Buffer, Match};
-use segmentation::planning::size;
 use segmentation::plans::Plan;
+use segmentation::size;
 
 /// Returns R, the rows that a stream of k + 4 cells takes.
 pub(crate) fn rows_of(k: usize) -> usize

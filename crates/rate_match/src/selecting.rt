@@ -1,5 +1,5 @@
 //! Bit selection (36.212 5.1.4.1.2): which bits of a code block are sent.
-ghost use Rattle.std.specs.Prelude.{◌≡◌, ◌≤◌, ◌<◌, ◌+◌, ◌++◌};
+ghost use Rattle.std.specs.Prelude.{◌≡◌, ◌≤◌, ◌<◌, ◌+◌, ◌++◌, ℕ};
 ghost use Rattle.std.specs.Prelude.{Contains, IfOk, OnOk, IfSome, Some, map, length};
 ghost use Rattle.std.specs.List.{range_with_len};
 ghost use Rattle.lte_bits.specs.declared.bit.Cell.{Cell};
@@ -8,12 +8,15 @@ ghost use Rattle.model_sender.specs.Segmentation.{size, fill};
 ghost use Rattle.model_sender.specs.CircularBuffer.{AreStreams, Fits, buffer_size, cell_at};
 ghost use Rattle.model_sender.specs.CircularBuffer.{piece_length, spot, stream_of, w};
 ghost use Rattle.model_sender.specs.Selection.{bit_of_cell, bits_from, holds_bit, repeated, sent};
-ghost use Rattle.rate_match.specs.Cursor.{IsRun};
+ghost use Rattle.rate_match.specs.Runs.{bit_down};
+ghost use Rattle.rate_match.specs.Streams.{HasBit};
 
 use crate::cursor::Cursor;
 use crate::matching::Match;
 use crate::numbers::{piece_len, rows_of, start};
 use crate::rings::{Ring, ring_of};
+use crate::runs::Run;
+use crate::walk::Walk;
 use lte_bits::{Bit, Cell, List, NoMemory, Streams};
 use model_sender::Spot;
 use segmentation::plans::Plan;
@@ -61,49 +64,36 @@ fn bit_of_cell(cell: Cell) -> Bit
 
 /// Returns the bit at a spot of the streams.
 fn bit_at(streams: &Streams, spot: Spot) -> Bit
-    requires { spot.index < length (stream_of streams.now spot.stream) }
+    requires { HasBit streams.now spot }
     ensures { result ≡ bit_of_cell (cell_at streams.now (Some spot)) }
 {
     bit_of_cell(stream_of(streams, spot.stream)[spot.index])
 }
 
-/// Writes the bits of a run, from the cursor on.
-fn write_run(out: &mut [Bit], streams: &Streams, ring: Ring, cursor: Cursor)
-    requires streams { AreStreams ring.k ring.fill streams.now }
-    requires within { cursor.n + length out.old ≤ ring.size }
-    requires run { IsRun ring.rows ring.k ring.fill cursor (length out.old) }
-    ensures { out.new ≡ map (λ i. bit_of_cell (w ring.k ring.fill streams.now (cursor.n + i)))
-        (range_with_len 0 (length out.old)) }
+/// Writes the bits of a run.
+fn write_run(out: &mut [Bit], streams: &Streams, run: Run)
+    requires long { length out.old ≡ run.count }
+    requires bits { (i : ℕ) → i < run.count → HasBit streams.now (bit_down run.first i) }
+    ensures { out.new ≡ map (λ i. bit_of_cell (cell_at streams.now (Some (bit_down run.first i))))
+        (range_with_len 0 run.count) }
 {
     for (i, bit) in out.iter_mut().enumerate() {
-        *bit = bit_at(streams, cursor.spot_down(ring, i));
+        *bit = bit_at(streams, run.spot(i));
     }
 }
 
 /// Writes the bits of the streams from place `start` of the ring on, round and round.
 fn write_bits(out: &mut [Bit], streams: &Streams, ring: Ring, start: usize)
     requires streams { AreStreams ring.k ring.fill streams.now }
-    requires few { length out.old ≤ 1000000 }
-    requires some { 0 < length (bits_from (holds_bit ring.k ring.fill) start ring.size) }
     ensures { out.new ≡ map (λ n. bit_of_cell (w ring.k ring.fill streams.now n))
         (repeated (bits_from (holds_bit ring.k ring.fill) start ring.size) (length out.old)) }
 {
-    let mut cursor = Cursor::at(ring, start % ring.size);
+    let mut walk = Walk::new(ring, start);
     let mut done = 0;
-    for _step in 0..out.len() * ring.size {
-        if done == out.len() {
-            return;
-        }
-        let run = cursor.run(ring, out.len() - done);
-        if run > 0 {
-            write_run(&mut out[done..done + run], streams, ring, cursor);
-            done += run;
-            cursor = cursor.down(ring, run - 1);
-        } else if let Some(spot) = cursor.spot(ring) {
-            out[done] = bit_at(streams, spot);
-            done += 1;
-        }
-        cursor = cursor.next(ring);
+    while done < out.len() {
+        let run = walk.next_run(out.len() - done);
+        write_run(&mut out[done..done + run.count], streams, run);
+        done += run.count;
     }
 }
 

@@ -41,7 +41,7 @@ impl State {
         a3: Bit::Zero,
     };
 
-    /// Returns the state with a number, and `None` exactly above 7.
+    /// Returns the state with the number 4 a(k-1) + 2 a(k-2) + a(k-3), 0 to 7, and `None` exactly above 7.
     pub fn new(s: u8) -> Option<State>
         ensures none { IsNone result ↔ (7 < s) }
         ensures number { IfSome result (λ state. state_number state ≡ s) }

@@ -14,7 +14,7 @@ pub(crate) fn plus(a: Bit, b: Bit) -> Bit
     if a == b { Bit::Zero } else { Bit::One }
 }
 
-/// Returns the state after the input `u`.
+/// Returns the state after the input `u` (36.212 5.1.3.2.1).
 pub fn next(s: State, u: Bit) -> State
     ensures { result ≡ next s u }
 {
@@ -25,7 +25,7 @@ pub fn next(s: State, u: Bit) -> State
     }
 }
 
-/// Returns the parity bit of the input `u`.
+/// Returns the parity bit z of the input `u` (36.212 5.1.3.2.1).
 pub fn parity(s: State, u: Bit) -> Bit
     ensures { result ≡ parity s u }
 {

@@ -17,7 +17,7 @@ pub struct Part {
     pub line: Vec<u8>,
     /// How many bytes of input it takes.
     pub size: usize,
-    /// How many bytes must have come before it is known whole, where the end of the input counts
+    /// How many bytes must be read before this part is final, where the end of the input counts
     /// as one.
     pub wants: usize,
 }

@@ -48,7 +48,9 @@ fn checked(alloc: Global, c: usize, share: &[Bit]) -> Result<List<Bit>, NoMemory
     Ok(List::from_vec(bits))
 }
 
-/// Returns the code blocks of a payload, whose length the plan is for.
+/// Returns the C code blocks of a payload, whose length the plan is for (36.212 5.1.2): each with the bits of
+/// its size, the first F of block 0 fillers, and where C is above 1 with its own 24 check bits last. Allocates
+/// the blocks.
 pub fn cut(alloc: Global, payload: &[u8], plan: &Plan) -> Result<List<Block>, NoMemory>
     requires { plan.now.bytes ≡ length payload.now }
     ensures blocks { IfOk result (λ list. list ≡ blocks plan.now payload.now) }

@@ -88,8 +88,8 @@ fn planned(bytes: usize) -> Plan
     }
 }
 
-/// Returns the plan of a transport block of `bytes` bytes. `BadLength` comes exactly where `bytes` is outside
-/// 1 to 18,722.
+/// Returns the plan of a transport block of `bytes` bytes (36.212 5.1.2): C, K+, K-, C+, C- and F. `BadLength`
+/// comes exactly where `bytes` is outside 1 to 18,722.
 pub fn plan(bytes: usize) -> Result<Plan, BadLength>
     ensures planned { IsOk result ↔ ((1 ≤ bytes) × (bytes ≤ 18722)) }
     ensures refused { IsErr result ↔ ((bytes ≡ 0) ⊎ (18722 < bytes)) }
@@ -103,7 +103,7 @@ pub fn plan(bytes: usize) -> Result<Plan, BadLength>
     }
 }
 
-/// Returns the bits of block `r`, K- or K+; `r` is below C.
+/// Returns the bits of block `r` (36.212 5.1.2): K- where `r` is below C-, else K+; `r` is below C.
 pub fn size(plan: &Plan, r: usize) -> usize
     requires { r < plan.now.c }
     ensures value { result ≡ size plan.now r }
@@ -116,7 +116,7 @@ pub fn size(plan: &Plan, r: usize) -> usize
     }
 }
 
-/// Returns the fillers of block `r`, F in block 0 and none in the others; `r` is below C.
+/// Returns the fillers of block `r` (36.212 5.1.2): F in block 0 and none in the others; `r` is below C.
 pub fn fill(plan: &Plan, r: usize) -> usize
     requires { r < plan.now.c }
     ensures { result ≡ fill plan.now r }

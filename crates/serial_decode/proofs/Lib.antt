@@ -1,10 +1,3 @@
 pub mod StripCells
-pub mod Orders
-pub mod Parts
-pub mod ReadingOrder
 pub mod StripParts
-pub mod ViewLists
 pub mod WindowRuns
-pub mod HalfSteps
-pub mod Wholes
-pub mod Stopping

@@ -5,13 +5,13 @@ use Rattle.model_receiver.specs.Borders.{Border}
 use Rattle.model_receiver.specs.Paths.{Window}
 use Rattle.model_receiver.specs.Windows.{Extrinsic, window_between, cell_at, new_cells}
 use Rattle.model_receiver.specs.HalfIteration.{Shape, window_width, positions, order, systematic_at, parity_at}
-use Rattle.serial_decode.specs.Runs.{window_from, IsReplaced}
+use Rattle.half_iteration.specs.Runs.{window_from, IsReplaced}
 use Rattle.serial_decode.specs.Strips.{cells_at, elsewhere}
-use Rattle.serial_decode.specs.Views.{AreWhole}
-use Rattle.serial_decode.proofs.Orders.{order-apart}
+use Rattle.half_iteration.specs.Views.{AreWhole}
+use Rattle.half_iteration.proofs.Orders.{order-apart}
 use Rattle.serial_decode.proofs.StripCells.{cell-of_window, cell-elsewhere, length-elsewhere}
-use Rattle.serial_decode.proofs.StripParts.{length-part, place-of_window, position-inside}
-use Rattle.serial_decode.proofs.ViewLists.{map-of_map}
+use Rattle.half_iteration.proofs.WindowParts.{length-part, place-of_window, position-inside}
+use Rattle.half_iteration.proofs.ViewLists.{map-of_map}
 
 pub strip_window-is : (soft : SoftStreams) (shape : Shape) (h t : ℕ) (start end : Border) (sys par : List ℤ) (places : List ℕ) (old cells : List Extrinsic)
     → sys ≡ map (systematic_at soft shape.k h) (positions shape t) → par ≡ map (parity_at soft h) (positions shape t)

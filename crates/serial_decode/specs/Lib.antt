@@ -1,4 +1,2 @@
 pub mod Strips
-pub mod Views
-pub mod Runs
 pub mod Progress

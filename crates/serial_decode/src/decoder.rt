@@ -2,11 +2,8 @@
 ghost use Rattle.std.specs.Prelude.{◌≡◌, ◌≤◌, IfOk, length};
 ghost use Rattle.model_receiver.specs.HalfIteration.{window_width};
 
-use crate::bits::decide;
-use crate::block::HalfDecoder;
 use crate::half::decode_half;
-use crate::left::BordersLeft;
-use crate::views::Views;
+use half_iteration::{BordersLeft, HalfDecoder, Views, decide};
 use lte_bits::{Bit, NoMemory, SoftStreams};
 use std::alloc::Global;
 use window_decode::{Ext, Shape, Work};
@@ -28,7 +25,7 @@ pub struct SerialDecoder<'a> {
 
 impl<'a> SerialDecoder<'a> {
     ghost use Rattle.model_receiver.specs.HalfIteration.{opening};
-    ghost use Rattle.serial_decode.specs.Views.{AreStreams};
+    ghost use Rattle.half_iteration.specs.Views.{AreStreams};
     ghost use Rattle.serial_decode.specs.Progress.{before_of};
 
     /// Returns a code block before its first half.

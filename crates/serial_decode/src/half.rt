@@ -1,11 +1,10 @@
 //! Half an iteration.
 ghost use Rattle.std.specs.Prelude.{◌≡◌, ◌≤◌, length};
 ghost use Rattle.model_receiver.specs.HalfIteration.{window_width, after};
-ghost use Rattle.serial_decode.specs.Runs.{start_of};
+ghost use Rattle.half_iteration.specs.Runs.{start_of};
 
-use crate::left::{BordersLeft, end_of};
-use crate::views::Views;
 use crate::window::decode_window;
+use half_iteration::{BordersLeft, Views, end_of};
 use window_decode::{Border, Ext, Work};
 
 /// Decodes half `h` of a code block, window after window, and gives the new cells. `left` has the

@@ -4,19 +4,13 @@
 ghost use Rattle.std.specs.Prelude.{◌≡◌, ◌+◌, IfOk, length};
 ghost use Rattle.model_receiver.specs.Decoding.{code_result};
 
-pub mod bits;
-pub mod block;
-pub mod decoder;
-pub mod half;
-pub mod left;
-pub mod lists;
-pub mod strip;
-pub mod tail;
-pub mod views;
-pub mod window;
+mod decoder;
+mod half;
+mod strip;
+mod window;
 
-use block::decode_halves;
 use decoder::SerialDecoder;
+use half_iteration::decode_halves;
 use lte_bits::{NoMemory, SoftStreams};
 use std::alloc::Global;
 use window_decode::{CodeResult, Shape};

@@ -1,6 +1,9 @@
 //! A window as a strip over lists.
-ghost use Rattle.std.specs.Prelude.{◌≡◌, ◌<◌, ℕ, length, slice_index};
+ghost use Rattle.std.specs.Prelude.{◌≡◌, ◌<◌, ℕ, length, map, slice_index};
+ghost use Rattle.half_iteration.specs.Views.{AreWhole};
+ghost use Rattle.model_receiver.specs.HalfIteration.{positions, order, parity_at, systematic_at};
 
+use half_iteration::{Views, part};
 use lte_bits::{List, Soft};
 use window_decode::{Ext, Strip};
 
@@ -51,5 +54,28 @@ impl Strip for ListStrip<'_> {
     fn set_cell(&mut self, j: usize, v: Ext) {
         let place = usize::from(self.places[j]);
         self.cells[place] = v;
+    }
+}
+
+/// Returns window `t` of half `h` as a strip; `t` is below the number of windows, and there are K cells.
+pub fn strip_of<'a>(views: &'a Views<'_>, h: usize, t: usize, cells: Vec<Ext>) -> ListStrip<'a>
+    requires window { t < views.now.shape.windows }
+    requires cells { length cells.items ≡ views.now.shape.k }
+    ensures whole { AreWhole views.now.shape }
+    ensures cells { result.cells.items ≡ cells.items }
+    ensures places { result.places.now
+        ≡ map (order views.now.shape.k h) (positions views.now.shape t) }
+    ensures systematic { result.systematic.now
+        ≡ map (systematic_at views.now.streams.now views.now.shape.k h) (positions views.now.shape t) }
+    ensures parity { result.parity.now
+        ≡ map (parity_at views.now.streams.now h) (positions views.now.shape t) }
+{
+    let width = views.width();
+    let from = t * width;
+    ListStrip {
+        systematic: part(views.systematic(h), from, width),
+        parity: part(views.parity(h), from, width),
+        places: part(views.places(h), from, width),
+        cells,
     }
 }

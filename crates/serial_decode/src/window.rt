@@ -1,11 +1,10 @@
 //! One window of a half iteration.
 ghost use Rattle.std.specs.Prelude.{◌≡◌, ◌<◌, ◌≤◌, length};
 ghost use Rattle.model_receiver.specs.HalfIteration.{window_width};
-ghost use Rattle.serial_decode.specs.Runs.{window_from, left_of, IsReplaced};
+ghost use Rattle.half_iteration.specs.Runs.{window_from, left_of, IsReplaced};
 
-use crate::left::BordersLeft;
-use crate::strip::ListStrip;
-use crate::views::Views;
+use crate::strip::{ListStrip, strip_of};
+use half_iteration::{BordersLeft, Views};
 use window_decode::{Border, Ext, Work, run_window};
 
 /// Decodes window `t` of half `h` between two borders: gives the cells of all places with those of the
@@ -29,7 +28,7 @@ pub fn decode_window(
     ensures left { result.1
         ≡ left_of (window_from views.now.streams.now views.now.shape h t start.now end.now cells.items) }
 {
-    let mut strip = views.strip(h, t, cells);
+    let mut strip = strip_of(views, h, t, cells);
     let (forward, backward) = run_window(work, start, end, &mut strip);
     let ListStrip { cells, .. } = strip;
     (cells, BordersLeft { forward, backward })

@@ -1,20 +1,18 @@
--- A walk that adds each value at once to the cell of the bit at its place.
-use Rattle.std.proofs.Common.{◌≡◌, ◌≢◌, ℕ, ◌+◌, ◌*◌, ◌/◌, ◌%◌, ◌<◌, ◌≤◌, Bool, true, false, ◌&&◌, ◌==◌, None, Some, is_some, ℤ, pos, List, ◌∷◌, ◌++◌, [], length, get_or, set, zero, suc, refl, sym, ap, subst, ◌∙◌, arith}
-use Rattle.std.specs.List.{zip}
+-- Values that are added at once to the cells of their bits.
+use Rattle.std.proofs.Common.{◌≡◌, ◌≢◌, ℕ, ◌+◌, ◌*◌, ◌/◌, ◌%◌, ◌<◌, ◌≤◌, Bool, true, false, ◌&&◌, ◌==◌, Some, ℤ, pos, List, ◌∷◌, ◌++◌, [], length, map, get_or, set, take, drop, zero, suc, refl, sym, ap, ◌∙◌, arith}
+use Rattle.std.specs.List.{range_with_len, zip}
 use Rattle.std.proofs.lemmas.Bool.{and_parts, eqb-true, eq-eqb}
-use Rattle.std.proofs.lemmas.List.{get_or_read, get_or-set_same, get_or-set_other, length-set, length-append}
+use Rattle.std.proofs.lemmas.List.{get_or_read, get_or-set_same, get_or-set_other, length-set, length-drop, length-take-le, map-append, take-append-drop, drop-drop}
+use Rattle.std.proofs.lemmas.List.FromFn.{length-map-range_with_len}
 use Rattle.std.proofs.lemmas.Nat.{div-mul-add, mod-mul-add}
-use Rattle.std.proofs.Math.Nat.{add-mod-mod, mod-eq_of_lt, mul-le-mul_left}
+use Rattle.std.proofs.Math.Nat.{mul-le-mul_left}
 use Rattle.model_sender.specs.CircularBuffer.{spot}
-use Rattle.model_sender.specs.Selection.{holds_bit, repeated}
 use Rattle.model_sender.specs.declared.spot.Spot.{Spot}
-use Rattle.rate_match.proofs.Walked.{walked, walked-again, walked-grows, rounds-long, step_kept, step_left}
-use Rattle.rate_match.specs.Cursor.{cursor_at}
-use Rattle.rate_match.specs.declared.cursor.Cursor.{Cursor}
+use Rattle.rate_match.proofs.Walked.{range-split}
 use Rattle.model_receiver.specs.SoftCells.{added, has_bit, is_bit}
 use Rattle.soft_buffers.specs.Buffers.{IsBit, cell_index, cell_of}
-use Rattle.soft_buffers.specs.Runs.{with_values}
-use Rattle.soft_buffers.proofs.Sums.{sum_of, sum-hit, sum-miss, zip-more}
+use Rattle.soft_buffers.specs.Runs.{with_value, with_values}
+use Rattle.soft_buffers.proofs.Sums.{sum_of, sum-append, sum-hit, sum-miss, zip-append, zip-more}
 
 -- ---- bits and their cells
 
@@ -44,96 +42,6 @@ index-below k s a =
 is_bit-self : (s : Spot) → is_bit s (Some s) ≡ true
 is_bit-self s = ap (λ (b : Bool). b && (s.index == s.index)) (eq-eqb s.stream s.stream refl) ∙ eq-eqb s.index s.index refl
 
--- ---- the walk
-
--- the first n places of a buffer of a block of k bits, from place `start` on, and the values that are to come
-pub record Course : Type 0 where
-  pub k : ℕ
-  pub fill : ℕ
-  pub n : ℕ
-  pub start : ℕ
-  pub values : List ℤ
-
-abbrev pub course : (k fill n start : ℕ) → List ℤ → Course
-course k fill n start values = record { k = k; fill = fill; n = n; start = start; values = values }
-
-abbrev pub met : Course → ℕ → List ℕ
-met w steps = walked (holds_bit w.k w.fill) w.start w.n steps
-
-abbrev pub sum_at : Course → List ℕ → List ℤ → Spot → ℤ
-sum_at w places had s = sum_of (has_bit w.k w.fill s) (zip places w.values) (cell_of w.k had s)
-
--- after so many steps so many values are taken, and each cell has those that belong to it
-pub record IsAdding (w : Course) (had : List ℤ) (steps taken : ℕ) (has : List ℤ) : Type 0 where
-  pub count : length (met w steps) ≡ taken
-  pub within : taken ≤ length w.values
-  pub long : length has ≡ length had
-  pub sums : (s : Spot) → IsBit w.k s → cell_of w.k has s ≡ sum_at w (met w steps) had s
-
-pub adding_done : (w : Course) (had : List ℤ) (steps taken : ℕ) (has : List ℤ) → IsAdding w had steps taken has → 0 < w.n → taken ≡ length w.values
-    → (s : Spot) → IsBit w.k s → cell_of w.k has s ≡ sum_at w (repeated (met w w.n) (length w.values)) had s
-adding_done w had steps taken has is some all s inside =
-    let within : steps * 1 ≤ steps * w.n = mul-le-mul_left steps some in
-    let places : met w steps ≡ repeated (met w w.n) (length w.values) =
-    walked-again (holds_bit w.k w.fill) w.start w.n steps (length w.values) steps (omega (arith, within)) (omega (arith, is.count, all)) in
-    is.sums s inside ∙ ap (λ ps. sum_at w ps had s) places
-
--- so many rounds are enough
-pub adding_all : (w : Course) (had : List ℤ) (steps taken : ℕ) (has : List ℤ) → IsAdding w had steps taken has → 0 < w.n → length w.values * w.n ≤ steps → 0 < length (met w w.n)
-    → (s : Spot) → IsBit w.k s → cell_of w.k has s ≡ sum_at w (repeated (met w w.n) (length w.values)) had s
-adding_all w had steps taken has is places all some =
-    let e : ℕ = length w.values in
-    let keep : ℕ → Bool = holds_bit w.k w.fill in
-    let long : e * length (met w w.n) ≤ length (met w steps) = omega (arith, rounds-long keep w.start w.n e, walked-grows keep w.start w.n (e * w.n) steps all) in
-    let enough : e * 1 ≤ e * length (met w w.n) = mul-le-mul_left e some in
-    adding_done w had steps taken has is places (omega (arith, long, enough, is.count, is.within))
-
--- a place with no bit is passed by
-pub adding_left : (w : Course) (had : List ℤ) (steps taken less : ℕ) (has more : List ℤ) (p : ℕ) → IsAdding w had steps taken has → p ≡ (w.start + steps) % w.n
-    → spot w.k w.fill p ≡ None → less ≡ taken → more ≡ has → IsAdding w had (steps + 1) less more
-adding_left w had steps taken less has more p is at none same_count same =
-    let places : met w (steps + 1) ≡ met w steps = step_left (holds_bit w.k w.fill) w.start w.n steps p at (ap is_some none) in
-    record {
-      count = ap length places ∙ is.count ∙ sym same_count;
-      within = omega (arith, is.within, same_count);
-      long = ap length same ∙ is.long;
-      sums = λ s inside. ap (λ xs. cell_of w.k xs s) same ∙ is.sums s inside ∙ ap (λ ps. sum_at w ps had s) (sym places);
-    }
-
--- the next value is added to the cell of the bit b
-pub adding_kept : (w : Course) (had : List ℤ) (steps taken next : ℕ) (has more : List ℤ) (p : ℕ) (b : Spot) (d : ℤ) → IsAdding w had steps taken has → p ≡ (w.start + steps) % w.n
-    → spot w.k w.fill p ≡ Some b → IsBit w.k b → length had ≡ 3 * (w.k + 4) → taken < length w.values → next ≡ taken + 1
-    → more ≡ set has (cell_index w.k b) (added (cell_of w.k has b) (get_or w.values taken d)) → IsAdding w had (steps + 1) next more
-adding_kept w had steps taken next has more p b d is at bit inside_b long left one change =
-    let v : ℤ = get_or w.values taken d in
-    let places : met w (steps + 1) ≡ met w steps ++ p ∷ [] = step_kept (holds_bit w.k w.fill) w.start w.n steps p at (ap is_some bit) in
-    let pairs : zip (met w (steps + 1)) w.values ≡ zip (met w steps) w.values ++ (p, v) ∷ [] =
-    ap (λ ps. zip ps w.values) places
-    ∙ zip-more (met w steps) w.values p d (omega (arith, left, is.count))
-    ∙ ap (λ (n : ℕ). zip (met w steps) w.values ++ (p, get_or w.values n d) ∷ []) is.count in
-    record {
-      count = omega (arith, ap length places, length-append (met w steps) (p ∷ []), is.count, one);
-      within = omega (arith, left, one);
-      long = ap length change ∙ length-set has (cell_index w.k b) (added (cell_of w.k has b) v) ∙ is.long;
-      sums = λ s inside. ap (λ xs. cell_of w.k xs s) change ∙ by_test v s inside (is_bit s (Some b)) refl ∙ ap (λ ps. sum_of (has_bit w.k w.fill s) ps (cell_of w.k had s)) (sym pairs);
-    }
-  where
-    by_test : (v : ℤ) (s : Spot) → IsBit w.k s → (t : Bool) → is_bit s (Some b) ≡ t
-        → cell_of w.k (set has (cell_index w.k b) (added (cell_of w.k has b) v)) s ≡ sum_of (has_bit w.k w.fill s) (zip (met w steps) w.values ++ (p, v) ∷ []) (cell_of w.k had s)
-    by_test v s inside true e =
-        let same : s ≡ b = same_bit s b e in
-        let room : cell_index w.k b < length has = omega (arith, index-below w.k b inside_b, long, is.long) in
-        ap (λ (q : Spot). cell_of w.k (set has (cell_index w.k b) (added (cell_of w.k has b) v)) q) same
-        ∙ get_or-set_same has (cell_index w.k b) (added (cell_of w.k has b) v) (pos 0) room
-        ∙ ap (λ (c : ℤ). added c v) (ap (cell_of w.k has) (sym same) ∙ is.sums s inside)
-        ∙ sym (sum-hit (has_bit w.k w.fill s) (zip (met w steps) w.values) (cell_of w.k had s) p v (ap (is_bit s) bit ∙ e))
-    by_test v s inside false e =
-        let apart : cell_index w.k s ≢ cell_index w.k b = λ same. absurd (let q : s ≡ b = index-tells w.k s b inside inside_b same in
-        let yes : is_bit s (Some b) ≡ true = ap (λ (t : Spot). is_bit s (Some t)) (sym q) ∙ is_bit-self s in cc) in
-        get_or-set_other has (cell_index w.k b) (cell_index w.k s) (added (cell_of w.k has b) v) (pos 0) apart
-        ∙ is.sums s inside
-        ∙ sym (sum-miss (has_bit w.k w.fill s) (zip (met w steps) w.values) (cell_of w.k had s) p v (ap (is_bit s) bit ∙ e))
-
 -- what is written, by the bit
 pub changed : (k : ℕ) (b : Spot) (has : List ℤ) (i : ℕ) (old v value sum : ℤ) → i < length has → i ≡ cell_index k b → old ≡ get_or has i old → v ≡ value → sum ≡ added old v
     → set has i sum ≡ set has (cell_index k b) (added (cell_of k has b) value)
@@ -141,56 +49,64 @@ changed k b has i old v value sum within place read given is =
     let cell : old ≡ cell_of k has b = get_or_read has i old within read (pos 0) ∙ ap (λ (n : ℕ). get_or has n (pos 0)) place in
     ap (λ (n : ℕ). set has n sum) place ∙ ap (set has (cell_index k b)) (is ∙ ap (λ (a : ℤ). added a v) cell ∙ ap (added (cell_of k has b)) given)
 
--- ---- a run of values
+-- one value more, of the bit that stands at place p
+value-added : (k fill : ℕ) (has : List ℤ) (b : Spot) (v : ℤ) (p : ℕ) (pairs : List (ℕ × ℤ)) (c : ℤ) (s : Spot) → spot k fill p ≡ Some b → IsBit k b → IsBit k s → length has ≡ 3 * (k + 4)
+    → cell_of k has s ≡ sum_of (has_bit k fill s) pairs c → cell_of k (with_value k b v has) s ≡ sum_of (has_bit k fill s) (pairs ++ (p, v) ∷ []) c
+value-added k fill has b v p pairs c s bit inside_b inside long is = by_test (is_bit s (Some b)) refl
+  where
+    by_test : (t : Bool) → is_bit s (Some b) ≡ t → cell_of k (with_value k b v has) s ≡ sum_of (has_bit k fill s) (pairs ++ (p, v) ∷ []) c
+    by_test true e =
+        let same : s ≡ b = same_bit s b e in
+        let room : cell_index k b < length has = omega (arith, index-below k b inside_b, long) in
+        ap (λ (q : Spot). cell_of k (with_value k b v has) q) same
+        ∙ get_or-set_same has (cell_index k b) (added (cell_of k has b) v) (pos 0) room
+        ∙ ap (λ (c : ℤ). added c v) (ap (cell_of k has) (sym same) ∙ is)
+        ∙ sym (sum-hit (has_bit k fill s) pairs c p v (ap (is_bit s) bit ∙ e))
+    by_test false e =
+        let apart : cell_index k s ≢ cell_index k b = λ same. absurd (let q : s ≡ b = index-tells k s b inside inside_b same in
+        let yes : is_bit s (Some b) ≡ true = ap (λ (t : Spot). is_bit s (Some t)) (sym q) ∙ is_bit-self s in cc) in
+        get_or-set_other has (cell_index k b) (cell_index k s) (added (cell_of k has b) v) (pos 0) apart
+        ∙ is
+        ∙ sym (sum-miss (has_bit k fill s) pairs c p v (ap (is_bit s) bit ∙ e))
 
--- values m and on of a part are those of the whole list
-abbrev pub AreFrom : List ℤ → ℕ → List ℤ → ℕ → Type 0
-AreFrom values taken part m = (i : ℕ) → i < m → get_or part i (pos 0) ≡ get_or values (taken + i) (pos 0)
+pub values-long : (k : ℕ) (bits : ℕ → Spot) (values : List ℤ) (m : ℕ) (has : List ℤ) → length (with_values k bits values m has) ≡ length has
+values-long k bits values zero has = refl
+values-long k bits values (suc m) has =
+    length-set (with_values k bits values m has) (cell_index k (bits m)) (added (cell_of k (with_values k bits values m has) (bits m)) (get_or values m (pos 0)))
+    ∙ values-long k bits values m has
 
-place_within : (k s n p i : ℕ) → p ≡ (k + s) % n → p + i < n → p + i ≡ (k + (s + i)) % n
-place_within k s n p i is within =
-    sym (ap (λ (m : ℕ). m % n) (let e : k + (s + i) ≡ i + (k + s) = omega arith in e)
-    ∙ sym (add-mod-mod i (k + s) n)
-    ∙ ap (λ (q : ℕ). (i + q) % n) (sym is)
-    ∙ mod-eq_of_lt (let below : i + p < n = omega (arith, within) in below)
-    ∙ (let e : i + p ≡ p + i = omega arith in e))
+-- the values of bits that stand one after the other from place p on
+pub values-added : (k fill p m : ℕ) (bits : ℕ → Spot) (values has : List ℤ) (s : Spot) → ((i : ℕ) → i < m → spot k fill (p + i) ≡ Some (bits i)) → ((i : ℕ) → i < m → IsBit k (bits i))
+    → length has ≡ 3 * (k + 4) → m ≤ length values → IsBit k s
+    → cell_of k (with_values k bits values m has) s ≡ sum_of (has_bit k fill s) (zip (map (λ i. p + i) (range_with_len 0 m)) values) (cell_of k has s)
+values-added k fill p zero bits values has s bit inside_b long few inside = refl
+values-added k fill p (suc m) bits values has s bit inside_b long few inside =
+    let before : List ℕ = map (λ i. p + i) (range_with_len 0 m) in
+    let old : List ℤ = with_values k bits values m has in
+    let counted : length before ≡ m = length-map-range_with_len (λ i. p + i) 0 m in
+    let places : map (λ i. p + i) (range_with_len 0 (suc m)) ≡ before ++ (p + m) ∷ [] =
+    ap (λ n. map (λ i. p + i) (range_with_len 0 n)) (let e : suc m ≡ m + 1 = omega arith in e)
+    ∙ ap (map (λ i. p + i)) (range-split 0 m 1)
+    ∙ map-append (λ i. p + i) (range_with_len 0 m) (range_with_len (0 + m) 1)
+    ∙ ap (λ n. before ++ n ∷ []) (let e : p + (0 + m) ≡ p + m = omega arith in e) in
+    let pairs : zip (map (λ i. p + i) (range_with_len 0 (suc m))) values ≡ zip before values ++ (p + m, get_or values m (pos 0)) ∷ [] =
+    ap (λ ns. zip ns values) places
+    ∙ zip-more before values (p + m) (pos 0) (omega (arith, counted, few))
+    ∙ ap (λ n. zip before values ++ (p + m, get_or values n (pos 0)) ∷ []) counted in
+    value-added k fill old (bits m) (get_or values m (pos 0)) (p + m) (zip before values) (cell_of k has s) s (bit m (omega arith)) (inside_b m (omega arith)) inside
+    (values-long k bits values m has ∙ long)
+    (values-added k fill p m bits values has s (λ i h. bit i (omega (arith, h))) (λ i h. inside_b i (omega (arith, h))) long (omega (arith, few)) inside)
+    ∙ ap (λ ps. sum_of (has_bit k fill s) ps (cell_of k has s)) (sym pairs)
 
-pub adding_run : (w : Course) (had : List ℤ) (steps taken : ℕ) (has : List ℤ) (p m : ℕ) (bits : ℕ → Spot) (part : List ℤ) → IsAdding w had steps taken has → p ≡ (w.start + steps) % w.n → p + m ≤ w.n
-    → ((i : ℕ) → i < m → spot w.k w.fill (p + i) ≡ Some (bits i)) → ((i : ℕ) → i < m → IsBit w.k (bits i)) → length had ≡ 3 * (w.k + 4) → taken + m ≤ length w.values → AreFrom w.values taken part m
-    → IsAdding w had (steps + m) (taken + m) (with_values w.k bits part m has)
-adding_run w had steps taken has p zero bits part is at within bit inside long few from = record {
-  count = ap (λ (n : ℕ). length (met w n)) (let e : steps + 0 ≡ steps = omega arith in e) ∙ is.count ∙ (let e : taken ≡ taken + 0 = omega arith in e);
-  within = omega (arith, is.within);
-  long = is.long;
-  sums = λ s h. is.sums s h ∙ ap (λ (n : ℕ). sum_at w (met w n) had s) (let e : steps ≡ steps + 0 = omega arith in e);
-}
-adding_run w had steps taken has p (suc m) bits part is at within bit inside long few from =
-    let before : IsAdding w had (steps + m) (taken + m) (with_values w.k bits part m has) =
-    adding_run w had steps taken has p m bits part is at (omega (arith, within)) (λ i h. bit i (omega (arith, h))) (λ i h. inside i (omega (arith, h))) long
-    (omega (arith, few)) (λ i h. from i (omega (arith, h))) in
-    let last : m < suc m = omega arith in
-    let here : p + m ≡ (w.start + (steps + m)) % w.n = place_within w.start steps w.n p m at (omega (arith, within)) in
-    let old : List ℤ = with_values w.k bits part m has in
-    let more = adding_kept w had (steps + m) (taken + m) (taken + m + 1) old (with_values w.k bits part (suc m) has) (p + m) (bits m) (pos 0) before here
-    (bit m last) (inside m last) long (omega (arith, few)) refl
-    (ap (λ (v : ℤ). set old (cell_index w.k (bits m)) (added (cell_of w.k old (bits m)) v)) (from m last)) in
-    let P : ℕ → ℕ → Type 0 = λ a b. IsAdding w had a b (with_values w.k bits part (suc m) has) in
-    subst (λ (a : ℕ). P a (taken + suc m)) (let e : steps + m + 1 ≡ steps + suc m = omega arith in e)
-    (subst (λ (b : ℕ). P (steps + m + 1) b) (let e : taken + m + 1 ≡ taken + suc m = omega arith in e) more)
-
--- ---- a walk that leaps over runs
-
--- a cursor has gone so many steps at least
-pub record IsWalking (w : Course) (had : List ℤ) (rows steps : ℕ) (c : Cursor) (taken : ℕ) (has : List ℤ) : Type 0 where
-  pub gone : ℕ
-  pub far : steps ≤ gone
-  pub at : c ≡ cursor_at rows ((w.start + gone) % w.n)
-  pub adding : IsAdding w had gone taken has
-
-pub walking_begun : (w : Course) (had : List ℤ) (rows : ℕ) (c : Cursor) → c ≡ cursor_at rows (w.start % w.n) → IsWalking w had rows 0 c 0 had
-walking_begun w had rows c is = record {
-  gone = 0;
-  far = omega arith;
-  at = is ∙ ap (λ (m : ℕ). cursor_at rows (m % w.n)) (let e : w.start ≡ w.start + 0 = omega arith in e);
-  adding = record { count = refl; within = omega arith; long = refl; sums = λ s h. refl };
-}
+-- The next values are added: what is still to come makes the same sum of a cell as before.
+pub sums-kept : (test : ℕ → Bool) (places run rest : List ℕ) (values : List ℤ) (taken count next : ℕ) (old new : ℤ) → taken + count ≤ length values → length run ≡ count → next ≡ taken + count
+    → places ≡ run ++ rest → new ≡ sum_of test (zip run (take count (drop taken values))) old
+    → sum_of test (zip rest (drop next values)) new ≡ sum_of test (zip places (drop taken values)) old
+sums-kept test places run rest values taken count next old new fits long goes are is =
+    let part : List ℤ = take count (drop taken values) in
+    let split : drop taken values ≡ part ++ drop next values =
+    sym (take-append-drop count (drop taken values)) ∙ ap (λ vs. part ++ vs) (drop-drop count taken values ∙ ap (λ n. drop n values) (omega (arith, goes))) in
+    ap (sum_of test (zip rest (drop next values))) is
+    ∙ sym (sum-append test (zip run part) (zip rest (drop next values)) old)
+    ∙ ap (λ ps. sum_of test ps old) (sym (ap (λ ns. zip ns (drop taken values)) are ∙ ap (λ vs. zip (run ++ rest) vs) split
+    ∙ zip-append run rest part (drop next values) (long ∙ sym (length-take-le count (drop taken values) (omega (arith, fits, length-drop taken values))))))

@@ -16,7 +16,6 @@ fn add_piece(cells: &mut [Soft], plan: &Plan, m: &Match, r: usize, rv: u8, value
     requires cells { length cells.old ≡ 3 * (size plan.now r + 4) }
     requires fits { Fits m.now plan.now }
     requires version { rv ≤ 3 }
-    requires few { length values.now ≤ 1000000 }
     requires values { length values.now ≡ piece_length m.now plan.now.c r }
     ensures cells { (all : List ℤ) → values.now ≡ piece plan.now (reception m.now rv all) r →
         HasTaken plan.now (reception m.now rv all) r cells.old cells.new }

@@ -1,3 +1,4 @@
 pub mod Noise
+pub mod Channel
 pub mod TrialPayload
 pub mod Words

@@ -5,7 +5,7 @@ use Rattle.coded_stream.specs.Blocks.{Block}
 use Rattle.coded_stream.specs.Body.{Ending, whole, bad}
 use Rattle.coded_stream.specs.Steps.{Reading, remaining, due_of, body_due}
 use Rattle.coded_stream.specs.Stream.{most_blocks}
-use Rattle.coded_stream.proofs.BlockSteps.{step-due}
+use Rattle.coded_stream.proofs.WordSteps.{step-due}
 use Rattle.coded_stream.proofs.Remaining.{body-due}
 use Rattle.run_loop.specs.Due.{IsDue, IsWithin}
 use Rattle.run_loop.proofs.Within.{within_next}

@@ -1,3 +1,4 @@
+pub mod HandedOn
 pub mod Answered
 pub mod StreamSteps
 pub mod Openings

@@ -7,7 +7,8 @@ use Rattle.coded_stream.specs.Header.{Header, header_text}
 use Rattle.coded_stream.specs.Opening.{Opening, opens, refuses, opening}
 use Rattle.coded_stream.specs.Body.{body}
 use Rattle.coded_stream.specs.Stream.{most_blocks}
-use Rattle.coded_stream.specs.Steps.{Reading, Begins, IsBegun, opening_due}
+use Rattle.coded_stream.specs.Steps.{Reading, Begins, IsBegun}
+use Rattle.coded_stream.specs.Takes.{opening_due}
 use Rattle.coded_stream.specs.declared.kind.Want.{Want}
 use Rattle.coded_stream.specs.declared.stop.StreamStop.{StreamStop}
 use Rattle.coded_stream.specs.declared.stop.StreamStop.TheVariants as reader

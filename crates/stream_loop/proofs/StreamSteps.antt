@@ -11,7 +11,7 @@ use Rattle.coded_stream.specs.Steps.{Reading, remaining, GoesOn, Advances}
 use Rattle.coded_stream.specs.declared.stop.StreamStop.{StreamStop}
 use Rattle.coded_stream.specs.declared.stop.StreamStop.TheVariants as reader
 use Rattle.run_loop.specs.Answer.{Part, Answer, preceded_by, size_of}
-use Rattle.run_loop.specs.Due.{IsWithin, Stopped, TakesSome, most_read}
+use Rattle.run_loop.specs.Due.{IsWithin, Stopped, most_read}
 use Rattle.run_loop.specs.Step.{Gives, Stops, ending_of}
 use Rattle.run_loop.specs.declared.work.Round.{Round}
 use Rattle.run_loop.specs.declared.work.Stop.{Stop}

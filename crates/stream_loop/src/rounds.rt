@@ -133,7 +133,7 @@ impl<H: Handler> Work for StreamRounds<H> {
 
     fn round<S: Source>(&mut self, alloc: Global, source: &mut S) -> Result<Round, Status> {
         let number = self.reader.blocks();
-        // What the end takes is had before its bytes are read.
+        // Allocates for the ending before reading it.
         let end = ending(
             alloc,
             &self.handler,
@@ -141,10 +141,9 @@ impl<H: Handler> Work for StreamRounds<H> {
             number,
             self.failed,
         )?;
-        let payload = match self.reader.next_block(source, &mut self.room) {
-            Ok(Some(payload)) => payload,
-            Ok(None) => return Ok(Round::stopped(alloc, end)),
-            Err(stop) => return Err(status_of(stop)),
+        let next = self.reader.next_block(source, &mut self.room);
+        let Some(payload) = next.map_err(status_of)? else {
+            return Ok(Round::stopped(alloc, end));
         };
         let header = self.reader.header();
         let bytes = self.room.as_slice();

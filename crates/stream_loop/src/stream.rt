@@ -50,10 +50,7 @@ impl<H: Handler> Open for Stream<H> {
         out: &mut D,
     ) -> Result<StreamRounds<H>, Status> {
         let Stream(handler) = self;
-        let reader = match StreamReader::begin(source, handler.want()) {
-            Ok(reader) => reader,
-            Err(stop) => return Err(status_of(stop)),
-        };
+        let reader = StreamReader::begin(source, handler.want()).map_err(status_of)?;
         if let Err(SinkFault) = write_opening(handler.header(reader.header()), out) {
             return Err(Status::WriteFault {
                 sink: SinkName::Out,

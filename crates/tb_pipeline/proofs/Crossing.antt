@@ -1,4 +1,4 @@
--- Which relays, hands and slips may go to another thread.
+-- Which relays, hands and completions may go to another thread.
 use denote.RattleType.{RattleType}
 use denote.Param.Send.{IsSend, IsSync, sendable}
 use Rattle.std.proofs.Crossing.{crosses}
@@ -9,9 +9,9 @@ use Rattle.tb_pipeline.specs.contracts.known.Item as Item
 use Rattle.tb_pipeline.specs.contracts.hand.Hand as Hand
 use Rattle.tb_pipeline.specs.contracts.hand.Relay as Relay
 use Rattle.tb_pipeline.specs.declared.job.Job.{Ghosts}
-use Rattle.tb_pipeline.specs.contracts.slip.Slip as Slip
-use Rattle.tb_pipeline.specs.contracts.slip.Answers as Answers
-use Rattle.tb_pipeline.specs.contracts.slip.Teller as Teller
+use Rattle.tb_pipeline.specs.contracts.completion.Completion as Completion
+use Rattle.tb_pipeline.specs.contracts.completion.Answers as Answers
+use Rattle.tb_pipeline.specs.contracts.completion.ResultSender as ResultSender
 
 pub Item-send : IsSend Item.the_row
 Item-send = search (sendable, crosses) depth 20
@@ -23,11 +23,11 @@ pub Relay-sync : IsSync Relay.the_row
 Relay-sync = search (sendable, crosses, shared, lease, Item-send) depth 20
 
 module _ (J D : RattleType) (d : IsSend D) where
-  pub Slip-send : IsSend (Slip.the_row J D)
-  Slip-send = search (sendable, crosses) depth 20
+  pub Completion-send : IsSend (Completion.the_row J D)
+  Completion-send = search (sendable, crosses) depth 20
 
-  pub Teller-send : IsSend (Teller.the_row J D)
-  Teller-send = search (sendable, crosses, seat, Slip-send) depth 20
+  pub ResultSender-send : IsSend (ResultSender.the_row J D)
+  ResultSender-send = search (sendable, crosses, seat, Completion-send) depth 20
 
   pub Answers-sync : (G : Ghosts J.Denot D.Denot) → IsSync (Answers.the_row J D G)
-  Answers-sync G = search (sendable, crosses, shared, lease, Slip-send) depth 20
+  Answers-sync G = search (sendable, crosses, shared, lease, Completion-send) depth 20

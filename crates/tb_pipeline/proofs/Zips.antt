@@ -4,7 +4,7 @@ use Rattle.std.specs.List.{AllZip}
 use mathlib.Core.Option.{some, some-injective, some-ne-none}
 use lib.ListN.{get_elem?}
 use Rattle.std.specs.declared.snapshot.Snapshot.{Snapshot}
-use Rattle.tb_pipeline.specs.Slips.{values_of}
+use Rattle.tb_pipeline.specs.Completions.{values_of}
 
 module _ {A B : Type 0} (R : A → B → Type 0) where
   pub zip_length : (xs : List A) (ys : List B) → AllZip R xs ys → length ys ≡ length xs

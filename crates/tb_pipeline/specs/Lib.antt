@@ -1,3 +1,3 @@
 pub mod Relays
 pub mod Hands
-pub mod Slips
+pub mod Completions

@@ -1,7 +1,7 @@
 //! The jobs of which no answer came.
 ghost use Rattle.std.specs.Prelude.{◌≡◌, ◌≤◌, [], length, vec_capacity, IfSome};
 ghost use Rattle.std.specs.List.{AllZip};
-ghost use Rattle.tb_pipeline.specs.Slips.{AreSlotsOf};
+ghost use Rattle.tb_pipeline.specs.Completions.{AreSlotsOf};
 
 use crate::job::{Job, Start};
 use crate::slots::swap_at;

@@ -20,7 +20,7 @@ pub trait Start {
     fn enter(&self, number: usize);
 }
 
-/// A start that is always open.
+/// A no-op hook.
 #[derive(Clone, Copy, Debug)]
 pub struct NoStart;
 

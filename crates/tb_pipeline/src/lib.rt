@@ -1,7 +1,7 @@
 //! Jobs run by several threads: a relay hands out their numbers, and the answers come back over a queue.
 #![tactic(auto)]
 
-mod answering;
+pub mod completion;
 mod filling;
 mod finishing;
 pub mod hand;
@@ -10,9 +10,9 @@ pub mod known;
 pub mod laws;
 mod pipeline;
 mod relay;
-pub mod slip;
+mod results;
+mod sender;
 mod slots;
-mod telling;
 mod working;
 
 pub use hand::{Hand, Next, Relay};

@@ -2,11 +2,11 @@
 ghost use Rattle.std.specs.Prelude.{◌≤◌, length, IfOk};
 ghost use Rattle.std.specs.List.{AllZip};
 
-use crate::answering::{ask, collect, empty_slots};
 use crate::finishing::finish;
 use crate::hand::Relay;
 use crate::job::{Job, Start};
-use crate::telling::another;
+use crate::results::{collect, empty_slots, open_results};
+use crate::sender::another_sender;
 use crate::working::work_all;
 use lte_bits::{List, NoMemory};
 use std::alloc::Global;
@@ -31,11 +31,11 @@ where
 {
     let mut done = Vec::with_capacity(alloc, jobs.len())?;
     let mut slots = empty_slots(alloc, jobs)?;
-    let (answers, teller) = ask(rt, alloc, jobs)?;
+    let (answers, sender) = open_results(rt, alloc, jobs)?;
     let (relay, hands) = Relay::new(rt, alloc, jobs.len(), pipes)?;
-    let (teller, others) = another(&answers, teller);
+    let (sender, others) = another_sender(&answers, sender);
     let _ended = work_all(rt, &relay, hands, jobs, start, &answers, others);
-    collect(jobs, &answers, teller, slots.as_mut_slice());
+    collect(jobs, &answers, sender, slots.as_mut_slice());
     finish(jobs, start, slots.as_mut_slice(), &mut done);
     Ok(List::from_vec(done))
 }

@@ -4,10 +4,10 @@ ghost use Rattle.std.specs.Thread.{IsSend, IsSync};
 ghost use Rattle.crossbeam_queue.specs.Passes.{IsPassOf, view};
 ghost use Rattle.tb_pipeline.specs.Hands.{IsEndedHandOf, IsHandOf, IsNewHandOf, hand_view, relay_count};
 
+use crate::completion::{Answers, Completion, ResultSender, Sends};
 use crate::hand::{Hand, Next, Relay};
 use crate::job::{Job, Start};
-use crate::slip::{Answers, Slip, Teller, Tells};
-use crate::telling::another;
+use crate::sender::another_sender;
 use std::sync::Wait;
 use std::thread::{Threads, join};
 
@@ -20,17 +20,17 @@ fn work<J: Job, G: Start, R: Wait>(
     jobs: &[J],
     start: &G,
     answers: &Answers<J>,
-    teller: Teller<J>,
+    sender: ResultSender<J>,
 ) -> Hand
 where
     J::Done: Drop,
     requires count { relay_count relay.now ≡ length jobs.now }
     requires hand { IsHandOf relay.now hand × ((hand_view hand).ended ≡ false) }
-    requires answers { IsPassOf answers.now.queue teller.pass × (view teller.pass ≡ Some jobs.now) }
+    requires answers { IsPassOf answers.now.queue sender.pass × (view sender.pass ≡ Some jobs.now) }
     ensures { IsEndedHandOf relay.now result }
 {
     let mut hand = hand;
-    let Teller { mut pass } = teller;
+    let ResultSender { mut pass } = sender;
     for _ in rt.forever() {
         match relay.take(rt, hand) {
             Next::Empty(ended) => return ended,
@@ -40,7 +40,7 @@ where
                 let done = jobs[number].run();
                 let _ = answers
                     .queue
-                    .push_as::<Tells, R>(rt, &mut pass, Slip::Done(number, done));
+                    .push_as::<Sends, R>(rt, &mut pass, Completion::Done(number, done));
             }
         }
     }
@@ -55,14 +55,14 @@ pub(crate) fn work_all<J: Job + Sync, G: Start + Sync, R: Threads + Wait + Sync>
     jobs: &[J],
     start: &G,
     answers: &Answers<J>,
-    teller: Teller<J>,
+    sender: ResultSender<J>,
 ) -> Vec<Hand>
 where
     J::Done: Drop + Send,
     requires crossing { IsSync R.row × IsSync G.row × IsSync J.row × IsSend J.Done.row }
     requires count { relay_count relay.now ≡ length jobs.now }
     requires hands { All (IsNewHandOf relay.now) hands.items }
-    requires answers { IsPassOf answers.now.queue teller.pass × (view teller.pass ≡ Some jobs.now) }
+    requires answers { IsPassOf answers.now.queue sender.pass × (view sender.pass ≡ Some jobs.now) }
     ensures ended { All (IsEndedHandOf relay.now) result.items }
     ensures count { length result.items ≡ length hands.items }
     ensures room { vec_capacity result ≡ vec_capacity hands }
@@ -72,17 +72,17 @@ where
         return hands;
     };
     if hands.is_empty() {
-        hands.push_reserved(work(rt, relay, hand, jobs, start, answers, teller));
+        hands.push_reserved(work(rt, relay, hand, jobs, start, answers, sender));
         return hands;
     }
-    let (teller, other) = another(answers, teller);
+    let (sender, other) = another_sender(answers, sender);
     let (ended, mut others) = join(
         rt,
         move || -> Hand
             requires { (relay_count relay.now ≡ length jobs.now) × IsNewHandOf relay.now hand
-                × IsPassOf answers.now.queue teller.pass × (view teller.pass ≡ Some jobs.now) }
+                × IsPassOf answers.now.queue sender.pass × (view sender.pass ≡ Some jobs.now) }
             ensures { IsEndedHandOf relay.entry.now result }
-        { work(rt, relay, hand, jobs, start, answers, teller) },
+        { work(rt, relay, hand, jobs, start, answers, sender) },
         move || -> Vec<Hand>
             requires { IsSync R.row × IsSync G.row × IsSync J.row × IsSend J.Done.row
                 × (relay_count relay.now ≡ length jobs.now) × All (IsNewHandOf relay.now) hands.items

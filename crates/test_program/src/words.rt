@@ -1,6 +1,8 @@
 //! Words that are accepted, and the commands that they give.
 use coded_stream::Version;
+use model_receiver::DecoderLimits;
 use rate_match::{Buffer, Match, Sends};
+use soft_channel::NoiseChannel;
 use std::test::Fail;
 use test_runs::words_of;
 use turbo_run::{Command, read_words};
@@ -54,16 +56,20 @@ fn numbers_that_are_not_given_have_their_defaults(rt: HostRuntime) -> Result<(),
         (
             "decode",
             Command::Decode {
-                windows: 8,
-                limit: 8,
+                limits: DecoderLimits {
+                    windows: 8,
+                    limit: 8,
+                },
                 workers: 1,
             },
         ),
         (
             "decode workers=16 limit=3 windows=64",
             Command::Decode {
-                windows: 64,
-                limit: 3,
+                limits: DecoderLimits {
+                    windows: 64,
+                    limit: 3,
+                },
                 workers: 16,
             },
         ),
@@ -71,30 +77,36 @@ fn numbers_that_are_not_given_have_their_defaults(rt: HostRuntime) -> Result<(),
             "batch",
             Command::Batch {
                 pipes: 2,
-                windows: 8,
-                limit: 8,
+                limits: DecoderLimits {
+                    windows: 8,
+                    limit: 8,
+                },
             },
         ),
         (
             "channel seed=18446744073709551615 noise=0 amp=127",
-            Command::Channel {
+            Command::Channel(NoiseChannel {
                 amp: 127,
                 noise: 0,
                 seed: u64::MAX,
-            },
+            }),
         ),
         ("upgrade", Command::Upgrade),
         (
             "trial seed=1 blocks=3 tb=2 g=132 qm=2 rv=0 amp=40 noise=20",
             Command::Trial {
-                seed: 1,
                 blocks: 3,
                 tb: 2,
                 sends,
-                amp: 40,
-                noise: 20,
-                windows: 8,
-                limit: 8,
+                channel: NoiseChannel {
+                    amp: 40,
+                    noise: 20,
+                    seed: 1,
+                },
+                limits: DecoderLimits {
+                    windows: 8,
+                    limit: 8,
+                },
             },
         ),
         (
@@ -108,11 +120,11 @@ fn numbers_that_are_not_given_have_their_defaults(rt: HostRuntime) -> Result<(),
         ),
         (
             "points amp=40 noise=20 seed=5",
-            Command::Points {
+            Command::Points(NoiseChannel {
                 amp: 40,
                 noise: 20,
                 seed: 5,
-            },
+            }),
         ),
     ];
     for (line, want) in rows {

@@ -7,7 +7,7 @@ ghost use Rattle.lock_step.specs.Vectors.{IsSmall};
 
 use crate::mixed;
 use crate::values::has_numbers;
-use lock_step::{LaneWork, run_rows};
+use lock_step::{BordersIn, KernelScratch, SoftRows, run_rows};
 use lte_bits::NoMemory;
 use std::alloc::Global;
 use std::process::Abort;
@@ -61,22 +61,36 @@ fn decode_lane<const N: usize>(rt: &impl Abort, alloc: Global, lane: usize) -> R
     let par: Vec<[i16; N]> = rows::<N, 127>(alloc, lane, &wide(mixed::PARITY))?;
     let mut cells: Vec<[i16; N]> = rows::<N, 511>(alloc, lane, &mixed::OLD_CELLS)?;
     let mut sums = vec![in alloc; [0; N]; 8]?;
-    let from = vec![in alloc; Border::known(); N]?;
-    let to = vec![in alloc; Border::unknown(); N]?;
-    let mut ahead = vec![in alloc; Border::unknown(); N]?;
-    let mut back = vec![in alloc; Border::unknown(); N]?;
-    let mut work = LaneWork::<N>::new(alloc, 16)?;
+    let alpha_in = vec![in alloc; Border::known(); N]?;
+    let beta_in = vec![in alloc; Border::unknown(); N]?;
+    let mut alpha_out = vec![in alloc; Border::unknown(); N]?;
+    let mut beta_out = vec![in alloc; Border::unknown(); N]?;
+    let mut scratch = KernelScratch::<N>::new(alloc, 16)?;
     assert!(rt; sys.len() == 8 && par.len() == 8 && cells.len() == 8 && lane < N);
+    let borders = BordersIn {
+        alpha: &alpha_in,
+        beta: &beta_in,
+    };
+    let soft = SoftRows {
+        systematic: &sys,
+        parity: &par,
+    };
     run_rows(
-        &mut work, &from, &to, &sys, &par, &mut cells, &mut sums, &mut ahead, &mut back,
+        &mut scratch,
+        borders,
+        soft,
+        &mut cells,
+        &mut sums,
+        &mut alpha_out,
+        &mut beta_out,
     );
-    assert_eq!(rt; work.room(), 16);
+    assert_eq!(rt; scratch.room(), 16);
     for j in 0..8 {
         assert_eq!(rt; cells[j][lane], mixed::NEW_CELLS[j], "position {j}");
         assert_eq!(rt; sums[j][lane] < 0, mixed::ONES[j], "position {j}");
     }
-    assert!(rt; has_numbers(ahead[lane], mixed::FORWARD));
-    assert!(rt; has_numbers(back[lane], mixed::BACKWARD));
+    assert!(rt; has_numbers(alpha_out[lane], mixed::FORWARD));
+    assert!(rt; has_numbers(beta_out[lane], mixed::BACKWARD));
     Ok(())
 }
 

@@ -1,6 +1,6 @@
 //! Constellation points and soft values of received points, by worked rows and an independent program.
 ghost use Rattle.std.specs.Prelude.{◌≤◌};
-ghost use Rattle.qam_points.specs.Constellation.{IsOrder};
+ghost use Rattle.qam_points.specs.Constellation.{IsModulationOrder};
 ghost use Rattle.qam_points.specs.Demapping.{IsNearby};
 
 use lte_bits::{Bit, NoMemory};
@@ -14,7 +14,7 @@ const I: Bit = Bit::One;
 
 /// Returns whether these are the soft values of a received point.
 fn has_values(alloc: Global, y: Point, qm: u8, amp: u8, values: &[i8]) -> Result<bool, NoMemory>
-    requires order { IsOrder qm }
+    requires order { IsModulationOrder qm }
     requires amp { (1 ≤ amp) × (amp ≤ 127) }
     requires near { IsNearby y }
 {

@@ -78,7 +78,7 @@ fn each_of_the_188_sizes_has_the_sum_of_another_library(rt: HostRuntime) -> Resu
 fn the_numbers_of_the_table_have_known_sums(rt: HostRuntime) {
     let mut row = 0usize;
     let mut sums = [0usize; 4];
-    for q in (0..6300usize).filter_map(qpp) {
+    for q in (0..6300usize).filter_map(|k| qpp(k)) {
         row = row.saturating_add(1);
         let (f1, f2) = (q.f1(), q.f2());
         let numbers = [f1, f2, row.saturating_mul(f1), row.saturating_mul(f2)];

@@ -1,7 +1,7 @@
 //! Noisy code blocks of twenty sizes, decoded in lock step, window after window and by several workers.
 ghost use Rattle.std.specs.Prelude.{◌≡◌, ◌+◌, ◌≤◌, Contains, length};
 ghost use Rattle.model_sender.specs.Interleaver.{sizes};
-ghost use Rattle.serial_decode.specs.Views.{AreStreams};
+ghost use Rattle.half_iteration.specs.Views.{AreStreams};
 
 use block_crc::crc24a;
 use lane_windows::decode_block_lanes;

@@ -34,58 +34,41 @@ state_of x y z = record { a1 = x; a2 = y; a3 = z }
 abbrev four : Bit → Bit → Bit → Bit → List Bit
 four a b c d = a ∷ b ∷ c ∷ d ∷ []
 
-abbrev next_test : Bit → Bit → Bit → Bit → Bit → Bit → Bit → Bool
-next_test x y z a b c d = state_number (reached (state_of x y z) (four a b c d)) == entry NEXT (number (four a b c d)) (state_number (state_of x y z))
+abbrev table_test : (State → List Bit → ℕ) → List (List ℕ) → Bit → Bit → Bit → Bit → Bit → Bit → Bit → Bool
+table_test f table x y z a b c d = f (state_of x y z) (four a b c d) == entry table (number (four a b c d)) (state_number (state_of x y z))
 
-abbrev parity_test : Bit → Bit → Bit → Bit → Bit → Bit → Bit → Bool
-parity_test x y z a b c d = number (parities_from (state_of x y z) (four a b c d)) == entry PARITIES (number (four a b c d)) (state_number (state_of x y z))
+abbrev next_number : State → List Bit → ℕ
+next_number s bits = state_number (reached s bits)
 
-next_passed : all_bits (λ x. all_bits (λ y. all_bits (λ z. all_bits (λ a. all_bits (λ b. all_bits (λ c. all_bits (λ d. next_test x y z a b c d))))))) ≡ true
-next_passed = refl
+abbrev parity_number : State → List Bit → ℕ
+parity_number s bits = number (parities_from s bits)
 
-parity_passed : all_bits (λ x. all_bits (λ y. all_bits (λ z. all_bits (λ a. all_bits (λ b. all_bits (λ c. all_bits (λ d. parity_test x y z a b c d))))))) ≡ true
-parity_passed = refl
-
-next-test : (x y z a b c d : Bit) → next_test x y z a b c d ≡ true
-next-test x y z a b c d =
-    each-bit (λ d. next_test x y z a b c d)
-    (each-bit (λ c. all_bits (λ d. next_test x y z a b c d))
-    (each-bit (λ b. all_bits (λ c. all_bits (λ d. next_test x y z a b c d)))
-    (each-bit (λ a. all_bits (λ b. all_bits (λ c. all_bits (λ d. next_test x y z a b c d))))
-    (each-bit (λ z. all_bits (λ a. all_bits (λ b. all_bits (λ c. all_bits (λ d. next_test x y z a b c d)))))
-    (each-bit (λ y. all_bits (λ z. all_bits (λ a. all_bits (λ b. all_bits (λ c. all_bits (λ d. next_test x y z a b c d))))))
-    (each-bit (λ x. all_bits (λ y. all_bits (λ z. all_bits (λ a. all_bits (λ b. all_bits (λ c. all_bits (λ d. next_test x y z a b c d))))))) next_passed x) y) z) a) b) c) d
-
-parity-test : (x y z a b c d : Bit) → parity_test x y z a b c d ≡ true
-parity-test x y z a b c d =
-    each-bit (λ d. parity_test x y z a b c d)
-    (each-bit (λ c. all_bits (λ d. parity_test x y z a b c d))
-    (each-bit (λ b. all_bits (λ c. all_bits (λ d. parity_test x y z a b c d)))
-    (each-bit (λ a. all_bits (λ b. all_bits (λ c. all_bits (λ d. parity_test x y z a b c d))))
-    (each-bit (λ z. all_bits (λ a. all_bits (λ b. all_bits (λ c. all_bits (λ d. parity_test x y z a b c d)))))
-    (each-bit (λ y. all_bits (λ z. all_bits (λ a. all_bits (λ b. all_bits (λ c. all_bits (λ d. parity_test x y z a b c d))))))
-    (each-bit (λ x. all_bits (λ y. all_bits (λ z. all_bits (λ a. all_bits (λ b. all_bits (λ c. all_bits (λ d. parity_test x y z a b c d))))))) parity_passed x) y) z) a) b) c) d
+-- what a table has for four inputs from a state, wherever a test of both passes at all bits
+tested : (f : State → List Bit → ℕ) (table : List (List ℕ))
+    → all_bits (λ x. all_bits (λ y. all_bits (λ z. all_bits (λ a. all_bits (λ b. all_bits (λ c. all_bits (λ d. table_test f table x y z a b c d))))))) ≡ true
+    → (s : State) (bits : List Bit) (n i : ℕ) → length bits ≡ 4 → state_number s ≡ n → i ≡ number bits → f s bits ≡ entry table i n
+tested f table passed s [] n i long at is = absurd (omega (arith, long))
+tested f table passed s (a ∷ []) n i long at is = absurd (omega (arith, long))
+tested f table passed s (a ∷ b ∷ []) n i long at is = absurd (omega (arith, long))
+tested f table passed s (a ∷ b ∷ c ∷ []) n i long at is = absurd (omega (arith, long))
+tested f table passed s (a ∷ b ∷ c ∷ d ∷ []) n i long at is =
+    eqb-true (f s (four a b c d)) (entry table (number (four a b c d)) (state_number s))
+    (each-bit (λ d. table_test f table s.a1 s.a2 s.a3 a b c d)
+    (each-bit (λ c. all_bits (λ d. table_test f table s.a1 s.a2 s.a3 a b c d))
+    (each-bit (λ b. all_bits (λ c. all_bits (λ d. table_test f table s.a1 s.a2 s.a3 a b c d)))
+    (each-bit (λ a. all_bits (λ b. all_bits (λ c. all_bits (λ d. table_test f table s.a1 s.a2 s.a3 a b c d))))
+    (each-bit (λ z. all_bits (λ a. all_bits (λ b. all_bits (λ c. all_bits (λ d. table_test f table s.a1 s.a2 z a b c d)))))
+    (each-bit (λ y. all_bits (λ z. all_bits (λ a. all_bits (λ b. all_bits (λ c. all_bits (λ d. table_test f table s.a1 y z a b c d))))))
+    (each-bit (λ x. all_bits (λ y. all_bits (λ z. all_bits (λ a. all_bits (λ b. all_bits (λ c. all_bits (λ d. table_test f table x y z a b c d))))))) passed s.a1) s.a2) s.a3) a) b) c) d)
+    ∙ ap (entry table (number (four a b c d))) at ∙ ap (λ m. entry table m n) (sym is)
+tested f table passed s (a ∷ b ∷ c ∷ d ∷ e ∷ rest) n i long at is = absurd (omega (arith, long))
 
 -- the state after four inputs, and the number of their parity bits
 pub next-entry : (s : State) (bits : List Bit) (n i : ℕ) → length bits ≡ 4 → state_number s ≡ n → i ≡ number bits → state_number (reached s bits) ≡ entry NEXT i n
-next-entry s [] n i long at is = absurd (omega (arith, long))
-next-entry s (a ∷ []) n i long at is = absurd (omega (arith, long))
-next-entry s (a ∷ b ∷ []) n i long at is = absurd (omega (arith, long))
-next-entry s (a ∷ b ∷ c ∷ []) n i long at is = absurd (omega (arith, long))
-next-entry s (a ∷ b ∷ c ∷ d ∷ []) n i long at is =
-    eqb-true (state_number (reached s (four a b c d))) (entry NEXT (number (four a b c d)) (state_number s)) (next-test s.a1 s.a2 s.a3 a b c d)
-    ∙ ap (entry NEXT (number (four a b c d))) at ∙ ap (λ m. entry NEXT m n) (sym is)
-next-entry s (a ∷ b ∷ c ∷ d ∷ e ∷ rest) n i long at is = absurd (omega (arith, long))
+next-entry = tested next_number NEXT refl
 
 pub parity-entry : (s : State) (bits : List Bit) (n i : ℕ) → length bits ≡ 4 → state_number s ≡ n → i ≡ number bits → number (parities_from s bits) ≡ entry PARITIES i n
-parity-entry s [] n i long at is = absurd (omega (arith, long))
-parity-entry s (a ∷ []) n i long at is = absurd (omega (arith, long))
-parity-entry s (a ∷ b ∷ []) n i long at is = absurd (omega (arith, long))
-parity-entry s (a ∷ b ∷ c ∷ []) n i long at is = absurd (omega (arith, long))
-parity-entry s (a ∷ b ∷ c ∷ d ∷ []) n i long at is =
-    eqb-true (number (parities_from s (four a b c d))) (entry PARITIES (number (four a b c d)) (state_number s)) (parity-test s.a1 s.a2 s.a3 a b c d)
-    ∙ ap (entry PARITIES (number (four a b c d))) at ∙ ap (λ m. entry PARITIES m n) (sym is)
-parity-entry s (a ∷ b ∷ c ∷ d ∷ e ∷ rest) n i long at is = absurd (omega (arith, long))
+parity-entry = tested parity_number PARITIES refl
 
 -- the cells of four bits
 cells-four : (a b c d : Bit) → get_or CELLS (number (four a b c d)) [] ≡ cells_of (four a b c d)

@@ -3,9 +3,9 @@ ghost use Rattle.std.specs.Prelude.{◌≡◌, Contains, IfOk, length};
 ghost use Rattle.model_sender.specs.CodedStreams.{streams};
 ghost use Rattle.model_sender.specs.Interleaver.{sizes};
 
+use crate::addresses::InterleaverAddresses;
 use crate::cells::{ended, room, systematic};
 use crate::constituent::code;
-use crate::order::Order;
 use crate::tails::Tails;
 use lte_bits::{Block, NoMemory, Streams};
 use std::alloc::Global;
@@ -17,13 +17,17 @@ pub fn encode(alloc: Global, block: &Block) -> Result<Streams, NoMemory>
     requires { Contains sizes (length block.now.bits) }
     ensures { IfOk result (λ s. s ≡ streams block.now) }
 {
-    let order = Order::new(alloc, block.bits.as_slice().len())?;
-    encode_in_order(alloc, block, &order)
+    let addresses = InterleaverAddresses::new(alloc, block.bits.as_slice().len())?;
+    encode_with(alloc, block, &addresses)
 }
 
-/// Returns the same, by the order of the block's size, which serves many blocks.
-pub fn encode_in_order(alloc: Global, block: &Block, order: &Order) -> Result<Streams, NoMemory>
-    requires { order.now ≡ length block.now.bits }
+/// Returns the same, by the addresses of the block's size, which serve many blocks.
+pub fn encode_with(
+    alloc: Global,
+    block: &Block,
+    addresses: &InterleaverAddresses,
+) -> Result<Streams, NoMemory>
+    requires { addresses.now ≡ length block.now.bits }
     ensures { IfOk result (λ s. s ≡ streams block.now) }
 {
     let bits = block.bits.as_slice();
@@ -34,7 +38,7 @@ pub fn encode_in_order(alloc: Global, block: &Block, order: &Order) -> Result<St
         first.as_mut_slice(),
         second.as_mut_slice(),
         bits,
-        order.places(),
+        addresses.as_slice(),
         block.fill,
     );
     let tails = Tails::new(ends.first, ends.second);

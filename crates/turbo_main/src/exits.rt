@@ -24,7 +24,7 @@ fn exit(status: Status) -> ExitCode
     ExitCode::from(status.exit())
 }
 
-/// Returns how a run ends whose arguments couldn't be read: since memory ran out, or since one is no text. It
+/// Returns how a run ends whose arguments couldn't be read: since memory ran out, or since one isn't UTF-8. It
 /// is then a run without words.
 fn unread(error: &io::Error) -> Status
     ensures { exit_of result ≡ exit_unread (error_kind error.now) }

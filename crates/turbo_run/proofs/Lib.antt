@@ -1,6 +1,1 @@
-mod CodewordSteps
-mod FullBuffer
-mod MoreText
-mod BlockKinds
-mod EncodeSteps
 mod Runnings

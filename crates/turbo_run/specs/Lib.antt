@@ -1,6 +1,1 @@
-pub mod Input
-pub mod Codeword
-pub mod CodewordRound
-pub mod Encode
-pub mod EncodeRounds
 pub mod Run

@@ -1,7 +1,9 @@
 -- What a run of the program owes.
 use Rattle.std.specs.Prelude.{◌≡◌, ℕ, List, Some, None, IfOk, IfErr, IfSome}
 use Rattle.std.specs.declared.option.Option.{Option}
+use Rattle.model_receiver.specs.Limits.{DecoderLimits}
 use Rattle.rate_match.specs.declared.sends.Sending.{Sending}
+use Rattle.soft_channel.specs.Channel.{NoiseChannel}
 use Rattle.run_loop.specs.Edges.{Edges, Causes, HasMoved, IsQuiet}
 use Rattle.run_loop.specs.FaultLine.{AddsLine, Finished, fault_line}
 use Rattle.run_loop.specs.Reply.{Reply, reading, IsEndingOf, ending_of_reply}
@@ -10,58 +12,43 @@ use Rattle.run_loop.specs.declared.status.Status.TheVariants.{BadWords}
 use Rattle.stream_loop.specs.Handling.{stream_answer}
 use Rattle.command_decode.specs.Decoding.{decoding}
 use Rattle.command_batch.specs.Batch.{batch_answer}
-use Rattle.command_relay.specs.Channel.{Noise, channel}
+use Rattle.command_relay.specs.Channel.{channel}
 use Rattle.command_relay.specs.Points.{points}
 use Rattle.command_relay.specs.Scramble.{scrambling}
 use Rattle.command_relay.specs.Upgrade.{upgrade}
 use Rattle.command_trial.specs.Trials.{trial_reply}
-use Rattle.turbo_run.specs.Codeword.{codeword_answer}
-use Rattle.turbo_run.specs.Encode.{encode_answer, hard_header}
+use Rattle.command_encode.specs.Codeword.{codeword_answer}
+use Rattle.command_encode.specs.Encode.{encode_answer, hard_header}
 use Rattle.command_words.specs.Words.{command_of}
 use Rattle.command_words.specs.declared.words.Command.{Command}
 use Rattle.command_words.specs.declared.words.Command.TheVariants.{Codeword, Encode, Decode, Batch, Channel, Upgrade, Trial, Scramble, Points}
 
--- the noise of these numbers
-abbrev pub noise_of : (amp noise seed : ℕ) → Noise
-noise_of amp noise seed = record { strength = record { amp = amp; noise = noise }; seed = seed }
-
 -- what a trial of these numbers answers
-abbrev pub trial_answer : (seed blocks tb : ℕ) → List Sending → (amp noise windows limit : ℕ) → Reply
-trial_answer seed blocks tb sends amp noise windows limit = trial_reply (record {
-  seed = seed;
-  blocks = blocks;
-  tb = tb;
-  sends = sends;
-  strength = record { amp = amp; noise = noise };
-  effort = record { windows = windows; limit = limit };
-})
+abbrev pub trial_answer : (blocks tb : ℕ) → List Sending → NoiseChannel → DecoderLimits → Reply
+trial_answer blocks tb sends channel limits =
+    trial_reply (record { blocks = blocks; tb = tb; sends = sends; channel = channel; limits = limits })
 
 -- what a command answers to an input
 abbrev pub answer_of : Command → (input : List ℕ) → Reply
 answer_of (Codeword m rv) input = reading (codeword_answer m rv input)
 answer_of (Encode version tb sends) input = reading (encode_answer (hard_header version tb sends) input)
-answer_of (Decode windows limit workers) input =
-    reading (stream_answer (decoding (record { windows = windows; limit = limit })) input)
-answer_of (Batch pipes windows limit) input =
-    reading (batch_answer (record { windows = windows; limit = limit }) pipes input)
-answer_of (Channel amp noise seed) input = reading (stream_answer (channel (noise_of amp noise seed)) input)
+answer_of (Decode limits workers) input = reading (stream_answer (decoding limits) input)
+answer_of (Batch pipes limits) input = reading (batch_answer limits pipes input)
+answer_of (Channel c) input = reading (stream_answer (channel c) input)
 answer_of Upgrade input = reading (stream_answer upgrade input)
-answer_of (Trial seed blocks tb sends amp noise windows limit) input =
-    trial_answer seed blocks tb sends amp noise windows limit
+answer_of (Trial blocks tb sends c limits) input = trial_answer blocks tb sends c limits
 answer_of (Scramble rnti q slot cell) input =
     reading (stream_answer (scrambling (record { rnti = rnti; q = q; slot = slot; cell = cell })) input)
-answer_of (Points amp noise seed) input = reading (stream_answer (points (noise_of amp noise seed)) input)
+answer_of (Points c) input = reading (stream_answer (points c) input)
 
 -- what a command answers that reads nothing
 abbrev pub unread_of : Command → Option Reply
-unread_of (Trial seed blocks tb sends amp noise windows limit) =
-    Some (trial_answer seed blocks tb sends amp noise windows limit)
+unread_of (Trial blocks tb sends c limits) = Some (trial_answer blocks tb sends c limits)
 unread_of _ = None
 
 -- a command that reads nothing leaves the source and `out` as they are, whether these tell what they hold or not
 abbrev pub LeavesAlone : {S D : Type 0} → Command → (source source' : S) → (out out' : D) → Type 0
-LeavesAlone (Trial seed blocks tb sends amp noise windows limit) source source' out out' =
-    (source' ≡ source) × (out' ≡ out)
+LeavesAlone (Trial blocks tb sends c limits) source source' out out' = (source' ≡ source) × (out' ≡ out)
 LeavesAlone _ source source' out out' = Unit {0}
 
 -- What a run of these words owes, of the edges before and after it.

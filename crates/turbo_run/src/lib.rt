@@ -1,10 +1,6 @@
 //! The commands of the program, over a source of bytes and two sinks.
 #![tactic(auto)]
 
-mod blocks;
-mod codeword;
-mod encode;
-mod input;
 mod performing;
 mod top_calls;
 

@@ -7,13 +7,12 @@ ghost use Rattle.command_words.specs.Lawful.{IsLawful};
 ghost use Rattle.command_decode.specs.Receivers.{GivesOutcomes, TakesTransmissions};
 ghost use Rattle.command_batch.specs.Runners.{GivesAnswers, TakesJobs};
 
-use crate::codeword::Codeword;
-use crate::encode::Encode;
-use block_receive::{Effort, Task};
+use block_receive::Task;
 use coded_stream::{Header, Kind};
 use command_batch::{Batch, BlockJob, Outcomes, Pipes};
 use command_decode::{Decoding, Received};
-use command_relay::{Channel, Converted, Points, Scramble, Upgrade};
+use command_encode::{Codeword, Encode};
+use command_relay::{Converted, Points, Scramble, Upgrade};
 use command_trial::{Trial, run_trial};
 use command_words::Command;
 use edge_io::{Sink, Source};
@@ -65,55 +64,38 @@ pub fn perform<
             };
             drive(alloc, Encode { header }, source, out, report)
         }
-        Command::Decode {
-            windows,
-            limit,
-            workers,
-        } => {
+        Command::Decode { limits, workers } => {
+            let limits = &limits;
             let decoding = Decoding {
                 receive,
                 workers,
-                effort: Effort { windows, limit },
+                limits,
             };
             drive(alloc, Stream(decoding), source, out, report)
         }
-        Command::Batch {
-            pipes,
-            windows,
-            limit,
-        } => {
-            let batch = Batch {
-                runner: Pipes {
-                    run: run_jobs,
-                    pipes,
-                },
-                effort: Effort { windows, limit },
-            };
-            drive(alloc, batch, source, out, report)
+        Command::Batch { pipes, limits } => {
+            let limits = &limits;
+            let run = run_jobs;
+            let runner = Pipes { run, pipes };
+            drive(alloc, Batch { runner, limits }, source, out, report)
         }
-        Command::Channel { amp, noise, seed } => {
-            let channel = Channel { amp, noise, seed };
+        Command::Channel(channel) => {
             drive(alloc, Stream(Converted(channel)), source, out, report)
         }
         Command::Upgrade => drive(alloc, Stream(Converted(Upgrade)), source, out, report),
         Command::Trial {
-            seed,
             blocks,
             tb,
             sends,
-            amp,
-            noise,
-            windows,
-            limit,
+            channel,
+            limits,
         } => {
             let trial = Trial {
-                seed,
                 blocks,
                 tb,
                 sends,
-                amp,
-                noise,
-                effort: Effort { windows, limit },
+                channel,
+                limits,
             };
             run_trial(alloc, &trial, report)
         }
@@ -131,15 +113,9 @@ pub fn perform<
             };
             drive(alloc, Stream(Converted(scramble)), source, out, report)
         }
-        Command::Points { amp, noise, seed } => {
-            let channel = Channel { amp, noise, seed };
-            drive(
-                alloc,
-                Stream(Converted(Points { channel })),
-                source,
-                out,
-                report,
-            )
+        Command::Points(channel) => {
+            let points = Points { channel };
+            drive(alloc, Stream(Converted(points)), source, out, report)
         }
     }
 }

@@ -2,7 +2,6 @@
 ghost use Rattle.std.specs.Prelude.{◌≡◌, ◌≤◌, IfOk};
 ghost use Rattle.std.specs.List.{AllZip};
 ghost use Rattle.model_receiver.specs.TransportBlocks.{outcome};
-ghost use Rattle.block_receive.specs.Effort.{effort_in};
 ghost use Rattle.block_receive.specs.Receptions.{receptions};
 ghost use Rattle.run_loop.specs.Edges.{edges};
 ghost use Rattle.turbo_run.specs.Run.{Runs};
@@ -12,7 +11,7 @@ ghost use Rattle.command_batch.specs.Jobs.{answers};
 ghost use Rattle.command_batch.specs.Runners.{AreRun, GivesAnswers, TakesJobs};
 
 use crate::performing::perform;
-use block_receive::{Effort, Task, receive_alone, receive_shared};
+use block_receive::Task;
 use command_batch::{BlockJob, Outcomes, run_each};
 use command_decode::Received;
 use command_words::read_words;
@@ -82,18 +81,9 @@ pub fn run_alone<S: Source, D: Sink, R: Sink>(
 {
     let receive = |alloc: Global, task: &Task, workers: usize, sends: &Sends, softs: &[Soft]| -> Received
         requires { AreReceived task.now workers sends.now softs.now }
-        ensures { IfOk result (λ o. o ≡ outcome task.now.plan (effort_in task.now)
+        ensures { IfOk result (λ o. o ≡ outcome task.now.plan task.now.limits
             (receptions sends.now softs.now)) }
-    {
-        receive_alone(
-            alloc,
-            &task.plan,
-            sends,
-            task.effort.windows,
-            task.effort.limit,
-            softs,
-        )
-    };
+    { task.receive_alone(alloc, sends, softs) };
     let run_jobs = |alloc: Global, jobs: &[BlockJob], pipes: usize| -> Outcomes
         requires { AreRun jobs.now pipes }
         ensures { IfOk result (AllZip answers jobs.now) }
@@ -119,17 +109,13 @@ pub fn run_gated<H: Threads + Wait + Sync, S: Source, D: Sink, R: Sink, G: Gate 
 {
     let receive = |alloc: Global, task: &Task, workers: usize, sends: &Sends, softs: &[Soft]| -> Received
         requires { AreReceived task.now workers sends.now softs.now }
-        ensures { IfOk result (λ o. o ≡ outcome task.now.plan (effort_in task.now)
+        ensures { IfOk result (λ o. o ≡ outcome task.now.plan task.now.limits
             (receptions sends.now softs.now)) }
     {
-        let Task { plan, effort } = *task;
-        let Effort { windows, limit } = effort;
         if workers == 1 {
-            return receive_alone(alloc, &plan, sends, windows, limit, softs);
+            return task.receive_alone(alloc, sends, softs);
         }
-        receive_shared(
-            rt, alloc, &plan, sends, windows, limit, softs, workers, gate,
-        )
+        task.receive_shared(rt, alloc, sends, softs, workers, gate)
     };
     let run_jobs = |alloc: Global, jobs: &[BlockJob], pipes: usize| -> Outcomes
         requires { AreRun jobs.now pipes }

@@ -16,7 +16,7 @@ use std::simd::prelude::*;
 
 /// Returns the metrics with which paths come to each state from the one before it whose oldest value is 0.
 #[inline]
-fn way_in_by_zero(before: i16x8, step: Step) -> i16x8
+fn alpha_branch_zero(before: i16x8, step: Step) -> i16x8
     requires { IsRelative before }
     ensures { result ≡ border_of
         (λ s. way_in (number_for before) (step_gain step.input step.parity) s Zero) }
@@ -27,7 +27,7 @@ fn way_in_by_zero(before: i16x8, step: Step) -> i16x8
 
 /// Returns the metrics with which paths come to each state from the one before it whose oldest value is 1.
 #[inline]
-fn way_in_by_one(before: i16x8, step: Step) -> i16x8
+fn alpha_branch_one(before: i16x8, step: Step) -> i16x8
     requires { IsRelative before }
     ensures { result ≡ border_of
         (λ s. way_in (number_for before) (step_gain step.input step.parity) s One) }
@@ -42,15 +42,15 @@ pub fn forward(before: i16x8, step: Step) -> i16x8
     requires { IsRelative before }
     ensures { result ≡ relative (forward (number_for before) (step_gain step.input step.parity)) }
 {
-    let zero = way_in_by_zero(before, step);
-    let one = way_in_by_one(before, step);
+    let zero = alpha_branch_zero(before, step);
+    let one = alpha_branch_one(before, step);
     let next = larger(zero, one);
     above_zero(next)
 }
 
 /// Returns the metrics after the steps by the input 0, with what their parity bits earn.
 #[inline]
-fn onward_by_zero(after: i16x8, value: i16) -> i16x8
+fn beta_branch_zero(after: i16x8, value: i16) -> i16x8
     requires after { IsRelative after }
     requires value { IsWithin 127 value }
     ensures { result
@@ -61,7 +61,7 @@ fn onward_by_zero(after: i16x8, value: i16) -> i16x8
 
 /// Returns the metrics after the steps by the input 1, with what their parity bits earn.
 #[inline]
-fn onward_by_one(after: i16x8, value: i16) -> i16x8
+fn beta_branch_one(after: i16x8, value: i16) -> i16x8
     requires after { IsRelative after }
     requires value { IsWithin 127 value }
     ensures { result
@@ -76,8 +76,8 @@ pub fn backward(after: i16x8, step: Step) -> i16x8
     requires { IsRelative after }
     ensures { result ≡ relative (backward (number_for after) (step_gain step.input step.parity)) }
 {
-    let zero = sum(all(step.input), onward_by_zero(after, step.parity));
-    let one = onward_by_one(after, step.parity);
+    let zero = sum(all(step.input), beta_branch_zero(after, step.parity));
+    let one = beta_branch_one(after, step.parity);
     above_zero(larger(zero, one))
 }
 
@@ -90,7 +90,7 @@ pub fn extrinsic(before: i16x8, after: i16x8, value: i16) -> i32
     ensures value { result ≡ through before after value Zero -ℤ through before after value One }
     ensures range { IsWithin 25818 result }
 {
-    let zero = greatest(sum(before, onward_by_zero(after, value)));
-    let one = greatest(sum(before, onward_by_one(after, value)));
+    let zero = greatest(sum(before, beta_branch_zero(after, value)));
+    let one = greatest(sum(before, beta_branch_one(after, value)));
     i32::from(zero) - i32::from(one)
 }

@@ -42,17 +42,17 @@ fn new_cell(before: i16x8, after: i16x8, step: Step) -> Ext
 /// backward metrics before the first, relative to those of state 0.
 fn sweep<S: Strip>(
     rows: &mut Vec<i16x8>,
-    from: &Border,
-    to: &Border,
+    alpha_in: &Border,
+    beta_in: &Border,
     strip: &mut S,
 ) -> (i16x8, i16x8)
     requires least { 8 ≤ length (S.cells strip.old) }
     requires room { length (S.cells strip.old) ≤ length rows.old.items }
-    ensures cells { S.cells strip.new ≡ new_cells (window_between from.now to.now
+    ensures cells { S.cells strip.new ≡ new_cells (window_between alpha_in.now beta_in.now
         (S.systematic strip.old) (S.parity strip.old) (S.cells strip.old)) }
-    ensures forward { result.0 ≡ forward_left (window_between from.now to.now
+    ensures forward { result.0 ≡ forward_left (window_between alpha_in.now beta_in.now
         (S.systematic strip.old) (S.parity strip.old) (S.cells strip.old)) }
-    ensures backward { result.1 ≡ backward_left (window_between from.now to.now
+    ensures backward { result.1 ≡ backward_left (window_between alpha_in.now beta_in.now
         (S.systematic strip.old) (S.parity strip.old) (S.cells strip.old)) }
     ensures borders { IsBorder result.0 × IsBorder result.1 }
     ensures systematic { S.systematic strip.new ≡ S.systematic strip.old }
@@ -61,13 +61,13 @@ fn sweep<S: Strip>(
     ensures room { length rows.new.items ≡ length rows.old.items }
 {
     let width = strip.width();
-    let mut before = from.lanes();
+    let mut before = alpha_in.lanes();
     for j in 0..width {
         rows[j] = before;
         let step = step_at(strip, j);
         before = forward(before, step);
     }
-    let mut after = to.lanes();
+    let mut after = beta_in.lanes();
     for i in 0..width {
         let j = width - 1 - i;
         let step = step_at(strip, j);
@@ -82,23 +82,23 @@ fn sweep<S: Strip>(
 /// the backward border that it leaves. The strip's width is at least 8 and at most the room.
 pub fn run_window<S: Strip>(
     work: &mut Work,
-    from: &Border,
-    to: &Border,
+    alpha_in: &Border,
+    beta_in: &Border,
     strip: &mut S,
 ) -> (Border, Border)
     requires least { 8 ≤ length (S.cells strip.old) }
     requires room { length (S.cells strip.old) ≤ work.old }
-    ensures cells { S.cells strip.new ≡ new_cells (window_between from.now to.now
+    ensures cells { S.cells strip.new ≡ new_cells (window_between alpha_in.now beta_in.now
         (S.systematic strip.old) (S.parity strip.old) (S.cells strip.old)) }
-    ensures forward { result.0 ≡ forward_left (window_between from.now to.now
+    ensures forward { result.0 ≡ forward_left (window_between alpha_in.now beta_in.now
         (S.systematic strip.old) (S.parity strip.old) (S.cells strip.old)) }
-    ensures backward { result.1 ≡ backward_left (window_between from.now to.now
+    ensures backward { result.1 ≡ backward_left (window_between alpha_in.now beta_in.now
         (S.systematic strip.old) (S.parity strip.old) (S.cells strip.old)) }
     ensures systematic { S.systematic strip.new ≡ S.systematic strip.old }
     ensures parity { S.parity strip.new ≡ S.parity strip.old }
     ensures rest { S.rest strip.new ≡ S.rest strip.old }
     ensures room { work.new ≡ work.old }
 {
-    let (end, start) = sweep(&mut work.rows, from, to, strip);
-    (Border::from_lanes(end), Border::from_lanes(start))
+    let (alpha_out, beta_out) = sweep(&mut work.rows, alpha_in, beta_in, strip);
+    (Border::from_lanes(alpha_out), Border::from_lanes(beta_out))
 }

@@ -8,7 +8,7 @@ use Rattle.window_decode.specs.contracts.ext.Ext as Ext
 use Rattle.window_decode.specs.contracts.border.Border as Border
 use Rattle.window_decode.specs.contracts.shape.Shape as Shape
 use Rattle.window_decode.specs.contracts.work.Work as Work
-use Rattle.serial_decode.specs.contracts.left.BordersLeft as BordersLeft
+use Rattle.half_iteration.specs.contracts.left.BordersLeft as BordersLeft
 use Rattle.cell_shares.specs.contracts.share.Share as Share
 use Rattle.cell_shares.proofs.part.Part.TheSendSync.{the_send as part}
 use Rattle.cell_shares.proofs.right.FreeRight.TheSendSync.{the_send as right}

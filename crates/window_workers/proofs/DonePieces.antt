@@ -19,7 +19,7 @@ use Rattle.window_workers.proofs.Somes.{some-same}
 use Rattle.window_workers.proofs.HalfCells.{cells-long}
 use Rattle.window_workers.proofs.OrdersOfHalves.{same-order}
 use Rattle.window_workers.proofs.SharesOfHalves.{dealt, dealt-cells}
-use Rattle.serial_decode.proofs.Wholes.{are-whole}
+use Rattle.half_iteration.proofs.Wholes.{are-whole}
 
 -- what holds of each element of a list, by its index from a on
 abbrev pub EachFrom : {X : Type 0} → (ℕ → X → Type 0) → ℕ → List X → Type 0

@@ -9,10 +9,10 @@ use Rattle.model_receiver.specs.Windows.{Extrinsic, zero_cell, cell_at, new_cell
 use Rattle.model_receiver.specs.HalfIteration.{Shape, Before, none_left, window_width, order, position_of, cells_in, window, renewed, left_after}
 use Rattle.model_receiver.specs.Decoding.{before}
 use Rattle.model_receiver.proofs.PlacesOfPositions.{order-apart, position-back}
-use Rattle.serial_decode.specs.Views.{AreWhole}
-use Rattle.serial_decode.proofs.HalfSteps.{renewed-in_window}
-use Rattle.serial_decode.proofs.Stopping.{before-none, before-more}
-use Rattle.serial_decode.proofs.StripParts.{position-inside}
+use Rattle.half_iteration.specs.Views.{AreWhole}
+use Rattle.half_iteration.proofs.HalfSteps.{renewed-in_window}
+use Rattle.half_iteration.proofs.Stopping.{before-none, before-more}
+use Rattle.half_iteration.proofs.WindowParts.{position-inside}
 
 pub new_cells-long : (w : Window) → length (new_cells w) ≡ width w
 unfolding new_cells

@@ -3,7 +3,7 @@ use Rattle.std.proofs.Common.{◌≡◌, ℕ, zero, suc, ◌+◌, List, [], ◌�
 use mathlib.Core.Option.{some}
 use lib.ListN.{get_elem?}
 use Rattle.std.proofs.lemmas.List.{append_assoc, map-append, reverse-append}
-use Rattle.serial_decode.proofs.Orders.{not-equal}
+use Rattle.half_iteration.proofs.Orders.{not-equal}
 use Rattle.window_workers.proofs.Somes.{some-same}
 use Rattle.model_receiver.specs.Borders.{Border, known}
 use Rattle.model_receiver.specs.HalfIteration.{BordersLeft, left_by, start_by, end_by}

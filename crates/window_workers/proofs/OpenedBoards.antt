@@ -6,7 +6,7 @@ use Rattle.lte_bits.specs.declared.block.SoftStreams.{SoftStreams}
 use Rattle.model_receiver.specs.Borders.{Border}
 use Rattle.model_receiver.specs.Windows.{Extrinsic, zero_cell}
 use Rattle.model_receiver.specs.HalfIteration.{Shape, Before, BordersLeft}
-use Rattle.serial_decode.proofs.Stopping.{before-none}
+use Rattle.half_iteration.proofs.Stopping.{before-none}
 use Rattle.cell_shares.specs.declared.cells.Cells.{Cells}
 use Rattle.cell_shares.specs.declared.order.Order.{Order}
 use Rattle.cell_shares.specs.declared.share.Share.{Share}

@@ -6,8 +6,8 @@ use Rattle.model_sender.specs.Interleaver.{place}
 use Rattle.model_receiver.specs.Borders.{Border, at}
 use Rattle.model_receiver.specs.Windows.{Extrinsic, window_between}
 use Rattle.model_receiver.specs.HalfIteration.{window_width, positions, systematic_at, parity_at, window}
-use Rattle.serial_decode.specs.Views.{AreWhole}
-use Rattle.serial_decode.proofs.Wholes.{are-whole}
+use Rattle.half_iteration.specs.Views.{AreWhole}
+use Rattle.half_iteration.proofs.Wholes.{are-whole}
 use Rattle.cell_shares.specs.Deal.{share_places}
 use Rattle.cell_shares.specs.Shares.{share_values, share_number, share_order}
 use Rattle.window_workers.specs.declared.job.DecodingJob.{DecodingJob}

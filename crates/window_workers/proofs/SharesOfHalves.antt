@@ -4,8 +4,8 @@ use Rattle.std.specs.List.{range_with_len}
 use Rattle.model_receiver.specs.Windows.{Extrinsic, zero_cell}
 use Rattle.model_receiver.specs.HalfIteration.{Shape, Before, window_width, order, cells_in}
 use Rattle.model_receiver.proofs.PlacesOfPositions.{order-apart}
-use Rattle.serial_decode.specs.Views.{AreWhole}
-use Rattle.serial_decode.proofs.StripParts.{position-inside}
+use Rattle.half_iteration.specs.Views.{AreWhole}
+use Rattle.half_iteration.proofs.WindowParts.{position-inside}
 use Rattle.cell_shares.specs.declared.order.Order.{Order}
 use Rattle.cell_shares.specs.Orders.{place_in}
 use Rattle.cell_shares.specs.Deal.{share_places, values_at}

@@ -8,7 +8,7 @@ use Rattle.model_receiver.specs.declared.result.CheckKind.{CheckKind}
 use Rattle.model_receiver.specs.Windows.{Extrinsic}
 use Rattle.model_receiver.specs.Decoding.{before, decided_bits, decided_in, generator}
 use Rattle.model_receiver.proofs.DecodedOnce.{decoded-is, decoded_once}
-use Rattle.serial_decode.proofs.Stopping.{result_with}
+use Rattle.half_iteration.proofs.Stopping.{result_with}
 use Rattle.window_workers.specs.declared.job.DecodingJob.{DecodingJob}
 use Rattle.window_workers.specs.declared.common.Progress.{Progress}
 use Rattle.window_workers.specs.Jobs.{IsJob, before_half}

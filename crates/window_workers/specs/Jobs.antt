@@ -2,7 +2,7 @@
 use Rattle.std.specs.Prelude.{◌≡◌, ℕ}
 use Rattle.model_receiver.specs.HalfIteration.{IsShape, Before}
 use Rattle.model_receiver.specs.Decoding.{before}
-use Rattle.serial_decode.specs.Views.{AreStreams}
+use Rattle.half_iteration.specs.Views.{AreStreams}
 use Rattle.window_workers.specs.declared.job.DecodingJob.{DecodingJob}
 
 -- what half h starts from

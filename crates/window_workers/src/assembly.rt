@@ -7,7 +7,7 @@ ghost use Rattle.window_workers.specs.HalfEnds.{AreBordered};
 use crate::common::Rooms;
 use crate::piece::{Tools, WindowPiece};
 use cell_shares::Share;
-use serial_decode::left::{BordersLeft, end_of};
+use half_iteration::{BordersLeft, end_of};
 use window_decode::{Border, Ext};
 
 /// Returns the shares of pieces, in order, and their tools, from last to first.

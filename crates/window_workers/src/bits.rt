@@ -4,8 +4,8 @@ ghost use Rattle.model_receiver.specs.Decoding.{decided_bits};
 ghost use Rattle.cell_shares.specs.Shares.{cell_values};
 
 use cell_shares::Cells;
+use half_iteration::decided;
 use lte_bits::Bit;
-use serial_decode::bits::decided;
 use window_decode::Ext;
 
 /// Writes the decided bits of the cells of all places, with the first `fill` of them 0.

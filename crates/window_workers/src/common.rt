@@ -3,9 +3,9 @@ ghost use Rattle.std.specs.Prelude.{◌≡◌, ◌%◌, ◌==◌, if◌then◌el
 
 use crate::piece::Tools;
 use cell_shares::Share;
+use half_iteration::BordersLeft;
 use lte_bits::Bit;
 use qpp_table::interleaver::Qpp;
-use serial_decode::left::BordersLeft;
 use window_decode::{Border, CodeResult, Ext, Shape};
 
 /// A decoding in a half: the tail borders, the borders that each window left in the half before, and the

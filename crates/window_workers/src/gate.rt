@@ -6,7 +6,7 @@ pub trait Gate {
     fn enter(&self, half: u32, window: u32);
 }
 
-/// A gate that is always open.
+/// A no-op gate.
 #[derive(Clone, Copy, Debug)]
 pub struct NoGate;
 

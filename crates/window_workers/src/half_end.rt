@@ -14,9 +14,8 @@ use crate::common::{Progress, Rooms, Stage, WindowCommon};
 use crate::order::order_of;
 use crate::piece::{Tools, WindowPiece};
 use cell_shares::{Cells, join};
+use half_iteration::{holds, result_in};
 use phase_board::{Board, Idle, Turning};
-use serial_decode::bits::holds;
-use serial_decode::block::result_in;
 use std::snapshot::Snapshot;
 use window_decode::{CodeResult, Ext};
 

@@ -10,7 +10,7 @@ ghost use Rattle.window_workers.specs.Pieces.{job_of_piece};
 
 use crate::assembly::take_apart;
 use crate::common::{Stage, WindowCommon};
-use crate::making::first_pieces;
+use crate::opening_pieces::first_pieces;
 use crate::piece::WindowPiece;
 use cell_shares::join;
 use lte_bits::{NoMemory, SoftStreams};

@@ -5,9 +5,9 @@ use crate::common::WindowCommon;
 use crate::job::DecodingJob;
 use crate::view::WindowView;
 use cell_shares::Share;
+use half_iteration::BordersLeft;
 use lte_bits::SoftStreams;
 use phase_board::Piece;
-use serial_decode::left::BordersLeft;
 use std::snapshot::Snapshot;
 use window_decode::{Border, Ext, Shape, Work};
 

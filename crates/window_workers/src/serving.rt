@@ -57,7 +57,7 @@ pub fn serve<R: Wait, G: Gate>(
         match board.claim(seat) {
             Claim::Taken(working) => seat = work(board, working, gate),
             Claim::NotYet(idle, _) => {
-                // The one that is waited for may be without a processor.
+                // The one that is waited for may be descheduled.
                 thread::yield_now();
                 seat = idle;
             }

@@ -2,9 +2,8 @@
 ghost use Rattle.std.specs.Prelude.{◌≡◌, ◌%◌, ◌==◌, ◌<◌, if◌then◌else◌, IfOk, map};
 ghost use Rattle.model_receiver.specs.HalfIteration.{order, parity_at, positions, systematic_at};
 
+use half_iteration::{Views, part};
 use lte_bits::{NoMemory, Soft};
-use serial_decode::lists::part;
-use serial_decode::views::Views;
 use std::alloc::Global;
 
 /// The systematic value, the parity value and the place of each position of a window.

@@ -3,14 +3,14 @@ ghost use Rattle.std.specs.Prelude.{◌≡◌, ◌<◌, ◌≤◌, length};
 ghost use Rattle.cell_shares.specs.Deal.{share_places};
 ghost use Rattle.cell_shares.specs.Shares.{share_values, share_label, share_number, share_order};
 ghost use Rattle.model_receiver.specs.Windows.{window_between, new_cells};
-ghost use Rattle.serial_decode.specs.Runs.{left_of};
+ghost use Rattle.half_iteration.specs.Runs.{left_of};
 ghost use Rattle.window_workers.specs.Pieces.{job_of_piece, IsReady, IsDone};
 
 use crate::piece::WindowPiece;
 use crate::strip::ShareStrip;
 use crate::view::{WindowView, of_half};
 use cell_shares::Share;
-use serial_decode::left::BordersLeft;
+use half_iteration::BordersLeft;
 use window_decode::{Border, Ext, Work, run_window};
 
 /// Runs a window over a share between two borders: gives the share with the new cells, and the borders

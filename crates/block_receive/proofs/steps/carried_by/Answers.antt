@@ -1,12 +1,12 @@
-use Rattle.std.proofs.Common.{◌≡◌, ◌∙◌, Bool, true, false, List, sym, ap}
+use Rattle.std.proofs.Common.{◌≡◌, ◌∙◌, Bool, List, sym, ap}
 use Rattle.std.specs.Prelude.{◌&&◌}
 use Rattle.model_sender.specs.Segmentation.{Plan}
 use Rattle.model_receiver.specs.declared.result.CheckKind.TheVariants.{A}
 use Rattle.model_receiver.specs.declared.result.CodeResult.{CodeResult}
 use Rattle.model_receiver.specs.Decoding.{check_holds}
 use Rattle.model_receiver.specs.TransportBlocks.{all_passed, delivers, whole_of}
-use Rattle.serial_decode.proofs.Stopping.{check-is}
-use Rattle.block_receive.proofs.TriedResults.{delivers-is}
+use Rattle.half_iteration.proofs.Stopping.{check-is}
+use Rattle.block_receive.proofs.Deliveries.{delivers-is}
 use Rattle.block_receive.proofs.steps.carried_by.Goals as goal
 use Rattle.block_receive.proofs.steps.carried_by.Goals.{then-passed, else-passed}
 

@@ -7,13 +7,12 @@ use Rattle.model_receiver.specs.HalfIteration.{Shape}
 use Rattle.model_receiver.specs.TransportBlocks.{block_shape}
 use Rattle.soft_buffers.specs.Buffers.{cells_of_block, streams_of_cells}
 use Rattle.block_receive.specs.declared.task.Task.{Task}
-use Rattle.block_receive.specs.Effort.{effort_in}
 use Rattle.block_receive.proofs.StreamLengths.{AreStreamsOf, streams-long}
 use Rattle.block_receive.proofs.tries.decode_at.Goals as goal
 
 -- the streams of block r are those of its shape
 fitting : (task : Task) (r : ℕ) (p : Plan) (cells : List ℤ) (soft : SoftStreams) (shape : Shape) → IsPlan task.plan → r < task.plan.c → p ≡ task.plan
-    → soft ≡ streams_of_cells (size p r) (fill p r) cells → shape ≡ block_shape task.plan (effort_in task) r → AreStreamsOf shape.k shape.f soft
+    → soft ≡ streams_of_cells (size p r) (fill p r) cells → shape ≡ block_shape task.plan task.limits r → AreStreamsOf shape.k shape.f soft
 fitting task r p cells soft shape is below same soft_is shape_is =
     subst (λ (s : Shape). AreStreamsOf s.k s.f soft) (sym shape_is)
     (subst (λ (s : SoftStreams). AreStreamsOf (size task.plan r) (fill task.plan r) s)

@@ -7,9 +7,9 @@ use Rattle.model_sender.specs.Segmentation.{Plan}
 use Rattle.segmentation.specs.Plans.{IsPlan}
 use Rattle.model_receiver.specs.declared.result.CodeResult.{CodeResult}
 use Rattle.model_receiver.specs.SoftCells.{Reception}
-use Rattle.model_receiver.specs.TransportBlocks.{Effort, Held, block_result, tried_block}
+use Rattle.model_receiver.specs.Limits.{DecoderLimits}
+use Rattle.model_receiver.specs.TransportBlocks.{Held, block_result, tried_block}
 use Rattle.soft_buffers.specs.Buffers.{Hold}
-use Rattle.block_receive.specs.Effort.{effort_in}
 use Rattle.block_receive.specs.Tries.{result_from, tried_block_from, tried_from}
 use Rattle.block_receive.proofs.TriedBlocks.{drawn, drawn-next}
 use Rattle.block_receive.proofs.tries.try_blocks.Goals as goal
@@ -18,7 +18,7 @@ use Rattle.block_receive.proofs.tries.try_blocks.Goals.{in-Some, in-None+in_ok-r
 pub loop-r-preserved : goal.loop-r-preserved
 loop-r-preserved g c =
     let p : Plan = c.args.task.now.plan in
-    let e : Effort = effort_in c.args.task.now in
+    let e : DecoderLimits = c.args.task.now.limits in
     let held : Held = c.args.held.items in
     let r : ℕ = c.loop-r.r in
     let left : Held = into_iter_items c.loop-r.held in
@@ -53,14 +53,14 @@ pub returns-clause-results : goal.returns-clause-results
 returns-clause-results g c xs hold =
     let p : Plan = c.args.task.now.plan in
     let all : c.loop-r.r ≡ p.c = omega (arith, c.loop-r-test.false, c.loop-r.auto.r-end, ap (λ (q : Plan). q.c) c.plan.view_is) in
-    c.loop-r.invariant.tried xs hold ∙ ap (λ (n : ℕ). map (tried_block p (effort_in c.args.task.now) xs c.args.held.items) (range_with_len 0 n)) all
+    c.loop-r.invariant.tried xs hold ∙ ap (λ (n : ℕ). map (tried_block p c.args.task.now.limits xs c.args.held.items) (range_with_len 0 n)) all
 
 pub returns-clause-from : goal.returns-clause-from
 unfolding tried_from
 returns-clause-from g c =
     let p : Plan = c.args.task.now.plan in
     let all : c.loop-r.r ≡ p.c = omega (arith, c.loop-r-test.false, c.loop-r.auto.r-end, ap (λ (q : Plan). q.c) c.plan.view_is) in
-    c.loop-r.invariant.from ∙ ap (λ (n : ℕ). map (tried_block_from p (effort_in c.args.task.now) c.args.buffers.now.cells c.args.held.items) (range_with_len 0 n)) all
+    c.loop-r.invariant.from ∙ ap (λ (n : ℕ). map (tried_block_from p c.args.task.now.limits c.args.buffers.now.cells c.args.held.items) (range_with_len 0 n)) all
 
 pub returns-clause-lawful : goal.returns-clause-lawful
 returns-clause-lawful g c = subst IsPlan c.plan.view_is c.plan.invariant

@@ -1,8 +1,6 @@
 use Rattle.std.proofs.Common.{ℕ, List, length, ap, sym, subst, ◌∙◌, arith}
 use Rattle.model_receiver.specs.declared.result.TbOutcome.{TbOutcome}
-use Rattle.soft_channel.proofs.Lengths.{length_trial_payload}
-use Rattle.command_trial.specs.Shown.{trial_of}
-use Rattle.command_trial.specs.Trials.{added, counted, counts_of, none_counted, payload, AreFew}
+use Rattle.command_trial.specs.Trials.{trial_of, added, counted, counts_of, none_counted, payload, AreFew}
 use Rattle.command_trial.specs.declared.counts.Counts.{Counts}
 use Rattle.command_trial.proofs.Sums.{counted-more, counted-none}
 use Rattle.command_trial.proofs.whole_trial.counted.Goals as goal
@@ -18,13 +16,13 @@ loop-block-init c = record {
 
 pub outcome-requires-clause-long : goal.outcome-requires-clause-long
 outcome-requires-clause-long c =
-    let t = c.args.trial.now in ap length (c.as_slice.ensures ∙ c.in_ok-sent.ensures) ∙ length_trial_payload t.seed c.loop-block.block t.tb
+    ap length c.as_slice.ensures ∙ c.in_ok-sent.ensures.long
 
 pub loop-block-preserved : goal.loop-block-preserved
 loop-block-preserved c =
     let t = trial_of c.args.trial.now in
     let b = c.loop-block.block in
-    let sent = c.as_slice-in-loop-block.ensures ∙ c.in_ok-sent.ensures in
+    let sent = c.as_slice-in-loop-block.ensures ∙ c.in_ok-sent.ensures.value in
     record {
       value = c.with-sums.ensures.value
           ∙ ap (λ (s : Counts). added s (counts_of c.as_slice-in-loop-block.result.now c.in_ok-outcome.outcome)) c.loop-block.invariant.value

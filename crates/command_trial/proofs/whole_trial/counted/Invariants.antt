@@ -1,6 +1,5 @@
 use Rattle.std.proofs.Common.{◌≡◌}
-use Rattle.command_trial.specs.Shown.{trial_of}
-use Rattle.command_trial.specs.Trials.{counted, AreFew}
+use Rattle.command_trial.specs.Trials.{trial_of, counted, AreFew}
 use Rattle.command_trial.proofs.whole_trial.counted.Given as goal
 
 abbrev pub invariant-loop-block : goal.invariant-loop-block

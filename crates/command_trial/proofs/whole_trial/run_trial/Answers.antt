@@ -5,8 +5,7 @@ use Rattle.edge_io.proofs.Known.{adds_no_bytes, takes_no_bytes}
 use Rattle.run_loop.specs.Edges.{HasMoved, told}
 use Rattle.run_loop.specs.Reply.{Ends}
 use Rattle.run_loop.specs.Step.{done, ending_of}
-use Rattle.command_trial.specs.Shown.{trial_of}
-use Rattle.command_trial.specs.Trials.{counted, trial_line, trial_reply, IsTold, Trial}
+use Rattle.command_trial.specs.Trials.{trial_of, counted, trial_line, trial_reply, IsTold, Trial}
 use Rattle.command_trial.proofs.whole_trial.run_trial.Goals as goal
 
 -- the line was written

@@ -1,4 +1,4 @@
-use Rattle.std.proofs.Common.{ℕ, ◌≤◌, nat_le, List, [], ◌∷◌, rules, sym, ◌∙◌}
+use Rattle.std.proofs.Common.{ℕ, nat_le, List, [], ◌∷◌, rules, sym, ◌∙◌}
 use Rattle.rate_match.specs.Fitting.{fits_in}
 use Rattle.model_sender.specs.Segmentation.{plan_of}
 use Rattle.gomzelat_c.specs.State.{bit_count}
@@ -6,7 +6,7 @@ use Rattle.gomzelat_c.specs.Tests.{Test, cells_test, is_from, test}
 use Rattle.gomzelat_c.specs.Transmissions.{limit_in}
 use Rattle.gomzelat_c.specs.declared.refusal.Refusal.TheVariants.{BadLength, BadBuffer, BadWindows, BadLimit, ShortOutput, ShortBlocks, ShortBits}
 use Rattle.gomzelat_c.proofs.Errors.{handed_on}
-use Rattle.gomzelat_c.proofs.FirstFailed.{fourth, is_from_true}
+use Rattle.gomzelat_c.proofs.FirstFailed.{fourth}
 use Rattle.gomzelat_c.proofs.decoding.accepted.Goals as goal
 
 pub returns-in_err-accept-3-clause-refused : goal.returns-in_err-accept-3-clause-refused

@@ -1,4 +1,4 @@
-use Rattle.std.proofs.Common.{ℕ, List, length, ap, ◌∙◌, arith}
+use Rattle.std.proofs.Common.{List, length, ap, ◌∙◌, arith}
 use Rattle.std.proofs.lemmas.List.{length-map}
 use Rattle.model_sender.specs.Segmentation.{Plan}
 use Rattle.model_receiver.specs.declared.result.CodeResult.{CodeResult}

@@ -1,4 +1,4 @@
-use Rattle.std.proofs.Common.{◌≡◌, ℕ, List, ◌++◌, None, sum_by, sym, subst, ap, ◌∙◌}
+use Rattle.std.proofs.Common.{◌≡◌, ℕ, List, None, sum_by, sym, subst, ap, ◌∙◌}
 use Rattle.std.specs.declared.option.Option.{Option}
 use Rattle.model_sender.specs.CircularBuffer.{FitsIn}
 use Rattle.rate_match.specs.Matching.{limit_of}
@@ -33,16 +33,16 @@ after_series bytes planned bits ts sends limit r values room same count sent non
     ∙ ap (λ (n : ℕ). first_failed (test_receiver bytes n r values room)) sum
     ∙ sym (none_failed (series_tests bytes ts) (test_receiver bytes all r values room) (sym none))
 
-pub returns-in_err-effort-clause-refused : goal.returns-in_err-effort-clause-refused
-returns-in_err-effort-clause-refused c =
-    handed_on c.from_residual-in_err-effort.result c.in_err-effort.field-0.0 c.from_residual-in_err-effort.ensures.1
-    ∙ c.in_err-effort.ensures.refused
+pub returns-in_err-limits-clause-refused : goal.returns-in_err-limits-clause-refused
+returns-in_err-limits-clause-refused c =
+    handed_on c.from_residual-in_err-limits.result c.in_err-limits.field-0.0 c.from_residual-in_err-limits.ensures.1
+    ∙ c.in_err-limits.ensures.refused
     ∙ after_series c.args.bytes c.in_ok-series.series.plan.bytes c.bit_count.result c.args.transmissions.now c.in_ok-series.series.sends (limit_of c.buffer_of.result)
     c.args.receiver.now c.args.values c.args.room c.in_ok-series.ensures.bytes c.bit_count.ensures c.in_ok-series.ensures.sends c.in_ok-series.ensures.refused
 
 pub returns-clause-refused : goal.returns-clause-refused
 returns-clause-refused c =
-    c.in_ok-effort.ensures.refused
+    c.in_ok-limits.ensures.refused
     ∙ after_series c.args.bytes c.in_ok-series.series.plan.bytes c.bit_count.result c.args.transmissions.now c.in_ok-series.series.sends (limit_of c.buffer_of.result)
     c.args.receiver.now c.args.values c.args.room c.in_ok-series.ensures.bytes c.bit_count.ensures c.in_ok-series.ensures.sends c.in_ok-series.ensures.refused
 
@@ -54,4 +54,4 @@ returns-clause-fits c =
     let same : (common series.sends).limit ≡ limit_in c.args.receiver.now.n_ir =
     ap (λ ss. (common ss).limit) c.in_ok-series.ensures.sends ∙ common_limit (limit_of c.buffer_of.result) ts c.in_ok-series.ensures.count ∙ c.buffer_of.ensures
     in
-    subst P (sym same) c.in_ok-effort.ensures.fits
+    subst P (sym same) c.in_ok-limits.ensures.fits

@@ -1,4 +1,4 @@
-use Rattle.std.proofs.Common.{◌≡◌, ℕ, List, ◌++◌, None, [], ◌∷◌, nat_le, sym, ap, ◌∙◌}
+use Rattle.std.proofs.Common.{◌≡◌, ℕ, List, None, [], ◌∷◌, nat_le, sym, ap, ◌∙◌}
 use Rattle.model_sender.specs.CircularBuffer.{piece_length}
 use Rattle.model_sender.specs.Segmentation.{Plan, plan_of}
 use Rattle.rate_match.specs.declared.sends.Sending.{Sending}

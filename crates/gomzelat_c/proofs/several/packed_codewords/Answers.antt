@@ -1,14 +1,14 @@
-use Rattle.std.proofs.Common.{◌≡◌, ℕ, ◌+◌, ◌≤◌, List, ◌++◌, flat_map, length, sum_by, take, subst, sym, ap, ◌∙◌, arith}
+use Rattle.std.proofs.Common.{◌≡◌, ℕ, List, ◌++◌, flat_map, length, take, subst, sym, ap, ◌∙◌, arith}
 use Rattle.std.specs.declared.option.Option.{Option}
-use Rattle.std.proofs.lemmas.List.{length-append, take_all}
+use Rattle.std.proofs.lemmas.List.{length-append}
 use Rattle.lte_bits.specs.Packing.{packed}
 use Rattle.model_sender.specs.CircularBuffer.{FitsIn}
 use Rattle.model_sender.specs.Codeword.{codeword}
-use Rattle.model_sender.specs.Segmentation.{Plan, plan_of}
+use Rattle.model_sender.specs.Segmentation.{plan_of}
 use Rattle.rate_match.specs.Sendings.{common}
 use Rattle.rate_match.specs.declared.sends.Sending.{Sending}
 use Rattle.rate_match.proofs.EachSending.{version_at}
-use Rattle.block_receive.proofs.Taken.{all-at}
+use Rattle.block_receive.proofs.UnderWay.{all-at}
 use Rattle.gomzelat_c.specs.Tests.{byte_count}
 use Rattle.gomzelat_c.proofs.OneByOne.{flat_more, sum_more}
 use Rattle.gomzelat_c.proofs.PackedLength.{length_packed}

@@ -1,4 +1,4 @@
-use Rattle.std.proofs.Common.{◌≡◌, ℕ, List, flat_map, length, map, ap, ◌∙◌, arith}
+use Rattle.std.proofs.Common.{ℕ, List, flat_map, length, ap, ◌∙◌, arith}
 use Rattle.std.proofs.lemmas.List.Folds.{flat_map-map}
 use Rattle.lte_bits.specs.Packing.{packed}
 use Rattle.model_sender.specs.Codeword.{codeword}

@@ -1,4 +1,4 @@
-use Rattle.std.proofs.Common.{◌≡◌, ℕ, ◌<◌, List, ap, length, map, refl, subst, sym, ◌∙◌, arith}
+use Rattle.std.proofs.Common.{◌≡◌, ℕ, List, ap, length, map, refl, subst, sym, ◌∙◌, arith}
 use Rattle.std.specs.List.{range_with_len}
 use Rattle.std.proofs.lemmas.List.{length-drop}
 use Rattle.lte_bits.proofs.Pushes.{pushed_next}
@@ -6,7 +6,7 @@ use Rattle.lte_bits.specs.Bits.{bit_of}
 use Rattle.model_sender.specs.Segmentation.{Plan, size}
 use Rattle.model_receiver.specs.declared.result.CodeResult.{CodeResult}
 use Rattle.segmentation.specs.Shape.{AreBlocksOf}
-use Rattle.soft_buffers.specs.Parts.{before, part}
+use Rattle.soft_buffers.specs.Parts.{before}
 use Rattle.soft_buffers.proofs.PartLaws.{before-within, front-is, left-more}
 use Rattle.gomzelat_c.specs.State.{kept, kept_result}
 use Rattle.gomzelat_c.proofs.KeptBlocks.{kept-shaped, result-is}

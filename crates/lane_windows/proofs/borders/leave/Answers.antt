@@ -6,5 +6,5 @@ use Rattle.lane_windows.proofs.borders.leave.Goals as goal
 
 pub returns : goal.returns
 returns c =
-    fill_by_all (λ (t : ℕ). record { forward = border_at c.args.ahead.now t; backward = border_at c.args.back.now t }) c.loop-t.left (length c.args.left.now) none_left c.loop-t.auto.left
+    fill_by_all (λ (t : ℕ). record { forward = border_at c.args.alpha_out.now t; backward = border_at c.args.beta_out.now t }) c.loop-t.left (length c.args.left.now) none_left c.loop-t.auto.left
     (λ t lt. c.loop-t.invariant t (omega (arith, c.loop-t-test.false, c.loop-t.auto.left, lt)))

@@ -4,4 +4,4 @@ use Rattle.lock_step.specs.Lanes.{border_at}
 use Rattle.lane_windows.proofs.borders.leave.Given as goal
 
 abbrev pub invariant-loop-t : goal.invariant-loop-t
-invariant-loop-t l = (u : ℕ) → u < l.t → left_by l.left u ≡ record { forward = border_at l.ahead u; backward = border_at l.back u }
+invariant-loop-t l = (u : ℕ) → u < l.t → left_by l.left u ≡ record { forward = border_at l.alpha_out u; backward = border_at l.beta_out u }

@@ -6,6 +6,6 @@ use Rattle.lane_windows.proofs.borders.take_left.Given as goal
 abbrev pub invariant-loop-t : goal.invariant-loop-t
 invariant-loop-t l = record {
   begins : l.start ≡ start_by l.left l.t;
-  from : (u : ℕ) → u < l.t → border_at l.from u ≡ start_by l.left u;
-  to : (u : ℕ) → u < l.t → border_at l.to u ≡ end_by (length l.left) l.left l.tail u;
+  alpha_in : (u : ℕ) → u < l.t → border_at l.alpha_in u ≡ start_by l.left u;
+  beta_in : (u : ℕ) → u < l.t → border_at l.beta_in u ≡ end_by (length l.left) l.left l.tail u;
 }

@@ -16,16 +16,9 @@ store-requires g c =
     let b = same-lanes n 511 _ _ c.loaded-2.ensures (small-vector n 511 _ c.told-b c.requires.second) in
     (search rules, any_passed n 1149 _ _ (omega arith) (sum-lanes n 638 511 _ _ _ _ _ (omega arith) a b c.sum.ensures.vector.long c.sum.ensures.lanes))
 
-pub returns-clause-vector : goal.returns-clause-vector
-returns-clause-vector g c =
+pub returns : goal.returns
+returns g c =
     let n = g.row.N in
     let a = same-lanes n 638 _ _ c.loaded.ensures (small-vector n 638 _ c.told-a c.requires.first) in
     let b = same-lanes n 511 _ _ c.loaded-2.ensures (small-vector n 511 _ c.told-b c.requires.second) in
-    (lanes_stored n 1149 _ _ _ (omega arith) c.store.ensures (sum-lanes n 638 511 _ _ _ _ _ (omega arith) a b c.sum.ensures.vector.long c.sum.ensures.lanes)).vector
-
-pub returns-clause-lanes : goal.returns-clause-lanes
-returns-clause-lanes g c =
-    let n = g.row.N in
-    let a = same-lanes n 638 _ _ c.loaded.ensures (small-vector n 638 _ c.told-a c.requires.first) in
-    let b = same-lanes n 511 _ _ c.loaded-2.ensures (small-vector n 511 _ c.told-b c.requires.second) in
-    (lanes_stored n 1149 _ _ _ (omega arith) c.store.ensures (sum-lanes n 638 511 _ _ _ _ _ (omega arith) a b c.sum.ensures.vector.long c.sum.ensures.lanes)).is
+    lanes_stored n 1149 _ _ _ (omega arith) c.store.ensures (sum-lanes n 638 511 _ _ _ _ _ (omega arith) a b c.sum.ensures.vector.long c.sum.ensures.lanes)

@@ -30,28 +30,15 @@ larger-requires g c =
       ),
     )
 
-pub returns-clause-vector : goal.returns-clause-vector
-returns-clause-vector g c =
+pub returns : goal.returns
+returns g c =
     let n = g.row.N in
     let a = same-lanes n 6391 _ _ c.loaded.ensures c.requires.first.0 in
     let x = same-lanes n 6391 _ _ c.loaded-2.ensures c.requires.first.1 in
     let b = same-lanes n 6391 _ _ c.loaded-3.ensures c.requires.second.0 in
     let y = same-lanes n 6391 _ _ c.loaded-4.ensures c.requires.second.1 in
-    (lanes_passed n 12782 _ _ (omega arith)
+    lanes_passed n 12782 _ _ (omega arith)
     (larger-lanes n 12782 _ _ _ _ _ (omega arith)
     (sum-lanes n 6391 6391 _ _ _ _ _ (omega arith) a x c.sum.ensures.vector.long c.sum.ensures.lanes)
     (sum-lanes n 6391 6391 _ _ _ _ _ (omega arith) b y c.sum-2.ensures.vector.long c.sum-2.ensures.lanes)
-    c.larger.ensures.vector.long c.larger.ensures.lanes)).vector
-
-pub returns-clause-lanes : goal.returns-clause-lanes
-returns-clause-lanes g c =
-    let n = g.row.N in
-    let a = same-lanes n 6391 _ _ c.loaded.ensures c.requires.first.0 in
-    let x = same-lanes n 6391 _ _ c.loaded-2.ensures c.requires.first.1 in
-    let b = same-lanes n 6391 _ _ c.loaded-3.ensures c.requires.second.0 in
-    let y = same-lanes n 6391 _ _ c.loaded-4.ensures c.requires.second.1 in
-    (lanes_passed n 12782 _ _ (omega arith)
-    (larger-lanes n 12782 _ _ _ _ _ (omega arith)
-    (sum-lanes n 6391 6391 _ _ _ _ _ (omega arith) a x c.sum.ensures.vector.long c.sum.ensures.lanes)
-    (sum-lanes n 6391 6391 _ _ _ _ _ (omega arith) b y c.sum-2.ensures.vector.long c.sum-2.ensures.lanes)
-    c.larger.ensures.vector.long c.larger.ensures.lanes)).is
+    c.larger.ensures.vector.long c.larger.ensures.lanes)

@@ -1,15 +1,10 @@
 use Rattle.std.specs.Int.{int_max}
 use Rattle.window_decode.proofs.LaneSteps.{larger_stored}
-use Rattle.lock_step.proofs.Vectors.{each_stored, greater-within, known-vector, known-lane}
+use Rattle.lock_step.proofs.Vectors.{each_stored, greater-within, known-lanes}
 use Rattle.lock_step.proofs.lanes.larger.Goals as goal
 
-pub returns-clause-vector : goal.returns-clause-vector
-returns-clause-vector g c =
-    known-vector g.row.N 32767 int_max c.args.a c.args.b _ c.requires.first.long c.requires.second.long
+pub returns : goal.returns
+returns g c =
+    known-lanes g.row.N 32767 int_max c.args.a c.args.b _ c.requires.first.long c.requires.second.long
     (larger_stored c.args.a c.args.b (each_stored g.row.N c.args.a c.args.b c.requires.first c.requires.second))
     (λ t lt. greater-within 32767 _ _ (c.requires.first.bounded t) (c.requires.second.bounded t))
-
-pub returns-clause-lanes : goal.returns-clause-lanes
-returns-clause-lanes g c =
-    known-lane g.row.N int_max c.args.a c.args.b _ c.requires.first.long c.requires.second.long
-    (larger_stored c.args.a c.args.b (each_stored g.row.N c.args.a c.args.b c.requires.first c.requires.second))

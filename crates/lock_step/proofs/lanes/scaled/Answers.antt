@@ -1,7 +1,7 @@
-use Rattle.std.proofs.Common.{ap, ◌∙◌, arith, rules}
+use Rattle.std.proofs.Common.{◌∙◌, arith, rules}
 use Rattle.lte_bits.specs.Softs.{clamped}
 use Rattle.model_receiver.specs.Borders.{at}
-use Rattle.lock_step.proofs.Vectors.{vector-still, vector_passed}
+use Rattle.lock_step.proofs.Vectors.{own-lanes, lanes_of, lanes_passed, vector-still}
 use Rattle.lock_step.proofs.Quarters.{three_quarters, three_quarters-near}
 use Rattle.lock_step.proofs.lanes.scaled.Goals as goal
 
@@ -11,15 +11,9 @@ near-requires g c = (search rules, vector-still g.row.N 32767 32767 c.args.a (om
 pub three_quarters-requires : goal.three_quarters-requires
 three_quarters-requires g c = (search rules, vector-still g.row.N 682 682 c.near.result (omega arith) (omega arith) c.near.ensures.vector)
 
-pub returns-clause-vector : goal.returns-clause-vector
-returns-clause-vector g c = vector-still g.row.N 511 511 c.three_quarters.result (omega arith) (omega arith) c.three_quarters.ensures.vector
-
-pub returns-clause-lanes : goal.returns-clause-lanes
-returns-clause-lanes g c = λ t lt.
+pub returns : goal.returns
+returns g c =
     let n = g.row.N in
-    ap (λ xs. at xs t) (vector_passed n 511 c.three_quarters.result (omega arith) c.three_quarters.ensures.vector)
-    ∙ (c.three_quarters.ensures.lanes t lt
-    ∙ (ap (λ xs. three_quarters (at xs t)) (vector_passed n 682 c.near.result (omega arith) c.near.ensures.vector)
-    ∙ (ap three_quarters (c.near.ensures.lanes t lt)
-    ∙ (ap (λ xs. three_quarters (clamped 682 (at xs t))) (vector_passed n 32767 c.args.a (omega arith) c.requires)
-    ∙ three_quarters-near (at c.args.a t)))))
+    let near = lanes_of (clamped 682) n 32767 682 _ _ _ (omega arith) (own-lanes n 32767 c.args.a c.requires) c.near.ensures in
+    let whole = lanes_passed n 511 _ _ (omega arith) (lanes_of three_quarters n 682 511 _ _ _ (omega arith) near c.three_quarters.ensures) in
+    record { vector = whole.vector; lanes = λ t lt. whole.lanes t lt ∙ three_quarters-near (at c.args.a t) }

@@ -1,7 +1,7 @@
 use Rattle.std.proofs.Common.{rules}
 use Rattle.std.proofs.lemmas.Simd.{Each2-splat, Each1-all}
 use Rattle.model_receiver.specs.Borders.{at}
-use Rattle.lock_step.proofs.Vectors.{map-lane, map-vector}
+use Rattle.lock_step.proofs.Vectors.{map-lanes}
 use Rattle.lock_step.proofs.Quarters.{three_quarters, thrice-fits, quarters_stored, quarters-within}
 use Rattle.lock_step.proofs.lanes.three_quarters.Goals as goal
 
@@ -11,10 +11,7 @@ overflow_mul-result g c = thrice-fits g.row.N c.args.a c.requires.long c.require
 pub nonzero_div-result : goal.nonzero_div-result
 nonzero_div-result g c = Each2-splat _ _ _ _ (Each1-all _ (λ a. search rules) _)
 
-pub returns-clause-vector : goal.returns-clause-vector
-returns-clause-vector g c =
-    map-vector three_quarters g.row.N 511 c.args.a _ (quarters_stored g.row.N c.args.a c.requires.long c.requires.bounded) c.requires.long
+pub returns : goal.returns
+returns g c =
+    map-lanes three_quarters g.row.N 511 c.args.a _ (quarters_stored g.row.N c.args.a c.requires.long c.requires.bounded) c.requires.long
     (λ t. quarters-within (at c.args.a t) (c.requires.bounded t))
-
-pub returns-clause-lanes : goal.returns-clause-lanes
-returns-clause-lanes g c = map-lane three_quarters g.row.N c.args.a _ (quarters_stored g.row.N c.args.a c.requires.long c.requires.bounded) c.requires.long

@@ -13,7 +13,7 @@ backward-requires g c = (
   (
     search rules,
     (
-      subst (λ (m : List (List ℤ)). AreRelative g.row.N m) (sym c.keep.ensures) c.requires.after,
+      subst (λ (m : List (List ℤ)). AreRelative g.row.N m) (sym c.keep.ensures) c.requires.beta,
       (sum-small g.row.N c.args.sys.now c.args.cell.now c.add.new.out c.requires.systematic c.requires.cell c.add.ensures.lanes, c.requires.parity),
     ),
   ),
@@ -24,5 +24,5 @@ whole r e x s k p q = omega (arith, ints)
 
 pub returns-clause-cells : goal.returns-clause-cells
 returns-clause-cells g c = λ t lt.
-    same_cell _ _ _ _ (c.join.ensures.cells t lt)
-    (ap (λ z. int_lt z (pos 0)) (whole _ (better_by c.args.before.now c.args.m.now (at c.args.par.now t) t) _ _ _ (c.join.ensures.sums t lt) (c.add.ensures.lanes t lt)))
+    same_cell _ _ _ _ (c.write_extrinsic.ensures.cell.lanes t lt)
+    (ap (λ z. int_lt z (pos 0)) (whole _ (better_by c.args.alpha.now c.args.beta.now (at c.args.par.now t) t) _ _ _ (c.write_extrinsic.ensures.sum.lanes t lt) (c.add.ensures.lanes t lt)))

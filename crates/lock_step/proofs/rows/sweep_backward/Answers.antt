@@ -82,7 +82,7 @@ loop-i-preserved g c =
       shape = c.step_back.ensures.shape;
       row = λ t lt.
           backward_at _ _ j (n - (i + 1)) (i + 1) (i + 1) _ (omega (arith, place)) refl
-          (backward-row (column t c.args.m.now) (lane_gain t sys par cells) j i (column t c.loop-i.m) (column t c.step_back.new.m) (x t) (at c.index-par-j.result t)
+          (backward-row (column t c.args.m.now) (lane_gain t sys par cells) j i (column t c.loop-i.m) (column t c.step_back.new.beta) (x t) (at c.index-par-j.result t)
           (backward_at _ _ (n - i) (suc j) i i (column t c.loop-i.m) (omega (arith, place)) refl (h.row t lt))
           (lane-earns g.row.N t sys par cells j (x t) (at c.index-par-j.result t) lt c.requires.soft in_sys in_par in_cells
           (ap (λ (xs : List ℤ). at xs t +ℤ at (row_at c.loop-i.cells j) t) s ∙ ap (λ (xs : List ℤ). at (row_at sys j) t +ℤ at xs t) own)

@@ -1,4 +1,5 @@
-use Rattle.std.proofs.Common.{ℕ, ◌*◌, ◌≤◌, ap, arith}
+use Rattle.std.proofs.Common.{ℕ, ◌*◌, ◌≤◌, Contains, ap, subst, sym, arith}
+use Rattle.model_sender.specs.Interleaver.{sizes}
 use Rattle.model_sender.specs.Segmentation.{Plan, size}
 use Rattle.model_sender.specs.CircularBuffer.{rows_of, buffer_size}
 use Rattle.model_sender.proofs.SelectionLaws.{rows-bounds}
@@ -23,4 +24,10 @@ invariant_of-result c =
       height = c.rows_of.ensures.value;
       some = omega (arith, kept, (rows-bounds k).0);
       within = omega (arith, c.buffer_len-places.ensures.within, ap buffer_size c.size-k.ensures.value);
+      keeps = omega (arith, kept, ap rows_of c.size-k.ensures.value);
     }
+
+pub returns-clause-sized : goal.returns-clause-sized
+returns-clause-sized c =
+    let block = block-numbers c.args.plan.now c.args.r c.size-k.ensures.lawful c.requires.block in
+    subst (λ (k : ℕ). Contains sizes k) (sym c.size-k.ensures.value) block.inside

@@ -1,17 +1,13 @@
 use Rattle.std.specs.Prelude.{replicate}
-use Rattle.std.proofs.Common.{◌≡◌, ℕ, ◌+◌, ◌-◌, List, ◌++◌, length, map, take, drop, Contains, subst, sym, ap, ◌∙◌, arith}
+use Rattle.std.proofs.Common.{◌≡◌, ℕ, ◌+◌, ◌-◌, List, ◌++◌, length, map, take, drop, sym, ap, ◌∙◌}
 use Rattle.lte_bits.specs.declared.bit.Bit.{Bit}
 use Rattle.lte_bits.specs.declared.bit.Bit.TheVariants.{Zero}
 use Rattle.lte_bits.specs.declared.block.Streams.{Streams}
-use Rattle.model_sender.specs.Interleaver.{sizes}
 use Rattle.model_sender.specs.Segmentation.{Plan, size, fill}
 use Rattle.model_sender.specs.CircularBuffer.{start, w}
 use Rattle.model_sender.specs.Selection.{bit_of_cell, bits_from, holds_bit, repeated, sent}
-use Rattle.model_sender.proofs.SelectionLaws.{fitting_bit}
 use Rattle.rate_match.proofs.Lengths.{sent-long}
 use Rattle.rate_match.proofs.Parts.{rest_written, longer-kept, rest-long}
-use Rattle.rate_match.proofs.BlockNumbers.{block-numbers}
-use Rattle.rate_match.proofs.Matchings.{match-bounds, piece-most}
 use Rattle.rate_match.proofs.selecting.push_piece.Goals as goal
 
 -- e bits of the streams, from place k0 of the first n on
@@ -21,36 +17,8 @@ chosen s k fill k0 n e = map (λ p. bit_of_cell (w k fill s p)) (repeated (bits_
 same_chosen : (s : Streams) {k l f g a b n m d e : ℕ} → k ≡ l → f ≡ g → a ≡ b → n ≡ m → d ≡ e → chosen s k f a n d ≡ chosen s l g b m e
 same_chosen s size fill start places count i = chosen s (size i) (fill i) (start i) (places i) (count i)
 
-same_kept : {k l f g n m : ℕ} (a : ℕ) → k ≡ l → f ≡ g → n ≡ m → length (bits_from (holds_bit k f) a n) ≡ length (bits_from (holds_bit l g) a m)
-same_kept a size fill places i = length (bits_from (holds_bit (size i) (fill i)) a (places i))
-
 same_start : {k l n m : ℕ} (rv : ℕ) → k ≡ l → n ≡ m → start k n rv ≡ start l m rv
 same_start rv size places i = start (size i) (places i) rv
-
-pub start-requires-clause-size : goal.start-requires-clause-size
-start-requires-clause-size c =
-    let plan : Plan = c.args.plan.now in
-    let block = block-numbers plan c.args.r c.ring_of-ring.ensures.lawful c.requires.block in
-    subst (λ (k : ℕ). Contains sizes k) (sym c.ring_of-ring.ensures.size) block.inside
-
-pub write_bits-requires-clause-few : goal.write_bits-requires-clause-few
-write_bits-requires-clause-few c =
-    let plan : Plan = c.args.plan.now in
-    let m = c.args.m.now in
-    let block = block-numbers plan c.args.r c.ring_of-ring.ensures.lawful c.requires.block in
-    let now = c.as_mut_slice.result.now in
-    let all : length now ≡ c.len-from.result + c.piece_len.result = ap length c.as_mut_slice.ensures.value ∙ sym c.resize.new.self.ok.0 ∙ c.in_ok-resize.ensures.len in
-    omega (arith, rest-long c.len-from.result c.piece_len.result now all, c.piece_len.ensures.value, piece-most m plan.c c.args.r block.some, (match-bounds m c.piece_len.ensures.lawful).few)
-
-pub write_bits-requires-clause-some : goal.write_bits-requires-clause-some
-write_bits-requires-clause-some c =
-    let plan : Plan = c.args.plan.now in
-    let block = block-numbers plan c.args.r c.ring_of-ring.ensures.lawful c.requires.block in
-    omega (
-      arith,
-      fitting_bit plan c.args.m.now c.args.r c.start.result (omega (arith, block.fills)) block.larger c.requires.fits,
-      same_kept c.start.result c.ring_of-ring.ensures.size c.ring_of-ring.ensures.fillers c.ring_of-ring.ensures.places,
-    )
 
 pub returns : goal.returns
 unfolding chosen

@@ -12,4 +12,5 @@ invariant_of-ring c = record {
   height = c.rows_of-rows.ensures.value;
   some = omega (arith, c.rows_of-rows.ensures.some);
   within = omega (arith, c.rows_of-rows.ensures.value);
+  keeps = omega (arith, c.rows_of-rows.ensures.value);
 }

@@ -1,133 +1,104 @@
-use Rattle.std.proofs.Common.{ℕ, ◌≡◌, ◌<◌, ◌≤◌, ◌+◌, ◌-◌, ◌*◌, ◌%◌, Bool, List, [], ◌∷◌, ◌++◌, length, map, take, drop, ap, sym, subst, ◌∙◌, is_some, arith}
+use Rattle.std.proofs.Common.{◌≡◌, ℕ, ◌+◌, ◌-◌, ◌≤◌, Bool, true, false, cond, List, ◌++◌, Some, length, map, take, ap, sym, ◌∙◌, append_assoc, arith}
+use Rattle.std.specs.Prelude.{◌==◌}
 use Rattle.std.specs.List.{range_with_len}
-use Rattle.std.proofs.lemmas.List.{length-map, length-take-le, take_all, take_more_set}
+use Rattle.std.proofs.lemmas.List.{append-nil, map-append, take_all}
 use Rattle.std.proofs.lemmas.List.FromFn.{length-map-range_with_len}
 use Rattle.lte_bits.specs.declared.bit.Bit.{Bit}
 use Rattle.lte_bits.specs.declared.block.Streams.{Streams}
-use Rattle.model_sender.specs.CircularBuffer.{cell_at, w}
-use Rattle.model_sender.specs.Selection.{bit_of_cell, bits_from, holds_bit, repeated}
-use Rattle.rate_match.specs.Cursor.{IsRun, cursor_at}
-use Rattle.rate_match.specs.declared.cursor.Cursor.{Cursor}
-use Rattle.rate_match.proofs.Lengths.{repeated-long}
-use Rattle.rate_match.proofs.Parts.{part-long, part_written}
-use Rattle.rate_match.proofs.Walked.{next_place, place_after}
-use Rattle.rate_match.proofs.Selected.{selected_done, selected_all, selecting_kept, selecting_left, selecting_run, walking_begun}
+use Rattle.model_sender.specs.CircularBuffer.{AreStreams, cell_at, spot, stream_of, w}
+use Rattle.model_sender.specs.Selection.{bit_of_cell}
+use Rattle.rate_match.specs.Runs.{IsRun, bit_down, run_places}
+use Rattle.rate_match.specs.Walk.{places_from}
+use Rattle.rate_match.specs.declared.rings.Ring.{Ring}
+use Rattle.rate_match.specs.declared.runs.Run.{Run}
+use Rattle.rate_match.proofs.ColumnRuns.{run-inside}
+use Rattle.rate_match.proofs.Parts.{map-alike, part-long, part_written}
 use Rattle.rate_match.proofs.selecting.write_bits.Goals as goal
-use Rattle.rate_match.proofs.selecting.write_bits.Goals.{then-run-gt0, else-run-gt0+in-Some, else-run-gt0+in_default}
+
+stream-long : (k fill : ℕ) (s : Streams) (number : ℕ) → AreStreams k fill s → length (stream_of s number) ≡ k + 4
+stream-long k fill s number are = picked (number == 0) (number == 1)
+  where
+    picked : (a b : Bool) → length (cond a s.d0 (cond b s.d1 s.d2)) ≡ k + 4
+    picked true b = are.d0_long
+    picked false true = are.d1_long
+    picked false false = are.d2_long
 
 -- the bit at a place of the buffer
-bit_in : Streams → ℕ → ℕ → ℕ → Bit
+bit_in : Streams → (k fill n : ℕ) → Bit
 bit_in s k fill n = bit_of_cell (w k fill s n)
 
-pub write_run-requires-clause-run : goal.write_run-requires-clause-run
-write_run-requires-clause-run c =
-    let ring = c.args.ring in
-    let step = c.loop-step in
-    let run : ℕ = c.run-run.result in
-    subst (λ (n : ℕ). IsRun ring.rows ring.k ring.fill step.cursor n) (sym (part-long step.done run step.out (omega (arith, c.run-run.ensures.most, step.invariant.within)))) c.run-run.ensures.run
+-- a run more
+goes_on : (f : ℕ → Bit) (before after new whole : List Bit) (places run rest : List ℕ) → after ≡ before ++ new → new ≡ map f run → places ≡ run ++ rest → before ++ map f places ≡ whole
+    → after ++ map f rest ≡ whole
+goes_on f before after new whole places run rest grown is next so_far =
+    ap (λ (xs : List Bit). xs ++ map f rest) (grown ∙ ap (λ (ys : List Bit). before ++ ys) is)
+    ∙ append_assoc before (map f run) (map f rest)
+    ∙ ap (λ (ys : List Bit). before ++ ys) (sym (ap (map f) next ∙ map-append f run rest))
+    ∙ so_far
 
-pub loop-step-init : goal.loop-step-init
+-- the bits of a run are those at its places
+run_bits : (s : Streams) (ring own : Ring) (run : Run) → ring ≡ own → IsRun ring.k ring.fill ring.size run
+    → map (λ i. bit_of_cell (cell_at s (Some (bit_down run.first i)))) (range_with_len 0 run.count) ≡ map (bit_in s own.k own.fill) (run_places run)
 unfolding bit_in
-loop-step-init c =
-    let ring = c.args.ring in
+run_bits s ring own run same is =
+    map-alike (λ i. bit_of_cell (cell_at s (Some (bit_down run.first i)))) (λ i. run.place + i) (bit_in s own.k own.fill) run.count
+    (λ i h. ap (λ o. bit_of_cell (cell_at s o)) (sym (is.bits i h)) ∙ ap (λ (r : Ring). bit_of_cell (cell_at s (spot r.k r.fill (run.place + i)))) same)
+
+pub write_run-requires-clause-long : goal.write_run-requires-clause-long
+write_run-requires-clause-long c =
+    part-long c.loop-done.done c.next_run-run.result.count c.loop-done.out (omega (arith, c.next_run-run.ensures.most, c.loop-done.invariant.within, c.loop-done.auto.out))
+
+pub write_run-requires-clause-bits : goal.write_run-requires-clause-bits
+write_run-requires-clause-bits c = λ i h.
+    let ring = c.loop-done.walk.ring in
+    let b = bit_down c.next_run-run.result.first i in
+    let inside = run-inside ring.k ring.fill ring.size c.next_run-run.result i c.next_run-run.ensures.run ring.within h in
+    omega (arith, inside.1, ap (λ (r : Ring). r.k) c.loop-done.invariant.kept, stream-long c.args.ring.k c.args.ring.fill c.args.streams.now b.stream c.requires.streams)
+
+pub loop-done-init : goal.loop-done-init
+unfolding bit_in
+loop-done-init c =
+    let f : ℕ → Bit = bit_in c.args.streams.now c.args.ring.k c.args.ring.fill in
     record {
       within = omega arith;
-      walking = walking_begun (bit_in c.args.streams.now ring.k ring.fill) (holds_bit ring.k ring.fill) c.args.start ring.size (length c.args.out.now) ring.rows c.at-cursor.result c.at-cursor.ensures;
+      kept = c.new-walk.ensures.ring;
+      written = ap (map f) (ap (places_from c.new-walk.result) (let e : length c.args.out.now - 0 ≡ length c.args.out.now = omega arith in e) ∙ c.new-walk.ensures.places (length c.args.out.now));
     }
 
-pub returns-then-done-out : goal.returns-then-done-out
+pub loop-done-preserved : goal.loop-done-preserved
 unfolding bit_in
-returns-then-done-out c =
+loop-done-preserved c =
+    let s = c.args.streams.now in
     let ring = c.args.ring in
-    let step = c.loop-step in
-    let walking = step.invariant.walking in
+    let walk = c.loop-done.walk in
+    let run = c.next_run-run.result in
+    let done : ℕ = c.loop-done.done in
+    let out = c.loop-done.out in
     let count : ℕ = length c.args.out.now in
-    sym (take_all step.done step.out (omega (arith, c.if-done-out.true)))
-    ∙ selected_done (bit_in c.args.streams.now ring.k ring.fill) (holds_bit ring.k ring.fill) c.args.start ring.size count [] walking.gone (count - step.done) (take step.done step.out)
-    walking.selecting ring.some (omega (arith, c.if-done-out.true, step.auto.out))
+    let f : ℕ → Bit = bit_in s ring.k ring.fill in
+    let fits : done + run.count ≤ length out = omega (arith, c.next_run-run.ensures.most, c.loop-done.invariant.within, c.loop-done.auto.out) in
+    let left : ℕ = count - (done + run.count) in
+    let new : c.write_run.new.out ≡ map f (run_places run) = c.write_run.ensures ∙ run_bits s walk.ring ring run c.loop-done.invariant.kept c.next_run-run.ensures.run in
+    let long : length c.write_run.new.out ≡ run.count = ap length c.write_run.ensures ∙ length-map-range_with_len (λ i. bit_of_cell (cell_at s (Some (bit_down run.first i)))) 0 run.count in
+    let next : places_from walk (count - done) ≡ run_places run ++ places_from c.next_run-run.new.self left =
+    ap (places_from walk) (let e : count - done ≡ run.count + left = omega (arith, fits, c.loop-done.auto.out) in e) ∙ c.next_run-run.ensures.places left in
+    record {
+      within = omega (arith, fits, c.loop-done.auto.out);
+      kept = c.next_run-run.ensures.ring ∙ c.loop-done.invariant.kept;
+      written = goes_on f (take done out) _ c.write_run.new.out _ (places_from walk (count - done)) (run_places run) (places_from c.next_run-run.new.self left)
+          (part_written done run.count _ out c.write_run.new.out fits long) new next c.loop-done.invariant.written;
+    }
+
+pub loop-done-smaller : goal.loop-done-smaller
+loop-done-smaller c = omega (arith, c.loop-done-test.true, c.loop-done.auto.out, c.next_run-run.ensures.run.some)
 
 pub returns : goal.returns
 unfolding bit_in
 returns c =
-    let ring = c.args.ring in
-    let step = c.loop-step in
-    let walking = step.invariant.walking in
-    let count : ℕ = length c.args.out.now in
-    let f : ℕ → Bit = bit_in c.args.streams.now ring.k ring.fill in
-    let v : List ℕ = bits_from (holds_bit ring.k ring.fill) c.args.start ring.size in
-    let far : count * ring.size ≤ walking.gone = omega (arith, c.loop-step-test.false, walking.far, step.auto.out) in
-    let is : take step.done step.out ≡ map f (repeated v count) =
-    selected_all f (holds_bit ring.k ring.fill) c.args.start ring.size count [] walking.gone (count - step.done) (take step.done step.out)
-    walking.selecting ring.some far c.requires.some in
-    let all : step.done ≡ count = omega (arith, ap length is, length-take-le step.done step.out step.invariant.within, length-map (repeated v count) f, repeated-long v count) in
-    sym (take_all step.done step.out (omega (arith, all, step.auto.out))) ∙ is
-
-pub loop-step-preserved : goal.loop-step-preserved
-unfolding bit_in
-loop-step-preserved c =
-    let ring = c.args.ring in
-    let s = c.args.streams.now in
-    let step = c.loop-step in
-    let walking = step.invariant.walking in
-    let count : ℕ = length c.args.out.now in
-    let n : ℕ = step.cursor.n in
-    let gone : ℕ = walking.gone in
-    let run : ℕ = c.run-run.result in
-    let f : ℕ → Bit = bit_in s ring.k ring.fill in
-    let keep : ℕ → Bool = holds_bit ring.k ring.fill in
-    let here : n ≡ (c.args.start + gone) % ring.size = ap (λ (c : Cursor). c.n) walking.at in
-    elim c.if-run-gt0.branch [
-      | then-run-gt0 w ↦
-          let some : 0 < run = w.if-run-gt0.true in
-          let end : c.if-run-gt0.cursor.n ≡ n + (run - 1) = ap (λ (c : Cursor). c.n) (w.cursor-is ∙ w.down-cursor.ensures) in
-          let fits : step.done + run ≤ length step.out = omega (arith, c.run-run.ensures.most, step.invariant.within) in
-          let part : length (take (step.done + run - step.done) (drop step.done step.out)) ≡ run = part-long step.done run step.out fits in
-          let g : ℕ → Bit = λ i. f (n + i) in
-          let new : w.write_run.new.out ≡ map g (range_with_len 0 run) = w.write_run.ensures ∙ ap (λ m. map g (range_with_len 0 m)) part in
-          let long : length w.write_run.new.out ≡ run = ap length new ∙ length-map-range_with_len g 0 run in
-          let more : take c.if-run-gt0.done c.if-run-gt0.out ≡ take step.done step.out ++ map g (range_with_len 0 run) =
-          ap (λ m. take m c.if-run-gt0.out) w.done-is ∙ ap (take (step.done + run)) w.out-is
-          ∙ part_written step.done run _ step.out w.write_run.new.out fits long ∙ ap (λ xs. take step.done step.out ++ xs) new in
-          record {
-            within = omega (arith, w.done-is, fits, c.if-run-gt0.auto.out, step.auto.out);
-            walking = record {
-              gone = gone + run;
-              far = omega (arith, walking.far, some);
-              at = c.next-cursor.ensures ∙ ap (cursor_at ring.rows) (place_after c.args.start gone ring.size n c.if-run-gt0.cursor.n run here some end);
-              selecting = selecting_run f keep c.args.start ring.size count [] gone (count - step.done) (count - c.if-run-gt0.done) (take step.done step.out)
-                  (take c.if-run-gt0.done c.if-run-gt0.out) n run
-                  walking.selecting here c.run-run.ensures.within (λ i h. ap is_some (c.run-run.ensures.run.bits i h)) more (omega (arith, w.done-is, fits, step.auto.out));
-            };
-          }
-      | else-run-gt0+in-Some w ↦
-          let there : c.if-run-gt0.cursor.n ≡ n = ap (λ (c : Cursor). c.n) w.cursor-is in
-          let fits : step.done < length step.out = omega (arith, c.if-done-out.false, step.invariant.within, step.auto.out) in
-          let more : take c.if-run-gt0.done c.if-run-gt0.out ≡ take step.done step.out ++ w.bit_at.result ∷ [] =
-          ap (λ m. take m c.if-run-gt0.out) w.done-is ∙ ap (take (step.done + 1)) w.out-is ∙ take_more_set step.out step.done w.bit_at.result fits in
-          record {
-            within = omega (arith, w.done-is, fits, c.if-run-gt0.auto.out, step.auto.out);
-            walking = record {
-              gone = gone + 1;
-              far = omega (arith, walking.far);
-              at = c.next-cursor.ensures ∙ ap (λ (m : ℕ). cursor_at ring.rows ((m + 1) % ring.size)) there ∙ ap (cursor_at ring.rows) (next_place c.args.start gone ring.size n here);
-              selecting = selecting_kept f keep c.args.start ring.size count [] gone (count - step.done) (count - c.if-run-gt0.done) (take step.done step.out)
-                  (take c.if-run-gt0.done c.if-run-gt0.out) w.bit_at.result n
-                  walking.selecting here (ap is_some (sym w.in-Some.ensures.spot))
-                  (w.bit_at.ensures ∙ ap (λ o. bit_of_cell (cell_at s o)) w.in-Some.ensures.spot) more (omega (arith, w.done-is, fits, step.auto.out));
-            };
-          }
-      | else-run-gt0+in_default w ↦
-          let there : c.if-run-gt0.cursor.n ≡ n = ap (λ (c : Cursor). c.n) w.cursor-is in
-          let same : take c.if-run-gt0.done c.if-run-gt0.out ≡ take step.done step.out = ap (λ m. take m c.if-run-gt0.out) w.done-is ∙ ap (take step.done) w.out-is in
-          record {
-            within = omega (arith, w.done-is, step.invariant.within, c.if-run-gt0.auto.out, step.auto.out);
-            walking = record {
-              gone = gone + 1;
-              far = omega (arith, walking.far);
-              at = c.next-cursor.ensures ∙ ap (λ (m : ℕ). cursor_at ring.rows ((m + 1) % ring.size)) there ∙ ap (cursor_at ring.rows) (next_place c.args.start gone ring.size n here);
-              selecting = selecting_left f keep c.args.start ring.size count [] gone (count - step.done) (count - c.if-run-gt0.done) (take step.done step.out)
-                  (take c.if-run-gt0.done c.if-run-gt0.out) n
-                  walking.selecting here (ap is_some (sym w.in_default.ensures.spot)) same (omega (arith, w.done-is));
-            };
-          }
-    ]
+    let done : ℕ = c.loop-done.done in
+    let out = c.loop-done.out in
+    let all : done ≡ length out = omega (arith, c.loop-done-test.false, c.loop-done.invariant.within, c.loop-done.auto.out) in
+    let f : ℕ → Bit = bit_in c.args.streams.now c.args.ring.k c.args.ring.fill in
+    sym (ap (λ m. take done out ++ map f (places_from c.loop-done.walk m)) (let e : length c.args.out.now - done ≡ 0 = omega (arith, all, c.loop-done.auto.out) in e)
+    ∙ append-nil (take done out) ∙ take_all done out (omega (arith, all)))
+    ∙ c.loop-done.invariant.written

@@ -2,8 +2,8 @@ use Rattle.std.proofs.Common.{◌≡◌, ℕ, ◌<◌, ◌∙◌, ap, subst, ari
 use Rattle.std.proofs.lemmas.List.{get_or_default}
 use Rattle.model_receiver.specs.Borders.{Border}
 use Rattle.model_receiver.specs.HalfIteration.{BordersLeft, none_left, end_by}
-use Rattle.serial_decode.specs.Runs.{start_of, IsPartDone}
-use Rattle.serial_decode.proofs.HalfSteps.{window-is, one_more_done, end-is, cells-all_done, left-all_done}
+use Rattle.half_iteration.specs.Runs.{start_of, IsPartDone}
+use Rattle.half_iteration.proofs.HalfSteps.{window-is, one_more_done, end-is, cells-all_done, left-all_done}
 use Rattle.serial_decode.proofs.half.decode_half.Goals as goal
 
 pub loop-t-preserved : goal.loop-t-preserved

@@ -1,5 +1,5 @@
 use Rattle.std.proofs.Common.{◌≡◌}
-use Rattle.serial_decode.specs.Runs.{start_of, IsPartDone}
+use Rattle.half_iteration.specs.Runs.{start_of, IsPartDone}
 use Rattle.serial_decode.proofs.half.decode_half.Given as goal
 
 abbrev pub invariant-loop-t : goal.invariant-loop-t

@@ -1,102 +1,84 @@
-use Rattle.std.proofs.Common.{◌≡◌, ℕ, ◌+◌, ◌-◌, ◌*◌, ◌%◌, ◌<◌, ◌≤◌, ℤ, pos, List, length, get_or, take, drop, refl, ap, sym, subst, ◌∙◌, arith}
-use Rattle.std.proofs.lemmas.List.{get_or-drop, get_or-take}
-use Rattle.model_sender.specs.declared.spot.Spot.{Spot}
-use Rattle.rate_match.specs.Cursor.{IsRun, cursor_at, spot_down}
-use Rattle.rate_match.specs.declared.cursor.Cursor.{Cursor}
+use Rattle.std.proofs.Common.{◌≡◌, ℕ, ◌+◌, ◌-◌, ◌<◌, ◌≤◌, ◌++◌, ℤ, List, length, take, drop, ap, sym, subst, ◌∙◌, arith}
+use Rattle.std.specs.List.{zip}
+use Rattle.std.proofs.lemmas.List.FromFn.{length-map-range_with_len}
+use Rattle.model_receiver.specs.SoftCells.{has_bit}
+use Rattle.rate_match.specs.Runs.{IsRun, bit_down, run_places}
+use Rattle.rate_match.specs.Walk.{places_from}
+use Rattle.rate_match.specs.declared.rings.Ring.{Ring}
+use Rattle.rate_match.specs.declared.runs.Run.{Run}
+use Rattle.rate_match.proofs.ColumnRuns.{run-inside}
 use Rattle.rate_match.proofs.Parts.{part-long}
-use Rattle.rate_match.proofs.Runs.{run-inside}
-use Rattle.rate_match.proofs.Walked.{next_place, place_after}
+use Rattle.soft_buffers.specs.Buffers.{IsBit, cell_of}
 use Rattle.soft_buffers.specs.Runs.{with_values}
-use Rattle.soft_buffers.proofs.Adding.{AreFrom, Course, IsAdding, changed, course, adding_done, adding_all, adding_left, adding_kept, adding_run, walking_begun}
+use Rattle.soft_buffers.proofs.Adding.{sums-kept, values-added}
+use Rattle.soft_buffers.proofs.Sums.{sum_of}
 use Rattle.soft_buffers.proofs.values.add_values.Goals as goal
-use Rattle.soft_buffers.proofs.values.add_values.Goals.{then-run-gt0, else-run-gt0+in-Some, else-run-gt0+in_default}
 
-pub loop-step-init : goal.loop-step-init
-loop-step-init c =
-    let ring = c.args.ring in
-    walking_begun (course ring.k ring.fill ring.size c.args.start c.args.values.now) c.args.cells.now ring.rows c.at-cursor.result c.at-cursor.ensures
+-- a run of the walk is one of the ring
+run_of : (ring own : Ring) (run : Run) → ring ≡ own → IsRun ring.k ring.fill ring.size run → IsRun own.k own.fill own.size run
+run_of ring own run same is = subst (λ (r : Ring). IsRun r.k r.fill r.size run) same is
 
-pub add_run-requires-clause-run : goal.add_run-requires-clause-run
-add_run-requires-clause-run c =
+run_bit : (ring : Ring) (run : Run) (i : ℕ) → IsRun ring.k ring.fill ring.size run → i < run.count → IsBit ring.k (bit_down run.first i)
+run_bit ring run i is h = let at = run-inside ring.k ring.fill ring.size run i is ring.within h in record { stream = at.0; index = at.1 }
+
+pub add_run-requires-clause-long : goal.add_run-requires-clause-long
+add_run-requires-clause-long c =
+    part-long c.loop-taken.taken c.next_run-run.result.count c.args.values.now (omega (arith, c.next_run-run.ensures.most, c.loop-taken.invariant.within))
+
+pub add_run-requires-clause-bits : goal.add_run-requires-clause-bits
+add_run-requires-clause-bits c = λ i h.
     let ring = c.args.ring in
-    let step = c.loop-step in
+    let run = c.next_run-run.result in
+    run_bit ring run i (run_of c.loop-taken.walk.ring ring run c.loop-taken.invariant.kept c.next_run-run.ensures.run) h
+
+pub loop-taken-init : goal.loop-taken-init
+loop-taken-init c =
     let values = c.args.values.now in
-    let run : ℕ = c.run-run.result in
-    subst (λ (n : ℕ). IsRun ring.rows ring.k ring.fill step.cursor n) (sym (part-long step.taken run values
-    (omega (arith, c.run-run.ensures.most, step.invariant.adding.within)))) c.run-run.ensures.run
-
-pub returns-then-taken-values-clause-cells : goal.returns-then-taken-values-clause-cells
-returns-then-taken-values-clause-cells c =
     let ring = c.args.ring in
-    let step = c.loop-step in
-    adding_done (course ring.k ring.fill ring.size c.args.start c.args.values.now) c.args.cells.now step.invariant.gone step.taken step.cells
-    step.invariant.adding ring.some c.if-taken-values.true
+    record {
+      within = omega arith;
+      kept = c.new-walk.ensures.ring;
+      sums = λ s inside. ap (λ places. sum_of (has_bit ring.k ring.fill s) (zip places values) (cell_of ring.k c.args.cells.now s))
+          (ap (places_from c.new-walk.result) (let e : length values - 0 ≡ length values = omega arith in e) ∙ c.new-walk.ensures.places (length values));
+    }
+
+pub loop-taken-preserved : goal.loop-taken-preserved
+loop-taken-preserved c =
+    let ring = c.args.ring in
+    let values = c.args.values.now in
+    let walk = c.loop-taken.walk in
+    let run = c.next_run-run.result in
+    let taken : ℕ = c.loop-taken.taken in
+    let cells = c.loop-taken.cells in
+    let fits : taken + run.count ≤ length values = omega (arith, c.next_run-run.ensures.most, c.loop-taken.invariant.within) in
+    let left : ℕ = length values - (taken + run.count) in
+    let is = run_of walk.ring ring run c.loop-taken.invariant.kept c.next_run-run.ensures.run in
+    let part : List ℤ = take run.count (drop taken values) in
+    let same : take (taken + run.count - taken) (drop taken values) ≡ part = ap (λ n. take n (drop taken values)) (let e : taken + run.count - taken ≡ run.count = omega arith in e) in
+    let long : length part ≡ run.count = ap length (sym same) ∙ part-long taken run.count values fits in
+    let new : c.add_run.new.cells ≡ with_values ring.k (bit_down run.first) part run.count cells =
+    c.add_run.ensures ∙ ap (λ vs. with_values ring.k (bit_down run.first) vs (length vs) cells) same ∙ ap (λ n. with_values ring.k (bit_down run.first) part n cells) long in
+    let next : places_from walk (length values - taken) ≡ run_places run ++ places_from c.next_run-run.new.self left =
+    ap (places_from walk) (let e : length values - taken ≡ run.count + left = omega (arith, fits) in e) ∙ c.next_run-run.ensures.places left in
+    record {
+      within = fits;
+      kept = c.next_run-run.ensures.ring ∙ c.loop-taken.invariant.kept;
+      sums = λ s inside.
+          sums-kept (has_bit ring.k ring.fill s) (places_from walk (length values - taken)) (run_places run) (places_from c.next_run-run.new.self left) values taken run.count (taken + run.count)
+          (cell_of ring.k cells s) (cell_of ring.k c.add_run.new.cells s) fits (length-map-range_with_len (λ i. run.place + i) 0 run.count) (let e : taken + run.count ≡ taken + run.count = omega arith in e) next
+          (ap (λ xs. cell_of ring.k xs s) new
+          ∙ values-added ring.k ring.fill run.place run.count (bit_down run.first) part cells s is.bits (λ i h. run_bit ring run i is h)
+          (omega (arith, c.requires.cells, c.loop-taken.auto.cells)) (omega (arith, long)) inside)
+          ∙ c.loop-taken.invariant.sums s inside;
+    }
+
+pub loop-taken-smaller : goal.loop-taken-smaller
+loop-taken-smaller c = omega (arith, c.loop-taken-test.true, c.next_run-run.ensures.run.some)
 
 pub returns-clause-cells : goal.returns-clause-cells
-returns-clause-cells c =
+returns-clause-cells c = λ s inside.
     let ring = c.args.ring in
-    let step = c.loop-step in
-    let all : length c.args.values.now * ring.size ≤ step.invariant.gone = omega (arith, c.loop-step-test.false, step.invariant.far) in
-    adding_all (course ring.k ring.fill ring.size c.args.start c.args.values.now) c.args.cells.now step.invariant.gone step.taken step.cells
-    step.invariant.adding ring.some all c.requires.some
-
-adding_as : (w : Course) (had : List ℤ) (steps taken count : ℕ) (has more : List ℤ) → IsAdding w had steps taken has → count ≡ taken → more ≡ has → IsAdding w had steps count more
-adding_as w had steps taken count has more is same be =
-    subst (λ (n : ℕ). IsAdding w had steps n more) (sym same) (subst (λ (xs : List ℤ). IsAdding w had steps taken xs) (sym be) is)
-
--- values of a part of a list
-part-from : (values : List ℤ) (taken run : ℕ) → taken + run ≤ length values → AreFrom values taken (take (taken + run - taken) (drop taken values)) run
-part-from values taken run fits = λ i h.
-    get_or-take (taken + run - taken) (drop taken values) i (pos 0) (omega (arith, h)) ∙ get_or-drop taken values i (pos 0)
-
-pub loop-step-preserved : goal.loop-step-preserved
-loop-step-preserved c =
-    let ring = c.args.ring in
-    let step = c.loop-step in
     let values = c.args.values.now in
-    let n : ℕ = step.cursor.n in
-    let gone : ℕ = step.invariant.gone in
-    let run : ℕ = c.run-run.result in
-    let w : Course = course ring.k ring.fill ring.size c.args.start values in
-    let here : n ≡ (c.args.start + gone) % ring.size = ap (λ (c : Cursor). c.n) step.invariant.at in
-    elim c.if-run-gt0.branch [
-      | then-run-gt0 v ↦
-          let some : 0 < run = v.if-run-gt0.true in
-          let bits : ℕ → Spot = spot_down ring.rows ring.k step.cursor in
-          let fits : step.taken + run ≤ length values = omega (arith, c.run-run.ensures.most, step.invariant.adding.within) in
-          let part : List ℤ = take (step.taken + run - step.taken) (drop step.taken values) in
-          let long : length part ≡ run = part-long step.taken run values fits in
-          let end : c.if-run-gt0.cursor.n ≡ n + (run - 1) = ap (λ (c : Cursor). c.n) (v.cursor-is ∙ v.down-cursor.ensures) in
-          let is : c.if-run-gt0.cells ≡ with_values ring.k bits part run step.cells = v.cells-is ∙ v.add_run.ensures ∙ ap (λ (m : ℕ). with_values ring.k bits part m step.cells) long in
-          let all = adding_run w c.args.cells.now gone step.taken step.cells n run bits part step.invariant.adding here c.run-run.ensures.within (λ i h. c.run-run.ensures.run.bits i h)
-          (λ i h. let t = run-inside ring.k ring.fill (n + i) ring.size (bits i) (bits i) (omega (arith, h, c.run-run.ensures.within)) ring.within
-          (c.run-run.ensures.run.bits i h) refl in record { stream = t.0; index = t.1 })
-          c.requires.cells fits (part-from values step.taken run fits) in
-          record {
-            gone = gone + run;
-            far = omega (arith, step.invariant.far, some);
-            at = c.next-cursor.ensures ∙ ap (cursor_at ring.rows) (place_after c.args.start gone ring.size n c.if-run-gt0.cursor.n run here some end);
-            adding = adding_as w c.args.cells.now (gone + run) (step.taken + run) c.if-run-gt0.taken (with_values ring.k bits part run step.cells) c.if-run-gt0.cells all v.taken-is is;
-          }
-      | else-run-gt0+in-Some v ↦
-          let there : c.if-run-gt0.cursor.n ≡ n = ap (λ (c : Cursor). c.n) v.cursor-is in
-          record {
-            gone = gone + 1;
-            far = omega (arith, step.invariant.far);
-            at = c.next-cursor.ensures ∙ ap (λ (m : ℕ). cursor_at ring.rows ((m + 1) % ring.size)) there ∙ ap (cursor_at ring.rows) (next_place c.args.start gone ring.size n here);
-            adding = adding_kept w c.args.cells.now gone step.taken c.if-run-gt0.taken step.cells c.if-run-gt0.cells n v.in-Some.spot v.index-values-taken.result
-                step.invariant.adding here (sym v.in-Some.ensures.spot) (record { stream = v.in-Some.ensures.inside.0; index = v.in-Some.ensures.inside.1 })
-                c.requires.cells (omega (arith, c.if-taken-values.false, step.invariant.adding.within)) v.taken-is
-                (v.cells-is ∙ changed ring.k v.in-Some.spot step.cells v.cell_index-n.result v.index-cells-n.result v.index-values-taken.result
-                (get_or values step.taken v.index-values-taken.result) v.added.result
-                (omega (arith, v.cell_index-n.ensures.within, c.requires.cells, step.invariant.adding.long)) v.cell_index-n.ensures.value v.index-cells-n.is v.index-values-taken.is v.added.ensures);
-          }
-      | else-run-gt0+in_default v ↦
-          let there : c.if-run-gt0.cursor.n ≡ n = ap (λ (c : Cursor). c.n) v.cursor-is in
-          record {
-            gone = gone + 1;
-            far = omega (arith, step.invariant.far);
-            at = c.next-cursor.ensures ∙ ap (λ (m : ℕ). cursor_at ring.rows ((m + 1) % ring.size)) there ∙ ap (cursor_at ring.rows) (next_place c.args.start gone ring.size n here);
-            adding = adding_left w c.args.cells.now gone step.taken c.if-run-gt0.taken step.cells c.if-run-gt0.cells n step.invariant.adding here (sym v.in_default.ensures.spot) v.taken-is v.cells-is;
-          }
-    ]
+    let all : length values - c.loop-taken.taken ≡ 0 = omega (arith, c.loop-taken-test.false) in
+    sym (ap (λ n. sum_of (has_bit ring.k ring.fill s) (zip (places_from c.loop-taken.walk n) (drop c.loop-taken.taken values)) (cell_of ring.k c.loop-taken.cells s)) all)
+    ∙ c.loop-taken.invariant.sums s inside

@@ -1,4 +1,4 @@
-use Rattle.std.proofs.Common.{◌≡◌, ℕ, ◌<◌, pos, length, sym, ◌∙◌, arith}
+use Rattle.std.proofs.Common.{◌≡◌, pos, length, sym, ◌∙◌, arith}
 use Rattle.std.proofs.lemmas.List.{ext_get_or, length-map}
 use Rattle.stream_loop.specs.SoftBytes.{soft_of}
 use Rattle.stream_loop.proofs.softs.read_softs.Goals as goal

@@ -1,7 +1,7 @@
 use Rattle.std.proofs.Common.{rules, IfSome, take, sym, subst, ◌+◌, arith}
 use Rattle.atomic_table.proofs.Lists.{at_index}
 use Rattle.std.specs.List.{AllZip}
-use Rattle.tb_pipeline.specs.Slips.{AreSlotsOf}
+use Rattle.tb_pipeline.specs.Completions.{AreSlotsOf}
 use Rattle.tb_pipeline.proofs.AnswerSteps.{slot_emptied}
 use Rattle.tb_pipeline.proofs.Zips.{zip_at, zip_length, zip_more}
 use Rattle.tb_pipeline.proofs.finishing.finish.Goals as goal

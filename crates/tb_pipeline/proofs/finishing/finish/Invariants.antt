@@ -1,6 +1,6 @@
 use Rattle.std.proofs.Common.{◌≡◌, ◌≤◌, length, take, vec_capacity}
 use Rattle.std.specs.List.{AllZip}
-use Rattle.tb_pipeline.specs.Slips.{AreSlotsOf}
+use Rattle.tb_pipeline.specs.Completions.{AreSlotsOf}
 use Rattle.tb_pipeline.proofs.finishing.finish.Given as goal
 
 abbrev pub invariant-loop-number : goal.invariant-loop-number

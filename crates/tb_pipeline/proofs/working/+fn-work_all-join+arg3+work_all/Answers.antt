@@ -4,7 +4,7 @@ use denote.Exit.{unseen}
 use denote.Param.{param}
 use denote.Param.Send.{Quiet-if, shr_slice_send}
 use Rattle.tb_pipeline.specs.contracts.working.work_all.{J-row, J-Done-row}
-use Rattle.tb_pipeline.proofs.Crossing.{Hand-send, Relay-sync, Teller-send, Answers-sync}
+use Rattle.tb_pipeline.proofs.Crossing.{Hand-send, Relay-sync, ResultSender-send, Answers-sync}
 use Rattle.tb_pipeline.proofs.working.+fn-work_all-join+arg3+work_all.Goals as goal
 
 -- The first closure may go to another thread: so may each value that it captures, in their order, and leaving
@@ -14,7 +14,7 @@ join-ended-requires-send-F g t c κs within =
     let facts = c.requires.crossing in let runtime = facts.0 in let start = facts.1 in let job = facts.2 in let done = facts.3 in
     let jobs = shr_slice_send (named 0) κs.1.1.1.1.1.1.1.1.0 (param 0 g.row.J) job in
     let answers = Answers-sync (J-row g.row.J g.row.G g.row.R g.row.J-Done) (J-Done-row g.row.J g.row.G g.row.R g.row.J-Done) done g.J.Job in
-    let teller = Teller-send (J-row g.row.J g.row.G g.row.R g.row.J-Done) (J-Done-row g.row.J g.row.G g.row.R g.row.J-Done) done in
+    let sender = ResultSender-send (J-row g.row.J g.row.G g.row.R g.row.J-Done) (J-Done-row g.row.J g.row.G g.row.R g.row.J-Done) done in
     record {
       owned = λ x vs us. (
         tt,
@@ -22,7 +22,7 @@ join-ended-requires-send-F g t c κs within =
           (tt, runtime.shared _ _ _ _),
           (
             (tt, Relay-sync.shared x.1.now _ _ _),
-            (Hand-send.owned x.2 us.1.1.0, (jobs.owned x.3 [], ((tt, start.shared _ _ _ _), ((tt, answers.shared x.5.now _ _ _), (teller.owned x.6 us.1.1.1.1.1.1.0, tt))))),
+            (Hand-send.owned x.2 us.1.1.0, (jobs.owned x.3 [], ((tt, start.shared _ _ _ _), ((tt, answers.shared x.5.now _ _ _), (sender.owned x.6 us.1.1.1.1.1.1.0, tt))))),
           ),
         ),
       );

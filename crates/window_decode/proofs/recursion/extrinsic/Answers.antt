@@ -13,33 +13,33 @@ use Rattle.window_decode.proofs.LaneNumbers.{AreNumbers, passed, numbers_passed,
 use Rattle.window_decode.proofs.LaneKernel.{relative-numbers, relative-still, onward, onward-numbers, joined-numbers}
 use Rattle.window_decode.proofs.recursion.extrinsic.Goals as goal
 
-pub onward_by_zero-requires-clause-after : goal.onward_by_zero-requires-clause-after
-onward_by_zero-requires-clause-after c = relative-still c.args.after c.requires.after
+pub beta_branch_zero-requires-clause-after : goal.beta_branch_zero-requires-clause-after
+beta_branch_zero-requires-clause-after c = relative-still c.args.after c.requires.after
 
-pub onward_by_one-requires-clause-after : goal.onward_by_one-requires-clause-after
-onward_by_one-requires-clause-after c = relative-still c.args.after c.requires.after
+pub beta_branch_one-requires-clause-after : goal.beta_branch_one-requires-clause-after
+beta_branch_one-requires-clause-after c = relative-still c.args.after c.requires.after
 
 pub sum-requires-clause-first : goal.sum-requires-clause-first
 sum-requires-clause-first c = lanes_passed 6391 _ _ (omega arith) (relative-numbers c.args.before c.requires.before)
 
 pub sum-requires-clause-second : goal.sum-requires-clause-second
-sum-requires-clause-second c = lanes_passed 6518 _ _ (omega arith) (onward-numbers Zero c.args.after c.args.value c.onward_by_zero.result c.requires.after c.requires.value c.onward_by_zero.ensures)
+sum-requires-clause-second c = lanes_passed 6518 _ _ (omega arith) (onward-numbers Zero c.args.after c.args.value c.beta_branch_zero.result c.requires.after c.requires.value c.beta_branch_zero.ensures)
 
 pub sum-requires-clause-fits : goal.sum-requires-clause-fits
 sum-requires-clause-fits c =
-    sum-fits 6391 6518 _ _ c.args.before c.onward_by_zero.result (omega arith) (relative-numbers c.args.before c.requires.before)
-    (onward-numbers Zero c.args.after c.args.value c.onward_by_zero.result c.requires.after c.requires.value c.onward_by_zero.ensures)
+    sum-fits 6391 6518 _ _ c.args.before c.beta_branch_zero.result (omega arith) (relative-numbers c.args.before c.requires.before)
+    (onward-numbers Zero c.args.after c.args.value c.beta_branch_zero.result c.requires.after c.requires.value c.beta_branch_zero.ensures)
 
 pub sum-requires-2-clause-first : goal.sum-requires-2-clause-first
 sum-requires-2-clause-first c = lanes_passed 6391 _ _ (omega arith) (relative-numbers c.args.before c.requires.before)
 
 pub sum-requires-2-clause-second : goal.sum-requires-2-clause-second
-sum-requires-2-clause-second c = lanes_passed 6518 _ _ (omega arith) (onward-numbers One c.args.after c.args.value c.onward_by_one.result c.requires.after c.requires.value c.onward_by_one.ensures)
+sum-requires-2-clause-second c = lanes_passed 6518 _ _ (omega arith) (onward-numbers One c.args.after c.args.value c.beta_branch_one.result c.requires.after c.requires.value c.beta_branch_one.ensures)
 
 pub sum-requires-2-clause-fits : goal.sum-requires-2-clause-fits
 sum-requires-2-clause-fits c =
-    sum-fits 6391 6518 _ _ c.args.before c.onward_by_one.result (omega arith) (relative-numbers c.args.before c.requires.before)
-    (onward-numbers One c.args.after c.args.value c.onward_by_one.result c.requires.after c.requires.value c.onward_by_one.ensures)
+    sum-fits 6391 6518 _ _ c.args.before c.beta_branch_one.result (omega arith) (relative-numbers c.args.before c.requires.before)
+    (onward-numbers One c.args.after c.args.value c.beta_branch_one.result c.requires.after c.requires.value c.beta_branch_one.ensures)
 
 -- the greatest number through the position by a bit
 record IsThrough (before after : List ℤ) (p : ℤ) (u : Bit) (r : ℤ) : Type 0 where
@@ -57,14 +57,14 @@ by_bit u before after p o s r h g e f =
 pub greatest-zero-requires : goal.greatest-zero-requires
 greatest-zero-requires c =
     lanes_passed 12909 _ _ (omega arith)
-    (joined-numbers Zero c.args.before c.args.after c.args.value c.onward_by_zero.result c.sum.result c.requires.before
-    (onward-numbers Zero c.args.after c.args.value c.onward_by_zero.result c.requires.after c.requires.value c.onward_by_zero.ensures) c.sum.ensures)
+    (joined-numbers Zero c.args.before c.args.after c.args.value c.beta_branch_zero.result c.sum.result c.requires.before
+    (onward-numbers Zero c.args.after c.args.value c.beta_branch_zero.result c.requires.after c.requires.value c.beta_branch_zero.ensures) c.sum.ensures)
 
 pub greatest-one-requires : goal.greatest-one-requires
 greatest-one-requires c =
     lanes_passed 12909 _ _ (omega arith)
-    (joined-numbers One c.args.before c.args.after c.args.value c.onward_by_one.result c.sum-2.result c.requires.before
-    (onward-numbers One c.args.after c.args.value c.onward_by_one.result c.requires.after c.requires.value c.onward_by_one.ensures) c.sum-2.ensures)
+    (joined-numbers One c.args.before c.args.after c.args.value c.beta_branch_one.result c.sum-2.result c.requires.before
+    (onward-numbers One c.args.after c.args.value c.beta_branch_one.result c.requires.after c.requires.value c.beta_branch_one.ensures) c.sum-2.ensures)
 
 zero-through : (before after : List ℤ) (p : ℤ) (o s : List ℤ) (r : ℤ) → IsRelative before → IsRelative after → IsWithin 127 p → o ≡ border_of (onward (passed after) (to_z w16 (of_z w16 p)) Zero)
     → s ≡ border_of (λ t. number_for (passed before) t +ℤ number_for (passed o) t) → r ≡ greatest (passed s) → IsThrough before after p Zero r
@@ -84,16 +84,16 @@ difference-range a b x y e f k l = (omega (arith, ints), omega (arith, ints))
 
 pub returns-clause-value : goal.returns-clause-value
 returns-clause-value c =
-    let zero = zero-through c.args.before c.args.after c.args.value c.onward_by_zero.result c.sum.result c.greatest-zero.result
-    c.requires.before c.requires.after c.requires.value c.onward_by_zero.ensures c.sum.ensures c.greatest-zero.ensures in
-    let one = one-through c.args.before c.args.after c.args.value c.onward_by_one.result c.sum-2.result c.greatest-one.result
-    c.requires.before c.requires.after c.requires.value c.onward_by_one.ensures c.sum-2.ensures c.greatest-one.ensures in
+    let zero = zero-through c.args.before c.args.after c.args.value c.beta_branch_zero.result c.sum.result c.greatest-zero.result
+    c.requires.before c.requires.after c.requires.value c.beta_branch_zero.ensures c.sum.ensures c.greatest-zero.ensures in
+    let one = one-through c.args.before c.args.after c.args.value c.beta_branch_one.result c.sum-2.result c.greatest-one.result
+    c.requires.before c.requires.after c.requires.value c.beta_branch_one.ensures c.sum-2.ensures c.greatest-one.ensures in
     difference c.from.result c.from-2.result c.greatest-zero.result c.greatest-one.result _ _ c.from.ensures c.from-2.ensures zero.value one.value zero.range one.range
 
 pub returns-clause-range : goal.returns-clause-range
 returns-clause-range c =
-    let zero = zero-through c.args.before c.args.after c.args.value c.onward_by_zero.result c.sum.result c.greatest-zero.result
-    c.requires.before c.requires.after c.requires.value c.onward_by_zero.ensures c.sum.ensures c.greatest-zero.ensures in
-    let one = one-through c.args.before c.args.after c.args.value c.onward_by_one.result c.sum-2.result c.greatest-one.result
-    c.requires.before c.requires.after c.requires.value c.onward_by_one.ensures c.sum-2.ensures c.greatest-one.ensures in
+    let zero = zero-through c.args.before c.args.after c.args.value c.beta_branch_zero.result c.sum.result c.greatest-zero.result
+    c.requires.before c.requires.after c.requires.value c.beta_branch_zero.ensures c.sum.ensures c.greatest-zero.ensures in
+    let one = one-through c.args.before c.args.after c.args.value c.beta_branch_one.result c.sum-2.result c.greatest-one.result
+    c.requires.before c.requires.after c.requires.value c.beta_branch_one.ensures c.sum-2.ensures c.greatest-one.ensures in
     difference-range c.from.result c.from-2.result c.greatest-zero.result c.greatest-one.result c.from.ensures c.from-2.ensures zero.range one.range

@@ -25,7 +25,7 @@ forward-before-requires g c =
 pub loop-j-preserved : goal.loop-j-preserved
 loop-j-preserved g c =
     let S = g.S.Strip in let strip = c.args.strip.now in let j = c.loop-j.j in let step = c.step_at-step in
-    let a = earns c.args.from.now c.args.to.now (S.systematic strip) (S.parity strip)
+    let a = earns c.args.alpha_in.now c.args.beta_in.now (S.systematic strip) (S.parity strip)
     (S.cells strip) j step.result.input step.result.parity step.ensures.input step.ensures.parity step.result.input_bound step.result.parity_bound in
     let h = c.loop-j.invariant in
     let inside : j < length c.loop-j.rows.items = omega (arith, c.loop-j-test.true, c.width-width.ensures, c.requires.room, h.room) in
@@ -83,7 +83,7 @@ loop-i-preserved g c =
     let j : ℕ = c.width-width.result - 1 - i in
     let place : j + suc i ≡ n = omega (arith, c.loop-i-test.true, c.width-width.ensures) in
     let still = h.cells.kept j (omega (arith, place)) in
-    let a = earns_still c.args.from.now c.args.to.now (S.systematic strip) (S.parity strip) (S.cells strip) (S.systematic c.loop-i.strip) (S.parity c.loop-i.strip) (S.cells c.loop-i.strip) j
+    let a = earns_still c.args.alpha_in.now c.args.beta_in.now (S.systematic strip) (S.parity strip) (S.cells strip) (S.systematic c.loop-i.strip) (S.parity c.loop-i.strip) (S.cells c.loop-i.strip) j
     step.result.input step.result.parity h.systematic h.parity still step.ensures.input step.ensures.parity step.result.input_bound step.result.parity_bound in
     let after = backward_at _ _ (n - i) (suc j) i i (map (to_z w16) c.loop-i.after) (omega (arith, place)) refl h.row in
     let inside : j < length c.loop-j.rows.items = omega (arith, place, c.requires.room, c.loop-j.invariant.room) in
@@ -93,7 +93,7 @@ loop-i-preserved g c =
     (at (S.parity c.loop-i.strip) j) (cell_at (S.cells c.loop-i.strip) j).value =
     c.new_cell-cell.ensures (at (S.systematic c.loop-i.strip) j) (cell_at (S.cells c.loop-i.strip) j).value step.ensures.input
     ∙ ap (λ p. cell_through (passed c.index.result.now) (map (to_z w16) c.loop-i.after) (at (S.systematic c.loop-i.strip) j) p (cell_at (S.cells c.loop-i.strip) j).value) step.ensures.parity in
-    let v = cell_still c.args.from.now c.args.to.now (S.systematic strip) (S.parity strip) (S.cells strip) (S.systematic c.loop-i.strip) (S.parity c.loop-i.strip) (S.cells c.loop-i.strip) i j
+    let v = cell_still c.args.alpha_in.now c.args.beta_in.now (S.systematic strip) (S.parity strip) (S.cells strip) (S.systematic c.loop-i.strip) (S.parity c.loop-i.strip) (S.cells c.loop-i.strip) i j
     (passed c.index.result.now) (map (to_z w16) c.loop-i.after) c.new_cell-cell.result place h.systematic h.parity still before after made in
     record {
       row =
@@ -109,19 +109,19 @@ loop-i-preserved g c =
 
 pub returns-clause-cells : goal.returns-clause-cells
 returns-clause-cells g c =
-    renewed_all _ _ _ c.loop-i.i (width-between c.args.from.now c.args.to.now (g.S.Strip.systematic c.args.strip.now) (g.S.Strip.parity c.args.strip.now)
+    renewed_all _ _ _ c.loop-i.i (width-between c.args.alpha_in.now c.args.beta_in.now (g.S.Strip.systematic c.args.strip.now) (g.S.Strip.parity c.args.strip.now)
     (g.S.Strip.cells c.args.strip.now)) (omega (arith, c.loop-i-test.false, c.width-width.ensures)) c.loop-i.invariant.cells
 
 pub returns-clause-forward : goal.returns-clause-forward
 returns-clause-forward g c =
     let S = g.S.Strip in let strip = c.args.strip.now in
-    forward_row-left c.args.from.now c.args.to.now (S.systematic strip) (S.parity strip) (S.cells strip) (map (to_z w16) c.loop-j.before)
+    forward_row-left c.args.alpha_in.now c.args.beta_in.now (S.systematic strip) (S.parity strip) (S.cells strip) (map (to_z w16) c.loop-j.before)
     (forward_at _ _ c.loop-j.j _ _ (omega (arith, c.loop-j-test.false, c.loop-j.auto.j-end, c.width-width.ensures)) c.loop-j.invariant.row)
 
 pub returns-clause-backward : goal.returns-clause-backward
 returns-clause-backward g c =
     let S = g.S.Strip in let strip = c.args.strip.now in
-    backward_row-left c.args.from.now c.args.to.now (S.systematic strip) (S.parity strip) (S.cells strip) (map (to_z w16) c.loop-i.after)
+    backward_row-left c.args.alpha_in.now c.args.beta_in.now (S.systematic strip) (S.parity strip) (S.cells strip) (map (to_z w16) c.loop-i.after)
     (backward_at _ _ _ 0 c.loop-i.i _ _ (omega (arith, c.loop-i-test.false, c.width-width.ensures))
     (omega (arith, c.loop-i-test.false, c.loop-i.auto.i-end, c.width-width.ensures)) c.loop-i.invariant.row)
 

@@ -5,8 +5,8 @@ use Rattle.model_sender.specs.CheckBits.{IsMultiple}
 use Rattle.model_receiver.specs.declared.result.CheckKind.{CheckKind}
 use Rattle.cell_shares.specs.Shares.{cell_values}
 use Rattle.model_receiver.specs.Decoding.{generator}
-use Rattle.serial_decode.proofs.Parts.{written}
-use Rattle.serial_decode.proofs.Stopping.{result_with}
+use Rattle.half_iteration.proofs.Parts.{written}
+use Rattle.half_iteration.proofs.Stopping.{result_with}
 use Rattle.window_workers.specs.Commons.{IsResultAt}
 use Rattle.window_workers.specs.Pieces.{job_of_piece}
 use Rattle.window_workers.proofs.HalfCells.{cells-long}

@@ -8,7 +8,7 @@ use Rattle.window_workers.specs.Pieces.{job_of_piece, share_of, left_of_piece}
 use Rattle.window_workers.specs.Orders.{IsOrderIn}
 use Rattle.window_workers.proofs.HalfCells.{left-long, left-earlier}
 use Rattle.window_workers.proofs.OrdersOfHalves.{order-is_of}
-use Rattle.serial_decode.proofs.Parts.{written}
+use Rattle.half_iteration.proofs.Parts.{written}
 use Rattle.window_workers.proofs.DonePieces.{long-map}
 use Rattle.window_workers.proofs.ReadyPieces.{tail-is, long-of_job, ready-pieces, left-of_pieces}
 use Rattle.model_receiver.specs.HalfIteration.{tail_border}

@@ -1,7 +1,7 @@
 use Rattle.std.proofs.Common.{sym, ap, ◌∙◌, subst, arith}
 use Rattle.model_receiver.specs.Windows.{new_cells}
 use Rattle.cell_shares.specs.Shares.{share_number}
-use Rattle.serial_decode.specs.Runs.{left_of}
+use Rattle.half_iteration.specs.Runs.{left_of}
 use Rattle.window_workers.specs.Orders.{IsOrderIn}
 use Rattle.window_workers.specs.Pieces.{job_of_piece}
 use Rattle.window_workers.proofs.HalfCells.{cells-left}

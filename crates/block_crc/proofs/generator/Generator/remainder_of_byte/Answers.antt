@@ -13,7 +13,7 @@ returns-clause-value c =
     let long : length byte ≡ 8 = omega arith in
     let most : number byte < 2 ^ length byte = number-lt byte in
     let few : number byte < 256 = omega (arith, most, ap (λ n. 2 ^ n) long) in
-    byte-by_table g.coefficients c.args.start c.moved.result 8 g.remainders byte [] g.monic g.table c.requires long (omega arith) few c.moved.ensures.value
+    byte-by_table g.coefficients c.args.start c.moved.result 8 g.shift24 byte [] g.monic g.shift24_table c.requires long (omega arith) few c.moved.ensures.value
     ∙ ap (remainder g.coefficients c.args.start) (append-nil byte)
 
 pub returns-clause-small : goal.returns-clause-small

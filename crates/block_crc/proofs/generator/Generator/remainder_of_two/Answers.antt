@@ -23,8 +23,8 @@ returns-clause-value c =
     let one = ap (λ (cs : List (List Bit)). get_or cs 0 _) c.as_chunks.ensures.front ∙ chunk-at 8 (length bits / 8) 0 bits _ some in
     let two = ap (λ (cs : List (List Bit)). get_or cs 1 _) c.as_chunks.ensures.front ∙ chunk-at 8 (length bits / 8) 1 bits _ more ∙ take_all 8 second (omega (arith, rest)) in
     let few : number first < 2 ^ length first = number-lt first in
-    ap (bit_xor (get_or g.further (c.args.start / 65536) 0)) (c.remainder_of_byte-rest.ensures.value ∙ ap (remainder g.coefficients c.moved.result) two)
-    ∙ byte-by_table g.coefficients c.args.start c.moved.result 16 g.further first second g.monic g.further_table c.requires long (omega (arith, rest)) (omega (arith, few, ap (λ n. 2 ^ n) long))
+    ap (bit_xor (get_or g.shift32 (c.args.start / 65536) 0)) (c.remainder_of_byte-rest.ensures.value ∙ ap (remainder g.coefficients c.moved.result) two)
+    ∙ byte-by_table g.coefficients c.args.start c.moved.result 16 g.shift32 first second g.monic g.shift32_table c.requires long (omega (arith, rest)) (omega (arith, few, ap (λ n. 2 ^ n) long))
     (c.moved.ensures.value ∙ ap (λ (byte : List Bit). c.args.start % 2 ^ 16 * 256 + number byte) one)
     ∙ ap (remainder g.coefficients c.args.start) (take-append-drop 8 bits)
 

@@ -1,6 +1,5 @@
 use Rattle.std.proofs.Common.{ℕ, List, Err, ap, sym, subst, arith}
 use Rattle.edge_io.proofs.Known.{adds_no_bytes, adds_none}
-use Rattle.block_receive.specs.Effort.{effort_of}
 use Rattle.run_loop.specs.Edges.{told, Causes}
 use Rattle.run_loop.specs.Ended.{Ended}
 use Rattle.run_loop.specs.declared.status.Status.{Status}
@@ -15,7 +14,7 @@ returns-in-Ok-clause-opens g c report reports =
     let old = told (g.S.Source.left c.args.source.now) out report (g.S.Source.faults c.args.source.now) (g.D.Sink.faults c.args._out.now) reports in
     let new = told (g.S.Source.left c.begin.new.source) out report (g.S.Source.faults c.begin.new.source) (g.D.Sink.faults c.args._out.now) reports in
     record {
-      opens = λ input is. opened_batch (effort_of c.args.self.effort) (g.R.Runner.pipes c.args.self.runner) c.in-Ok.reader input old new (c.in-Ok.ensures.begins input is) c.in-Ok.ensures.accepted
+      opens = λ input is. opened_batch c.args.self.limits.now (g.R.Runner.pipes c.args.self.runner) c.in-Ok.reader input old new (c.in-Ok.ensures.begins input is) c.in-Ok.ensures.accepted
           (adds_none out) (adds_none report);
       causes = tt;
       moved = record {
@@ -31,7 +30,7 @@ returns-in-Ok-clause-opens g c report reports =
 pub returns-in-Err-clause-opens : goal.returns-in-Err-clause-opens
 returns-in-Err-clause-opens g c report reports =
     let out = g.D.Sink.held c.args._out.now in
-    let e = effort_of c.args.self.effort in
+    let e = c.args.self.limits.now in
     let old = told (g.S.Source.left c.args.source.now) out report (g.S.Source.faults c.args.source.now) (g.D.Sink.faults c.args._out.now) reports in
     let new = told (g.S.Source.left c.begin.new.source) out report (g.S.Source.faults c.begin.new.source) (g.D.Sink.faults c.args._out.now) reports in
     let E : (input : List ℕ) → Status → Type 0 = λ input s. Ended (batch_answer e (g.R.Runner.pipes c.args.self.runner) input) old new s in

@@ -4,7 +4,6 @@ use Rattle.std.proofs.lemmas.List.Elements.{All-append, All-cons, All-nil}
 use Rattle.std.specs.declared.option.Option.{Option}
 use Rattle.std.specs.declared.result.Result.{Result}
 use Rattle.edge_io.proofs.Known.{takes_bytes_then}
-use Rattle.block_receive.specs.Effort.{effort_of}
 use Rattle.coded_stream.specs.Blocks.{Block}
 use Rattle.coded_stream.specs.Steps.{Advances, GoesOn, Reading, remaining}
 use Rattle.coded_stream.specs.declared.stop.StreamStop.{StreamStop}
@@ -27,17 +26,17 @@ loop-preserved g c =
     let Moved : Result (Option BlockJob) StreamStop → Type 0 = λ o. Advances s t (bytes_got o) (size_got o) in
     let moved = subst Moved is c.read_job.ensures.advances in
     let On : List ℕ → Result (Option BlockJob) StreamStop → Type 0 = λ left o. GoesOn (remaining s left) (remaining t) (bytes_got o) mid new (size_got o) in
-    let Of : Result (Option BlockJob) StreamStop → Type 0 = λ o. OnJob o (IsJobOf (effort_of l.self.effort) s.header) in
-    let of : IsJobOf (effort_of l.self.effort) s.header job = subst Of is c.read_job.ensures.job in
-    let same : IsJobOf (effort_of c.args.self.now.effort) r.header job =
-    (of.0 ∙ ap effort_of l.invariant.effort, of.1 ∙ l.invariant.passes.header) in
+    let Of : Result (Option BlockJob) StreamStop → Type 0 = λ o. OnJob o (IsJobOf l.self.limits s.header) in
+    let of : IsJobOf l.self.limits s.header job = subst Of is c.read_job.ensures.job in
+    let same : IsJobOf c.args.self.now.limits r.header job =
+    (of.0 ∙ l.invariant.limits, of.1 ∙ l.invariant.passes.header) in
     let pushed = c.push_reserved.ensures.items in
     let blocks : blocks_in l.jobs.items ++ block_in job ∷ [] ≡ blocks_in c.push_reserved.new.self.items =
     sym (ap blocks_in pushed ∙ map-append block_in l.jobs.items (job ∷ [])) in
     let one = length-append l.jobs.items (job ∷ []) in
     record {
       live = ap (λ (x : Reading). x.live) moved.2 ∙ l.invariant.live;
-      effort = c.read_job.ensures.effort ∙ l.invariant.effort;
+      limits = c.read_job.ensures.limits ∙ l.invariant.limits;
       came = λ input told.
           let had = l.invariant.came input told in
           let B : List Block → Type 0 = λ bs. (left : List ℕ) × Came r t input left bs (g.S.Source.left c.args.source.now) new in
@@ -49,9 +48,9 @@ loop-preserved g c =
       };
       count = omega (arith, ap length pushed, one, l.invariant.count);
       within = omega (arith, ap (λ (x : Reading). x.blocks) moved.2, moved.0);
-      jobs = let P : List BlockJob → Type 0 = λ xs. All (IsJobOf (effort_of c.args.self.now.effort) r.header) xs in
-          subst P (sym pushed) (All-append (IsJobOf (effort_of c.args.self.now.effort) r.header) l.jobs.items (job ∷ []) l.invariant.jobs
-          (All-cons (IsJobOf (effort_of c.args.self.now.effort) r.header) job [] same (All-nil (IsJobOf (effort_of c.args.self.now.effort) r.header))));
+      jobs = let P : List BlockJob → Type 0 = λ xs. All (IsJobOf c.args.self.now.limits r.header) xs in
+          subst P (sym pushed) (All-append (IsJobOf c.args.self.now.limits r.header) l.jobs.items (job ∷ []) l.invariant.jobs
+          (All-cons (IsJobOf c.args.self.now.limits r.header) job [] same (All-nil (IsJobOf c.args.self.now.limits r.header))));
       room = omega (arith, c.push_reserved.ensures.capacity, l.invariant.room);
       moved = takes_bytes_then _ _ _ l.invariant.moved c.read_job.ensures.moved;
       later = omega (arith, c.read_job.ensures.later, l.invariant.later);

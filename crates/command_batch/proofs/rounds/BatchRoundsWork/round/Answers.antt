@@ -1,7 +1,6 @@
 use Rattle.std.proofs.Common.{◌≡◌, ℕ, ◌≤◌, ◌*◌, ◌+◌, length, true, ap, sym, subst, ◌∙◌, arith}
 use Rattle.std.proofs.lemmas.Result.{err_from_is_err_and}
-use Rattle.block_receive.specs.Effort.{effort_of}
-use Rattle.block_receive.specs.declared.task.Effort as rust
+use Rattle.model_receiver.specs.Limits.{DecoderLimits}
 use Rattle.coded_stream.specs.Header.{Header, kind_code}
 use Rattle.coded_stream.specs.Opening.{is_wanted}
 use Rattle.coded_stream.specs.Steps.{Reading}
@@ -12,7 +11,7 @@ use Rattle.stream_loop.specs.Rounds.{IsReady}
 use Rattle.command_decode.specs.Decoding.{decoding}
 use Rattle.command_batch.specs.Batch.{batch_ahead}
 use Rattle.command_batch.specs.Reading.{Counts}
-use Rattle.command_batch.specs.Making.{StopsAs, failures, job_parts}
+use Rattle.command_batch.specs.Parts.{StopsAs, failures, job_parts}
 use Rattle.command_batch.proofs.Made.{failures_few}
 use Rattle.command_batch.proofs.RoundSteps.{fewer_of, full_of, gives_round, starved_before, starved_round, stops_by}
 use Rattle.command_batch.proofs.rounds.BatchRoundsWork.round.Goals as goal
@@ -20,7 +19,7 @@ use Rattle.command_batch.proofs.rounds.BatchRoundsWork.round.Goals as goal
 pub returns-in_default-clause-step : goal.returns-in_default-clause-step
 returns-in_default-clause-step g c input told =
     let s = c.args.self.now in
-    starved_before (effort_of s.jobs.effort) (g.R.Runner.pipes s.runner) s.failed s.jobs.reader input (g.S.Source.left c.args.source.now)
+    starved_before s.jobs.limits (g.R.Runner.pipes s.runner) s.failed s.jobs.reader input (g.S.Source.left c.args.source.now)
 
 pub returns-in_err-parts-clause-step : goal.returns-in_err-parts-clause-step
 returns-in_err-parts-clause-step g c input told =
@@ -31,7 +30,7 @@ returns-in_err-parts-clause-step g c input told =
     let some : 1 ≤ g.R.Runner.pipes s.runner = omega (arith, c.pipes-most.ensures.some, c.pipes-most.ensures.value) in
     let p = err_from_is_err_and c.from_residual.result c.from_residual.ensures.1 in
     rw (p.1, p.2)
-    (starved_round (effort_of s.jobs.effort) (g.R.Runner.pipes s.runner) s.failed s.jobs.reader read.new.self.reader input read.new.jobs.items (g.S.Source.left c.args.source.now)
+    (starved_round s.jobs.limits (g.R.Runner.pipes s.runner) s.failed s.jobs.reader read.new.self.reader input read.new.jobs.items (g.S.Source.left c.args.source.now)
     (g.S.Source.left read.new.source) read.result
     some read.ensures.jobs (read.ensures.comes input told) counts)
 
@@ -58,14 +57,14 @@ returns-in_err-stop-clause-step g c input told =
     let some : 1 ≤ g.R.Runner.pipes s.runner = omega (arith, c.pipes-most.ensures.some, c.pipes-most.ensures.value) in
     let p = err_from_is_err_and c.from_residual-in_err-stop.result c.from_residual-in_err-stop.ensures.1 in
     rw (p.1, p.2)
-    (starved_round (effort_of s.jobs.effort) (g.R.Runner.pipes s.runner) s.failed s.jobs.reader read.new.self.reader input read.new.jobs.items (g.S.Source.left c.args.source.now)
+    (starved_round s.jobs.limits (g.R.Runner.pipes s.runner) s.failed s.jobs.reader read.new.self.reader input read.new.jobs.items (g.S.Source.left c.args.source.now)
     (g.S.Source.left read.new.source) read.result
     some read.ensures.jobs (read.ensures.comes input told) counts)
 
 pub returns-clause-step : goal.returns-clause-step
 returns-clause-step g c input told =
     let s = c.args.self.now in
-    let e = effort_of s.jobs.effort in
+    let e = s.jobs.limits in
     let r = s.jobs.reader in
     let read = c.read_jobs-reached in
     let jobs = read.new.jobs.items in
@@ -80,19 +79,19 @@ returns-clause-step g c input told =
     let some : 1 ≤ g.R.Runner.pipes s.runner = omega (arith, c.pipes-most.ensures.some, c.pipes-most.ensures.value) in
     let N : ℕ → Type 0 = λ n. StopsAs e r.header n failed read.result c.in_ok-stop.stop in
     let stops = subst N c.blocks-2.ensures (c.in_ok-stop.ensures e r.header) in
-    let G : rust.Effort → Reading → Type 0 =
-    λ x t. Gives (batch_ahead e (g.R.Runner.pipes s.runner) r s.failed input) (batch_ahead (effort_of x) (g.R.Runner.pipes s.runner) t failed) source left round in
-    let gives : G s.jobs.effort read.new.self.reader =
+    let G : DecoderLimits → Reading → Type 0 =
+    λ x t. Gives (batch_ahead e (g.R.Runner.pipes s.runner) r s.failed input) (batch_ahead x (g.R.Runner.pipes s.runner) t failed) source left round in
+    let gives : G s.jobs.limits read.new.self.reader =
     gives_round e (g.R.Runner.pipes s.runner) s.failed failed r read.new.self.reader input jobs source left read.result round read.ensures.jobs (read.ensures.comes input told) read.ensures.passes
     (ap (λ (n : ℕ). s.failed + n) counted) made stops
     (starved_round e (g.R.Runner.pipes s.runner) s.failed r read.new.self.reader input jobs source left read.result some read.ensures.jobs (read.ensures.comes input told) counts) in
-    subst (λ (x : rust.Effort). G x c.keep_rooms.new.self.reader) (sym (c.keep_rooms.ensures.effort ∙ read.ensures.effort))
-    (subst (λ (t : Reading). G s.jobs.effort t) (sym c.keep_rooms.ensures.reader) gives)
+    subst (λ (x : DecoderLimits). G x c.keep_rooms.new.self.reader) (sym (c.keep_rooms.ensures.limits ∙ read.ensures.limits))
+    (subst (λ (t : Reading). G s.jobs.limits t) (sym c.keep_rooms.ensures.reader) gives)
 
 pub returns-clause-ready : goal.returns-clause-ready
 returns-clause-ready g c go =
     let s = c.args.self.now in
-    let e = effort_of s.jobs.effort in
+    let e = s.jobs.limits in
     let r = s.jobs.reader in
     let read = c.read_jobs-reached in
     let t = read.new.self.reader in
@@ -101,7 +100,7 @@ returns-clause-ready g c go =
     let counted = c.in_ok-parts.ensures.failed ∙ ap (failures c.blocks-first.result) c.as_slice.ensures.value ∙ ap (λ (n : ℕ). failures n jobs) c.blocks-first.ensures in
     let full = full_of e r.header c.blocks-2.result failed _ _ t read.result c.in_ok-stop.stop (c.in_ok-stop.ensures e r.header) go read.ensures.counts in
     let H : Header → Type 0 = λ h. is_wanted want.Soft (kind_code h.kind) ≡ true in
-    let R : Reading → Type 0 = λ x. IsReady (decoding (effort_of c.keep_rooms.new.self.effort)) x failed in (
+    let R : Reading → Type 0 = λ x. IsReady (decoding c.keep_rooms.new.self.limits) x failed in (
       c.requires.0,
       subst R (sym c.keep_rooms.ensures.reader) (record {
         live = full.1;
@@ -114,7 +113,7 @@ returns-clause-ready g c go =
 pub returns-clause-fewer : goal.returns-clause-fewer
 returns-clause-fewer g c =
     let s = c.args.self.now in
-    let e = effort_of s.jobs.effort in
+    let e = s.jobs.limits in
     let r = s.jobs.reader in
     let read = c.read_jobs-reached in
     let t = read.new.self.reader in
@@ -125,6 +124,6 @@ returns-clause-fewer g c =
 pub returns-clause-stops : goal.returns-clause-stops
 returns-clause-stops g c =
     let s = c.args.self.now in
-    let e = effort_of s.jobs.effort in
+    let e = s.jobs.limits in
     let read = c.read_jobs-reached in
     stops_by e s.jobs.reader.header c.blocks-2.result (s.failed + c.in_ok-parts.failed) _ _ read.result c.in_ok-stop.stop (c.in_ok-stop.ensures e s.jobs.reader.header) read.ensures.fault

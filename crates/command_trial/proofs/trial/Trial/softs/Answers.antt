@@ -2,8 +2,7 @@ use Rattle.std.proofs.Common.{◌≡◌, ◌+◌, ◌++◌, length, List, drop, 
 use Rattle.rate_match.proofs.EachSending.{fits_at, turn_at, version_at}
 use Rattle.rate_match.specs.declared.sends.Sending.{Sending}
 use Rattle.block_receive.specs.Receptions.{value_count}
-use Rattle.command_trial.specs.Shown.{trial_of}
-use Rattle.command_trial.specs.Trials.{received, softs, softs_from}
+use Rattle.command_trial.specs.Trials.{trial_of, received, softs, softs_from}
 use Rattle.command_trial.proofs.Sums.{value_count-cons}
 use Rattle.command_trial.proofs.trial.Trial.softs.Goals as goal
 

@@ -1,7 +1,6 @@
 use Rattle.std.proofs.Common.{◌≡◌, ◌+◌, ◌++◌, length, drop}
 use Rattle.block_receive.specs.Receptions.{value_count}
-use Rattle.command_trial.specs.Shown.{trial_of}
-use Rattle.command_trial.specs.Trials.{softs, softs_from}
+use Rattle.command_trial.specs.Trials.{trial_of, softs, softs_from}
 use Rattle.command_trial.proofs.trial.Trial.softs.Given as goal
 
 abbrev pub invariant-loop-number : goal.invariant-loop-number

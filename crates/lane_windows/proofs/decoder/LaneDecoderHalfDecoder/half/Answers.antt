@@ -1,8 +1,8 @@
 use Rattle.std.proofs.Common.{◌≡◌, ℕ, ◌++◌, List, length, take, drop, sym, ap, ◌∙◌, arith}
 use Rattle.std.proofs.lemmas.List.FromFn.{length-map-range_with_len}
 use Rattle.model_receiver.specs.HalfIteration.{BordersLeft, position_of, renewed, after}
-use Rattle.serial_decode.specs.Runs.{start_of}
-use Rattle.serial_decode.proofs.Parts.{written}
+use Rattle.half_iteration.specs.Runs.{start_of}
+use Rattle.half_iteration.proofs.Parts.{written}
 use Rattle.lane_windows.proofs.decoder.LaneDecoderHalfDecoder.half.Goals as goal
 
 -- as many as were written
@@ -19,10 +19,10 @@ invariant_of-result g c =
     record {
       room = omega (arith, d.room, half.ensures.room);
       border_room = record {
-        from = still n b.from.len half.new.from c.as_mut_slice.result.now b.from.items b.from.ok.0 c.as_mut_slice.ensures.value half.auto.from d.border_room.from;
-        to = still n b.to.len half.new.to c.as_mut_slice-2.result.now b.to.items b.to.ok.0 c.as_mut_slice-2.ensures.value half.auto.to d.border_room.to;
-        ahead = still n b.ahead.len half.new.ahead c.as_mut_slice-3.result.now b.ahead.items b.ahead.ok.0 c.as_mut_slice-3.ensures.value half.auto.ahead d.border_room.ahead;
-        back = still n b.back.len half.new.back c.as_mut_slice-4.result.now b.back.items b.back.ok.0 c.as_mut_slice-4.ensures.value half.auto.back d.border_room.back;
+        alpha_in = still n b.alpha_in.len half.new.alpha_in c.as_mut_slice.result.now b.alpha_in.items b.alpha_in.ok.0 c.as_mut_slice.ensures.value half.auto.alpha_in d.border_room.alpha_in;
+        beta_in = still n b.beta_in.len half.new.beta_in c.as_mut_slice-2.result.now b.beta_in.items b.beta_in.ok.0 c.as_mut_slice-2.ensures.value half.auto.beta_in d.border_room.beta_in;
+        alpha_out = still n b.alpha_out.len half.new.alpha_out c.as_mut_slice-3.result.now b.alpha_out.items b.alpha_out.ok.0 c.as_mut_slice-3.ensures.value half.auto.alpha_out d.border_room.alpha_out;
+        beta_out = still n b.beta_out.len half.new.beta_out c.as_mut_slice-4.result.now b.beta_out.items b.beta_out.ok.0 c.as_mut_slice-4.ensures.value half.auto.beta_out d.border_room.beta_out;
       };
       all_places = ap length half.ensures.cells
           ∙ length-map-range_with_len (λ i. renewed d.views.views.streams.now d.views.views.shape c.args.h (start_of d.banks c.as_mut_slice-5.result.now)

@@ -5,12 +5,12 @@ use Rattle.std.proofs.lemmas.List.FromFn.{length-map-range_with_len, get_or-map-
 use Rattle.model_sender.specs.Interleaver.{place}
 use Rattle.model_sender.proofs.RowLaws.{range-of_size}
 use Rattle.model_receiver.specs.HalfIteration.{Shape, window_width, order}
-use Rattle.serial_decode.specs.Views.{AreWhole}
-use Rattle.serial_decode.proofs.Orders.{order-below, order-apart}
-use Rattle.lane_banks.specs.Crossings.{IsTable}
+use Rattle.half_iteration.specs.Views.{AreWhole}
+use Rattle.half_iteration.proofs.Orders.{order-below, order-apart}
+use Rattle.lane_banks.specs.Permutations.{IsTable}
 use Rattle.lane_banks.proofs.BankCells.{lanes-least, lanes-few, place-inside, lanes-some}
-use Rattle.lane_banks.proofs.CrossingLaws.{place-one_row}
-use Rattle.lane_banks.proofs.CrossingSteps.{table-by}
+use Rattle.lane_banks.proofs.PermutationLaws.{place-one_row}
+use Rattle.lane_banks.proofs.PermutationSteps.{table-by}
 use Rattle.lane_windows.proofs.LaneHalves.{narrow, covers}
 use Rattle.lane_windows.proofs.lane_views.LaneViews.new.Goals as goal
 
@@ -22,8 +22,8 @@ module _ (shape : Shape) (places : List ℕ) (whole : AreWhole shape) (is : plac
   place-under : (i : ℕ) → i < shape.k → slice_index places i < shape.k
   place-under i lt = subst (λ (p : ℕ). p < shape.k) (sym (place-at i lt)) (order-below shape.k 1 i whole.size lt)
 
-pub crossings_of-requires : goal.crossings_of-requires
-crossings_of-requires g c =
+pub permutations_of-requires : goal.permutations_of-requires
+permutations_of-requires g c =
     let n = g.row.N in let shape = c.in_ok-views.views.shape in let w : ℕ = c.width.result in let whole = c.width.ensures.whole in
     let lanes = c.requires.lanes in
     let en : shape.windows ≡ n = ap (λ (s : Shape). s.windows) c.in_ok-views.ensures.shape ∙ c.requires.windows in
@@ -48,16 +48,16 @@ invariant_of-result g c =
     let en : shape.windows ≡ n = ap (λ (s : Shape). s.windows) c.in_ok-views.ensures.shape ∙ c.requires.windows in
     let e : n * w ≡ shape.k = covers shape n w whole en c.width.ensures.value in
     let e2 : n * window_width shape ≡ shape.k = covers shape n (window_width shape) whole en refl in
-    let x = c.in_ok-crossings.crossings in let places = c.places.result.now in
+    let x = c.in_ok-permutations.permutations in let places = c.places.result.now in
     record {
       few = omega (arith, lanes-few n c.requires.lanes);
       windows = en;
       natural_rows = c.in_ok-natural.ensures;
       interleaved_rows = c.in_ok-interleaved.ensures;
-      steps = c.in_ok-crossings.ensures.rows ∙ c.width.ensures.value;
-      bank_steps = c.in_ok-crossings.ensures.banks ∙ c.width.ensures.value;
+      steps = c.in_ok-permutations.ensures.rows ∙ c.width.ensures.value;
+      bank_steps = c.in_ok-permutations.ensures.banks ∙ c.width.ensures.value;
       table = subst (λ (k : ℕ). IsTable n k (place shape.k) x.rows.items x.banks.items) c.width.ensures.value
           (table-by n w (slice_index places) (place shape.k) x.rows.items x.banks.items
-          (λ i li. place-at shape places whole c.places.ensures i (omega (arith, li, e))) c.in_ok-crossings.ensures.table);
+          (λ i li. place-at shape places whole c.places.ensures i (omega (arith, li, e))) c.in_ok-permutations.ensures.table);
       apart = λ i j li lj same. order-apart shape.k 1 i j whole.size (omega (arith, li, e2)) (omega (arith, lj, e2)) same;
     }

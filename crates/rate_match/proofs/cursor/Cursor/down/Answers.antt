@@ -1,6 +1,6 @@
 use Rattle.std.proofs.Common.{◌+◌, ◌*◌, ap, ◌∙◌, arith}
 use Rattle.rate_match.proofs.CursorSteps.{made, order-below}
-use Rattle.rate_match.proofs.Runs.{down-at}
+use Rattle.rate_match.proofs.ColumnRuns.{down-at}
 use Rattle.rate_match.proofs.cursor.Cursor.down.Goals as goal
 
 pub returns : goal.returns

@@ -1,8 +1,8 @@
 use Rattle.std.proofs.Common.{◌≡◌, ℕ, ◌++◌, List, length, take, drop, sym, ap, ◌∙◌, arith}
 use Rattle.std.proofs.lemmas.List.FromFn.{length-map-range_with_len}
 use Rattle.model_receiver.specs.HalfIteration.{position_of, renewed}
-use Rattle.serial_decode.specs.Runs.{start_of}
-use Rattle.serial_decode.proofs.Parts.{written}
+use Rattle.half_iteration.specs.Runs.{start_of}
+use Rattle.half_iteration.proofs.Parts.{written}
 use Rattle.serial_decode.proofs.decoder.SerialDecoderHalfDecoder.half.Goals as goal
 
 pub invariant_of-result-clause-all_places : goal.invariant_of-result-clause-all_places

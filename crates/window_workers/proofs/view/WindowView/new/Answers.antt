@@ -2,8 +2,8 @@ use Rattle.std.proofs.Common.{◌≡◌, ℕ, ◌*◌, ap, ◌∙◌, arith}
 use Rattle.std.specs.Prelude.{pos}
 use Rattle.model_sender.proofs.RowLaws.{range-of_size}
 use Rattle.model_receiver.specs.HalfIteration.{Shape, order, parity_at, systematic_at, window_width}
-use Rattle.serial_decode.specs.Views.{AreWhole}
-use Rattle.serial_decode.proofs.StripParts.{part-is, part-fits, window_within}
+use Rattle.half_iteration.specs.Views.{AreWhole}
+use Rattle.half_iteration.proofs.WindowParts.{part-is, part-fits, window_within}
 use Rattle.window_workers.proofs.view.WindowView.new.Goals as goal
 
 covers : {shape : Shape} {w : ℕ} → w ≡ window_width shape → AreWhole shape → shape.windows * w ≡ shape.k

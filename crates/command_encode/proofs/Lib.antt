@@ -1,0 +1,5 @@
+mod FullBuffer
+mod BlockKinds
+mod MoreText
+mod CodewordSteps
+mod EncodeSteps

@@ -1,0 +1,5 @@
+pub mod Input
+pub mod Codeword
+pub mod CodewordRound
+pub mod Encode
+pub mod EncodeRounds

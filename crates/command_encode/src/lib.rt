@@ -1,0 +1,10 @@
+//! The commands `codeword` and `encode`: what is sent of an input.
+#![tactic(auto)]
+
+mod blocks;
+mod codeword;
+mod encode;
+mod input;
+
+pub use codeword::Codeword;
+pub use encode::Encode;

@@ -1,0 +1,16 @@
+//! Half iterations of a code block, whatever decodes their windows: what they read, the borders between windows, the
+//! iterations until the check holds.
+#![tactic(auto)]
+
+mod bits;
+mod iterations;
+mod left;
+mod lists;
+mod tail;
+mod views;
+
+pub use bits::{decide, decided, holds};
+pub use iterations::{HalfDecoder, decode_halves, result_in};
+pub use left::{BordersLeft, end_of};
+pub use lists::part;
+pub use views::Views;

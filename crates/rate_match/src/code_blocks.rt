@@ -1,0 +1,87 @@
+//! The code blocks of a payload, coded one after the other (36.212 5.1.2, 5.1.3).
+ghost use Rattle.std.specs.Prelude.{◌≡◌, ◌≤◌, ◌<◌, IfOk, length};
+ghost use Rattle.model_sender.specs.Segmentation.{plan_of};
+ghost use Rattle.model_sender.specs.CodeBlocks.{block};
+ghost use Rattle.model_sender.specs.CodedStreams.{streams};
+
+use lte_bits::{Block, List, NoMemory, Streams};
+use segmentation::plans::Plan;
+use segmentation::{cut, plan, size};
+use std::alloc::Global;
+use std::marker::Model;
+use turbo_encode::{InterleaverAddresses, encode_with};
+
+/// The code blocks of a payload, and the interleaver addresses of the one that was coded last. Contracts see
+/// the payload.
+#[derive(Drop)]
+pub struct CodeBlocks<'a> {
+    payload: &'a [u8],
+    plan: Plan,
+    blocks: List<Block>,
+    addresses: InterleaverAddresses,
+}
+
+impl<'a> Model for CodeBlocks<'a> {
+    ghost use Rattle.std.specs.Prelude.{ℕ, List};
+
+    ghost Value = { List ℕ };
+
+    ghost use Rattle.rate_match.specs.Coded.{AreCut};
+
+    ghost view = { λ b. b.payload.now };
+
+    ghost invariant = { λ b. AreCut b.payload.now b.plan b.blocks };
+}
+
+impl<'a> CodeBlocks<'a> {
+    /// Cuts a payload of 1 to 18,722 bytes.
+    pub fn new(alloc: Global, payload: &'a [u8]) -> Result<CodeBlocks<'a>, NoMemory>
+        requires some { 1 ≤ length payload.now }
+        requires few { length payload.now ≤ 18722 }
+        ensures { IfOk result (λ blocks. blocks ≡ payload.now) }
+    {
+        let plan = plan(payload.len()).unwrap();
+        let blocks = cut(alloc, payload, &plan)?;
+        let addresses = InterleaverAddresses::new(alloc, size(&plan, 0))?;
+        Ok(CodeBlocks {
+            payload,
+            plan,
+            blocks,
+            addresses,
+        })
+    }
+
+    /// Returns the plan of the payload.
+    pub fn plan(&self) -> Plan
+        ensures { result ≡ plan_of (length self.now) }
+    {
+        self.plan
+    }
+
+    /// Returns the coded streams of block `r`, which is below C, and what codes the others.
+    pub fn coded(self, alloc: Global, r: usize) -> Result<(Streams, CodeBlocks<'a>), NoMemory>
+        requires { r < (plan_of (length self)).c }
+        ensures streams { IfOk result (λ coded.
+            coded.0 ≡ streams (block (plan_of (length self.entry)) self.entry r)) }
+        ensures payload { IfOk result (λ coded. coded.1 ≡ self.entry) }
+    {
+        let CodeBlocks {
+            payload,
+            plan,
+            blocks,
+            addresses,
+        } = self;
+        let block = &blocks.as_slice()[r];
+        let addresses = addresses.for_size(alloc, block.bits.as_slice().len())?;
+        let streams = encode_with(alloc, block, &addresses)?;
+        Ok((
+            streams,
+            CodeBlocks {
+                payload,
+                plan,
+                blocks,
+                addresses,
+            },
+        ))
+    }
+}

@@ -1,6 +1,0 @@
-use Rattle.std.proofs.Common.{◌≡◌, map, take}
-use Rattle.model_receiver.specs.Borders.{at}
-use Rattle.serial_decode.proofs.lists.picked.Given as goal
-
-abbrev pub invariant-loop-place : goal.invariant-loop-place
-invariant-loop-place l = l.out.items ≡ map (at l.values) (take l.place-index l.places)

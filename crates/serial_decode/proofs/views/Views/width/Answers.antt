@@ -1,5 +1,0 @@
-use Rattle.serial_decode.proofs.Wholes.{are-whole}
-use Rattle.serial_decode.proofs.views.Views.width.Goals as goal
-
-pub returns-clause-whole : goal.returns-clause-whole
-returns-clause-whole c = are-whole c.args.self.now.shape c.k.ensures.lawful
