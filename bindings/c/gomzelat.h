@@ -6,8 +6,8 @@
  * order of the numbers and transmission after transmission, and the first that is refused is told. Then, and where
  * memory runs out, no buffer and no structure of the caller is changed.
  *
- * Bits stand in bytes with the highest bit first. A soft value is a number from -127 to 127, above 0 where its bit is
- * rather 0 and below 0 where it is rather 1; -128 is taken as -127.
+ * Bits stand in bytes with the highest bit first. A soft value is a number from -127 to 127, positive where 0 is
+ * likelier and negative where 1 is; -128 is taken as -127.
  *
  * What a caller owes:
  *

@@ -15,7 +15,7 @@ from gomzelat import Harq, Transmission, quantise
 class Decoder(gr.basic_block):
     """PDUs of soft values to PDUs of bytes.
 
-    A PDU is one transmission: int8 soft values, above 0 where a bit is rather 0, or floats, which are quantised. Its
+    A PDU is one transmission: int8 soft values, positive where 0 is likelier, or floats, which are quantised. Its
     metadata `rv` is its redundancy version, else 0. One with `new` begins a payload, as one does after a payload that
     was delivered; the others are combined with those before.
 
@@ -29,7 +29,7 @@ class Decoder(gr.basic_block):
     g, qm, nl, n_ir : int
         As the encoder's.
     scale : float
-        What a float of 1 becomes; negative where those above 0 say that a bit is rather 1, as GNU Radio's soft decoders
+        What a float of 1 becomes; negative where those above 0 say that 1 is likelier, as GNU Radio's soft decoders
         have it.
     windows, limit : int
         The most windows and iterations of a code block.

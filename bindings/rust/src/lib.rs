@@ -2,8 +2,8 @@
 //! over a library that is proved. What each call gives is what the library's contracts say; this crate hands buffers
 //! over and names the answers.
 //!
-//! Bits stand in bytes with the highest bit first. A soft value is a number from -127 to 127, above 0 where its bit is
-//! rather 0; -128 is taken as -127.
+//! Bits stand in bytes with the highest bit first. A soft value is a number from -127 to 127, positive where 0 is
+//! likelier; -128 is taken as -127.
 //!
 //! ```
 //! use gomzelat::{Buffer, Channel, Outcome, Receiver, Transmission, codeword, noisy, receive};

@@ -2,7 +2,7 @@
 
 Calls over libgomzelat.so, which is proved to do what is said of it. Bytes, bits and soft values are numpy arrays, or
 whatever has the array interface; what is read isn't copied. Bits stand in bytes with the highest first, or one in an
-item where that is said. A soft value is a number from -127 to 127, above 0 where its bit is rather 0.
+item where that is said. A soft value is a number from -127 to 127, positive where 0 is likelier.
 
 What is out of range raises `Refused`, with the number that C's callers get, and running out of memory `MemoryError`.
 The interpreter's lock is open during a call, so that threads decode at once: what is passed must not be changed

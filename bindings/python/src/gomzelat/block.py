@@ -24,7 +24,7 @@ def decode_block(
     k : int
         K, its bits: one of the 188 sizes (36.212 5.1.3.2.3).
     values : array of int8
-        3 * (K + 4) soft values, those of d0, of d1 and of d2, of any shape: above 0 where a bit is rather 0. What
+        3 * (K + 4) soft values, those of d0, of d1 and of d2, of any shape: positive where 0 is likelier. What
         stands at the fillers of d0 and d1 isn't used.
     fill : int
         Those of its bits that are fillers, which stand first: 0 to K - 1.

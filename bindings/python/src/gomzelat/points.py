@@ -75,7 +75,7 @@ def demap_points(points: npt.ArrayLike, qm: int, amp: int, *, out: Softs | None 
     Returns
     -------
     array of int8
-        Q_m items for each point, above 0 where a bit is rather 0. With `out` the front of it.
+        Q_m items for each point, positive where 0 is likelier. With `out` the front of it.
 
     Raises
     ------

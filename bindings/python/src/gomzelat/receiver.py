@@ -42,7 +42,7 @@ def receive(
     transmissions : sequence of Transmission
         One to eight.
     values : array of int8
-        The G soft values of each, one transmission after the other, above 0 where a bit is rather 0; -128 is taken
+        The G soft values of each, one transmission after the other, positive where 0 is likelier; -128 is taken
         as -127.
     n_ir : int
         N_IR, as for `codeword`.

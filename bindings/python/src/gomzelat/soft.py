@@ -3,12 +3,12 @@
 =================================================  ========================================
 Who                                                A positive soft value says
 =================================================  ========================================
-gomzelat                                           the bit is rather 0
-most papers, IT++, AFF3CT: log P(0) / P(1)         the bit is rather 0
-MATLAB's qamdemod with 'llr', and nrLDPCDecode     the bit is rather 0
-MATLAB's comm.TurboDecoder                         the bit is rather 1: turn the sign
-Sionna: log P(1) / P(0)                            the bit is rather 1: turn the sign
-GNU Radio's constellation soft decoder             the bit is rather 1: turn the sign
+gomzelat                                           0 is likelier
+most papers, IT++, AFF3CT: log P(0) / P(1)         0 is likelier
+MATLAB's qamdemod with 'llr', and nrLDPCDecode     0 is likelier
+MATLAB's comm.TurboDecoder                         1 is likelier: turn the sign
+Sionna: log P(1) / P(0)                            1 is likelier: turn the sign
+GNU Radio's constellation soft decoder             1 is likelier: turn the sign
 =================================================  ========================================
 
 Only GNU Radio's was tried here. One bit tells of any tool: send a bit 0 without noise, and look at the value that its
@@ -37,7 +37,7 @@ def quantise(llr: npt.ArrayLike, scale: float = 1.0, *, out: Softs | None = None
     Parameters
     ----------
     llr : array of floats
-        log P(0) / P(1) of each bit, of any shape and any type of real numbers: above 0 where the bit is rather 0. With
+        log P(0) / P(1) of each bit, of any shape and any type of real numbers: positive where 0 is likelier. With
         tools that have it the other way round give a negative scale.
     scale : float
         What a ratio of 1 becomes.

@@ -27,7 +27,7 @@ CONVENTIONS = {
     "payload, check, codeword": "bytes of two digits, the highest bit first; unused low bits of the last are 0",
     "block, sent": "a digit for each bit, 0 or 1; fillers are 0",
     "d0, d1, d2": "a digit for each of K + 4 bits: 0, 1, or 2 at a NULL",
-    "soft": "two digits, two's complement, -127 to 127: above 0 where the bit is rather 0",
+    "soft": "two digits, two's complement, -127 to 127: positive where 0 is likelier",
     "check": "the 24 bits of CRC24A of the payload; those of CRC24B are the last 24 of each code block where C > 1",
     "outcome": "what this project's receiver makes of the soft values; another receiver may do better or worse",
 }
