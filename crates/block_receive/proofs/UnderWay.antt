@@ -36,11 +36,13 @@ enough sends i rest s at long = long ∙ ap value_count (turn_at sends i s at) �
 
 -- transmission i comes next
 ahead : (task : Task) (sends : List Sending) (softs : List ℤ) (i : ℕ) (rest : List ℤ) (s : Sending) (p : Progress) (h : IsUnderWay task sends softs i rest p) → slice_get sends i ≡ Some s
-    → outcome_from task.plan task.limits h.seen h.last (reception s.m s.rv (take s.m.g rest) ∷ receptions (drop (i + 1) sends) (drop s.m.g rest)) ≡ outcome task.plan task.limits (receptions sends softs)
+    → outcome_from task.plan task.limits h.seen h.last
+    (reception s.m s.rv (take s.m.g rest) ∷ receptions (drop (i + 1) sends) (drop s.m.g rest)) ≡ outcome task.plan task.limits (receptions sends softs)
 ahead task sends softs i rest s p h at =
     ap (λ (ss : List Sending). outcome_from task.plan task.limits h.seen h.last (receptions ss rest)) (sym (turn_at sends i s at)) ∙ h.left
 
-pub under-way-next : (task : Task) (sends : List Sending) (softs : List ℤ) (i : ℕ) (rest : List ℤ) (s : Sending) (p p' : Progress) (h : IsUnderWay task sends softs i rest p) → slice_get sends i ≡ Some s
+pub under-way-next : (task : Task) (sends : List Sending) (softs : List ℤ) (i : ℕ) (rest : List ℤ) (s : Sending) (p p' : Progress) (h : IsUnderWay task sends softs i rest p)
+    → slice_get sends i ≡ Some s
     → GoesOn task h.seen h.last (reception s.m s.rv (take s.m.g rest)) p' None → IsUnderWay task sends softs (i + 1) (drop s.m.g rest) p'
 under-way-next task sends softs i rest s p p' h at (results, reached, on) =
     let x : Reception = reception s.m s.rv (take s.m.g rest) in
@@ -53,7 +55,8 @@ under-way-next task sends softs i rest s p p' h at (results, reached, on) =
       long = omega (arith, length-drop s.m.g rest, enough sends i rest s at h.long);
     }
 
-pub outcome-delivered : (task : Task) (sends : List Sending) (softs : List ℤ) (i : ℕ) (rest : List ℤ) (s : Sending) (p p' : Progress) (bytes : List ℕ) (h : IsUnderWay task sends softs i rest p) → slice_get sends i ≡ Some s
+pub outcome-delivered : (task : Task) (sends : List Sending) (softs : List ℤ) (i : ℕ) (rest : List ℤ) (s : Sending)
+    (p p' : Progress) (bytes : List ℕ) (h : IsUnderWay task sends softs i rest p) → slice_get sends i ≡ Some s
     → GoesOn task h.seen h.last (reception s.m s.rv (take s.m.g rest)) p' (Some bytes) → Delivered bytes (i + 1) p'.iterations ≡ outcome task.plan task.limits (receptions sends softs)
 outcome-delivered task sends softs i rest s p p' bytes h at on =
     ap (λ (n : ℕ). Delivered bytes (n + 1) p'.iterations) (sym h.count)

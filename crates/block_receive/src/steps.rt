@@ -58,7 +58,7 @@ pub fn try_alone(
     try_blocks(alloc, &decode, task, buffers, held)
 }
 
-/// Returns what the results of a try carry.
+/// Returns what the results of a try carry. Allocates the payload.
 pub fn carried_by(alloc: Global, results: Vec<CodeResult>, plan: &Plan) -> Result<Carried, NoMemory>
     requires { AreBlocksOf plan.now (map (λ x. x.block) results.items) }
     ensures payload { IfOk result (λ c. c.payload ≡ payload_of plan.now results.items) }

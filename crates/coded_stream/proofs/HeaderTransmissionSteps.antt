@@ -75,7 +75,8 @@ pass-none v count place bytes size =
     front : 0 ≡ 0 * described_size v
     front = omega arith
 
-pub pass-more : (v : Version) (count index place : ℕ) (bytes : List ℕ) → index < count → PassTo v count index place bytes → Pass (fields_at v index place bytes) → PassTo v count (index + 1) place bytes
+pub pass-more : (v : Version) (count index place : ℕ) (bytes : List ℕ) → index < count
+    → PassTo v count index place bytes → Pass (fields_at v index place bytes) → PassTo v count (index + 1) place bytes
 pass-more v count index place bytes less before pass size =
     before size ∙ ap (first_refusal size) (fields-step v count index place bytes less)
     ∙ refused_after_pass size (fields_at v index place bytes) _ (all_pass size (fields_at v index place bytes) (pass size))

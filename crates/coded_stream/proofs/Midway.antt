@@ -71,7 +71,8 @@ midway-stops kind start payload g turn place gs bytes unit input old mid new sto
         (λ few. (
           4 + length bytes + length m.left + 1,
           same ∙ step-cut kind start (record { payload = payload; bytes = bytes }) g (drop (turn + 1) gs) m.left (omega (arith, few, long))
-              ∙ same_refusal 6 (start + (4 + length bytes + length m.left)) (place + length m.left) (4 + length bytes + length m.left) (4 + (length bytes + length m.left)) (4 + length bytes + length m.left + 1)
+              ∙ same_refusal 6 (start + (4 + length bytes + length m.left)) (place + length m.left)
+              (4 + length bytes + length m.left) (4 + (length bytes + length m.left)) (4 + length bytes + length m.left + 1)
               (4 + length bytes + length m.left + 1) (omega (arith, at)) (omega arith) refl,
         ))
         (λ n few came.

@@ -151,7 +151,8 @@ first-stops want place before left unit input old mid new stop took mid_is input
 pub second-stops : (v : Version) (place : ℕ) (unit bytes input : List ℕ) (old new : Option (List ℕ)) (stop : StreamStop) → old ≡ Some input → place ≡ first_size v
     → length bytes ≡ count_in v unit * described_size v → EndsInUnit place old new bytes stop → StopsInSecond v (second_opening v unit input) old new stop
 second-stops v place unit bytes input old new stop is at long ends =
-    unit-stops (λ r. second_opening v unit input ≡ refuses (record r { size = first_size v + r.size })) (λ (n : ℕ). first_size v + n < opening_due (second_opening v unit input)) place input bytes old new stop is
+    unit-stops (λ r. second_opening v unit input ≡ refuses (record r { size = first_size v + r.size }))
+    (λ (n : ℕ). first_size v + n < opening_due (second_opening v unit input)) place input bytes old new stop is
     (λ few. (
       first_size v + length input + 1,
       second-short v unit input (omega (arith, few, long))
@@ -163,7 +164,8 @@ second-stops v place unit bytes input old new stop is at long ends =
 
 -- the second, which came whole
 pub second-told : (v : Version) (place : ℕ) (unit bytes left input : List ℕ) (old new : Option (List ℕ)) (r : Result (List Sending) StreamStop) → old ≡ Some (bytes ++ left) → new ≡ Some left
-    → input ≡ bytes ++ left → place ≡ first_size v → length bytes ≡ count_in v unit * described_size v → TransmissionsAreRead v unit (count_in v unit) place bytes r → TakesSecond v unit input old new r
+    → input ≡ bytes ++ left → place ≡ first_size v → length bytes ≡ count_in v unit * described_size v
+    → TransmissionsAreRead v unit (count_in v unit) place bytes r → TakesSecond v unit input old new r
 second-told v place unit bytes left input old new r old_is new_is input_is at long read = by_result r read
   where
     size : ℕ

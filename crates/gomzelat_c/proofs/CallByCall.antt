@@ -120,7 +120,8 @@ digits-part : (plan : Plan) (results : List CodeResult) (tail : List ℕ) (r : �
 digits-part plan results tail r are below =
     let g : ℕ → List ℕ = λ q. map digit (get_or results q unpassed).block.bits in
     let shaped : AreShaped plan results = blocks-shaped plan results are in
-    let listed : results ≡ map (λ q. get_or results q unpassed) (range_with_len 0 plan.c) = fill_by_all (λ q. get_or results q unpassed) results plan.c unpassed (blocks-count plan results are) (λ q less. refl) in
+    let listed : results ≡ map (λ q. get_or results q unpassed) (range_with_len 0 plan.c) = fill_by_all
+    (λ q. get_or results q unpassed) results plan.c unpassed (blocks-count plan results are) (λ q less. refl) in
     let flat : digits_of results ≡ flat_map g (range_with_len 0 plan.c) = ap digits_of listed ∙ flat_map-map (λ x. map digit x.block.bits) (λ q. get_or results q unpassed) (range_with_len 0 plan.c) in
     ap (λ (ds : List ℕ). part (size plan) (ds ++ tail) r) flat
     ∙ part-is (size plan) g plan.c tail (λ q less. length-map (get_or results q unpassed).block.bits digit ∙ (let h = shaped q less in h.long)) r below
@@ -280,7 +281,8 @@ one-more bytes rec t ts values xs last s n is count rest =
     let sent : Sending = transmission_of (limit_in rec.n_ir) t in
     ap (λ (rs : List CodeResult). cond (delivers plan rs) (Delivered (payload_of plan rs) (suc n) (iterations_of rs)) later) results
     ∙ ap (λ (m : ℕ). cond (delivers plan new) (Delivered (payload_of plan new) m (iterations_of new)) later) longer
-    ∙ ap (λ (o : TbOutcome). cond (delivers plan new) (Delivered (payload_of plan new) (length now) (iterations_of new)) o) (rest ∙ ap (λ (rs : List CodeResult). outcome_from plan e now rs left) results)
+    ∙ ap (λ (o : TbOutcome). cond (delivers plan new) (Delivered (payload_of plan new) (length now) (iterations_of new)) o)
+    (rest ∙ ap (λ (rs : List CodeResult). outcome_from plan e now rs left) results)
     ∙ ap (λ (ys : List Reception). outcome_from plan e xs last (x ∷ ys)) (ap (receptions sends) (sym (drop-map (clamped 127) t.g values)))
     ∙ ap (λ (vs : List ℤ). outcome_from plan e xs last (reception sent.m sent.rv vs ∷ receptions sends (drop t.g (map (clamped 127) values)))) (sym (take-map (clamped 127) t.g values))
 

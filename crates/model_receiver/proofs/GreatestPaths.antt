@@ -7,6 +7,7 @@ use Rattle.lte_bits.specs.declared.bit.Bit.TheVariants.{Zero, One}
 use Rattle.model_sender.specs.Bits.{plus, at}
 use Rattle.model_sender.specs.ConstituentCoder.{State, next, zero_state}
 use Rattle.model_sender.specs.Tail.{reached}
+use Rattle.model_sender.proofs.Coder.{added_twice}
 use Rattle.model_receiver.specs.Borders.{state, states}
 use Rattle.model_receiver.specs.Paths.{Window, width, Path, path, end_state, bit_lists, paths, same_bit, same_state, greatest_of_paths, IsGreatest, IsBest, IsBestTo, IsBestFrom, best, best_to, best_from, score_without, from_start, to_end}
 use Rattle.model_receiver.proofs.Members.{Member, member-append_left, member-append_right, member-append_cases, member-map, member-unmap, member-flat_map, member-unflat_map}
@@ -102,19 +103,9 @@ put (suc n) zero b h = (b ∷ replicate n Zero, ap suc (zeros n), refl)
     zeros (suc n) = ap suc (zeros n)
 put (suc n) (suc j) b h = let w = put n j b (omega (arith, h)) in (Zero ∷ w.0, ap suc w.1, w.2)
 
-undone : (a c r : Bit) → plus (plus (plus (plus a c) r) c) r ≡ a
-undone Zero Zero Zero = refl
-undone Zero Zero One = refl
-undone Zero One Zero = refl
-undone Zero One One = refl
-undone One Zero Zero = refl
-undone One Zero One = refl
-undone One One Zero = refl
-undone One One One = refl
-
 -- the state before s whose oldest bit is r, and the input that leads from it to s
 pub next-before : (s : State) (r : Bit) → next (state s.a2 s.a3 r) (plus (plus s.a1 s.a3) r) ≡ s
-next-before s r = ap (λ a. state a s.a2 s.a3) (undone s.a1 s.a3 r)
+next-before s r = ap (λ a. state a s.a2 s.a3) (added_twice s.a1 s.a3 r)
 
 pub ends_in : (n : ℕ) (s : State) → (p : Path) × (length p.bits ≡ n) × (end_state p ≡ s)
 ends_in zero s = (path s [], refl, refl)

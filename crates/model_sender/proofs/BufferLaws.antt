@@ -13,13 +13,13 @@ use Rattle.model_sender.proofs.PaddedStreams.{IsStream, read_place-below, padded
 
 -- ---- the places of w
 
-abbrev d0 : ℕ → ℕ → Stream
+abbrev pub d0 : ℕ → ℕ → Stream
 d0 k fill = record { k = k; number = 0; nulls = fill }
 
-abbrev d1 : ℕ → ℕ → Stream
+abbrev pub d1 : ℕ → ℕ → Stream
 d1 k fill = record { k = k; number = 1; nulls = fill }
 
-abbrev d2 : ℕ → Stream
+abbrev pub d2 : ℕ → Stream
 d2 k = record { k = k; number = 2; nulls = 0 }
 
 -- where v2 stands that is taken after place j of v1

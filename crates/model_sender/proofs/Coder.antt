@@ -1,8 +1,20 @@
 -- The two lists of the coder satisfy its equations, and are the only ones.
 use Rattle.std.proofs.Common.{◌≡◌, ℕ, zero, suc, ◌<◌, List, [], ◌∷◌, length, refl, ap, ◌∙◌, arith}
 use Rattle.lte_bits.specs.declared.bit.Bit.{Bit}
+use Rattle.lte_bits.specs.declared.bit.Bit.TheVariants.{Zero, One}
 use Rattle.model_sender.specs.Bits.{plus, at}
 use Rattle.model_sender.specs.ConstituentCoder.{State, IsCoderFrom, past, value, parity, next, values_from, parities_from}
+
+-- what was added twice is gone
+pub added_twice : (x a b : Bit) → plus (plus (plus (plus x a) b) a) b ≡ x
+added_twice Zero Zero Zero = refl
+added_twice Zero Zero One = refl
+added_twice Zero One Zero = refl
+added_twice Zero One One = refl
+added_twice One Zero Zero = refl
+added_twice One Zero One = refl
+added_twice One One Zero = refl
+added_twice One One One = refl
 
 abbrev pub IsMadeFrom : State → List Bit → Type 0
 IsMadeFrom s c = IsCoderFrom s c (values_from s c) (parities_from s c)

@@ -55,7 +55,8 @@ fn point(bits: &[Bit]) -> Point
     }
 }
 
-/// Returns the points of bits, `qm` bits each: 2, 4 or 6, which divides their number.
+/// Returns the points of bits, `qm` bits each: 2, 4 or 6, which divides their number (36.211, 7.1.2 to
+/// 7.1.4). Allocates the points.
 pub fn map(alloc: Global, bits: &[Bit], qm: u8) -> Result<List<Point>, NoMemory>
     requires order { IsModulationOrder qm }
     requires whole { length bits.now % qm ≡ 0 }

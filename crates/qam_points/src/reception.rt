@@ -35,7 +35,8 @@ fn received(sent: Point, amp: u8, terms: &[i16], s: usize) -> Point
     }
 }
 
-/// Turns points that are sent into those that are received: with an amplitude, and a term on each coordinate.
+/// Turns points that are sent into those that are received: with an amplitude, and a term on each
+/// coordinate, of which there are two for each point. Allocates nothing.
 pub fn receive(points: &mut [Point], amp: u8, terms: &[i16])
     requires amp { amp ≤ 127 }
     requires small { All IsSmall points.old }

@@ -6,7 +6,7 @@ use Rattle.std.proofs.lemmas.Nat.{div-mul-add, mod-mul-add, mod_below}
 use Rattle.std.proofs.Math.Nat.{div-add-mod, mod-eq_of_lt, div-lt_iff_lt-mul}
 use Rattle.model_sender.specs.declared.spot.Spot.{Spot}
 use Rattle.model_sender.specs.CircularBuffer.{Stream, buffer_size, column_order, padded, padding, read_place, rows_of, spot}
-use Rattle.model_sender.proofs.BufferLaws.{spot-first, spot-second, spot-third, spot-within}
+use Rattle.model_sender.proofs.BufferLaws.{d0, d1, d2, spot-first, spot-second, spot-third, spot-within}
 use Rattle.model_sender.proofs.PaddedStreams.{column-below}
 use Rattle.rate_match.specs.Cursor.{IsInColumn, order_of, cursor_at, rows_down, spot_down}
 use Rattle.rate_match.specs.Runs.{IsRun, bit_down}
@@ -81,15 +81,6 @@ pub down-at : (r : ℕ) (c : Cursor) (i : ℕ) → c ≡ cursor_at r c.n → ord
 down-at r c i is within inside d = let at = in_column r c i is within inside in made (c.n + i) (sym at.column d) (sym at.place d)
 
 -- ---- the bits there
-
-abbrev d0 : ℕ → ℕ → Stream
-d0 k fill = record { k = k; number = 0; nulls = fill }
-
-abbrev d1 : ℕ → ℕ → Stream
-d1 k fill = record { k = k; number = 1; nulls = fill }
-
-abbrev d2 : ℕ → Stream
-d2 k = record { k = k; number = 2; nulls = 0 }
 
 a-bit : (d : Stream) (p i : ℕ) → padding d.k + d.nulls ≤ p → i + padding d.k ≡ p → padded d p ≡ Some (record { stream = d.number; index = i })
 a-bit d p i above at =
@@ -256,7 +247,8 @@ down-again r k c i =
                       ∙ sym (spot_down-second r k c i later (omega (arith, even)))
                   | inr odd ↦
                       begins ∙ bit_up-third (index_down r k c 0 + 1) i (omega (arith, odd, next, one, rest))
-                      ∙ ap (bit_of 2) (let e : index_down r k c 0 + 1 + 32 * ((1 + i) / 2) + 1 - 1 ≡ index_down r k c i + 1 = omega (arith, down-later r c 0 later, down-later r c i later, one, rest) in e)
+                      ∙ ap (bit_of 2) (let e : index_down r k c 0 + 1 + 32 * ((1 + i) / 2) + 1 - 1 ≡ index_down r k c i + 1 = omega
+                      (arith, down-later r c 0 later, down-later r c i later, one, rest) in e)
                       ∙ sym (spot_down-third r k c i later (omega (arith, odd, next)))
                 ]
           ]

@@ -32,7 +32,8 @@ impl<'a> Model for Coded<'a> {
 }
 
 impl<'a> Coded<'a> {
-    /// Cuts a payload into code blocks, and codes each.
+    /// Cuts a payload into code blocks (36.212, 5.1.1 and 5.1.2), and codes each (5.1.3). Allocates the
+    /// coded streams of all blocks.
     pub fn new(alloc: Global, payload: &'a [u8]) -> Result<Coded<'a>, NoMemory>
         requires some { 1 ≤ length payload.now }
         requires few { length payload.now ≤ 18722 }
@@ -49,8 +50,8 @@ impl<'a> Coded<'a> {
         Ok(Coded { payload, streams })
     }
 
-    /// Returns the G bits that redundancy version `rv`, 0 to 3, sends, where the buffer fits the payload's
-    /// plan.
+    /// Returns the G bits that redundancy version `rv`, 0 to 3, sends (36.212, 5.1.4.1 and 5.1.5), where
+    /// the buffer fits the payload's plan. Allocates these bits.
     pub fn codeword(&self, alloc: Global, m: &Match, rv: u8) -> Result<List<Bit>, NoMemory>
         requires fits { Fits m.now (plan_of (length self.now)) }
         requires version { rv ≤ 3 }

@@ -9,8 +9,8 @@ use crate::numbers::rows_of;
 use segmentation::plan;
 use segmentation::plans::Plan;
 
-/// Returns whether the buffer is full, or its part for each code block holds all of the first stream of the
-/// largest block.
+/// Returns whether the buffer is full, or its part for each code block, N_cb (36.212, 5.1.4.1.2), holds all
+/// of the first stream of the largest block.
 pub fn fits_buffer(buffer: Buffer, plan: &Plan) -> bool
     ensures { IsTrue result ↔ FitsIn (limit_of buffer) plan.now.c plan.now.k_plus }
 {

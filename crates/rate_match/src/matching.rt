@@ -6,7 +6,7 @@ use std::error::Error;
 use std::fmt;
 use std::marker::Model;
 
-/// The soft buffer that the receiver has for a transport block.
+/// The soft buffer that the receiver has for a transport block: N_IR of 36.212, 5.1.4.1.2.
 #[derive(Clone, Copy, Debug, PartialEq, Eq, Hash)]
 pub enum Buffer {
     /// The whole circular buffer of each code block.
@@ -15,8 +15,9 @@ pub enum Buffer {
     Limited(u32),
 }
 
-/// Q_m, the bits of a modulation symbol, 2, 4 or 6; N_L, the layers, 1 or 2; G, the bits of the
-/// codeword, from 1 to 1,000,000 and a multiple of N_L * Q_m; and the soft buffer.
+/// What rate matching is told of a transmission (36.212, 5.1.4.1.2): Q_m, the bits of a modulation symbol,
+/// 2, 4 or 6; N_L, the layers, 1 or 2; G, the bits of the codeword, from 1 to 1,000,000 and a multiple of
+/// N_L * Q_m; and the soft buffer.
 #[derive(Clone, Copy, Debug, PartialEq, Eq)]
 pub struct Match {
     qm: u8,

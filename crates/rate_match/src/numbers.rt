@@ -21,7 +21,8 @@ pub(crate) fn rows_of(k: usize) -> usize
     (k + 4).div_ceil(32)
 }
 
-/// Returns N_cb of block `r`, the places of its buffer from which it sends; `r` is below C.
+/// Returns N_cb of block `r`, the places of its buffer from which it sends (36.212, 5.1.4.1.2); `r` is
+/// below C.
 pub fn buffer_len(m: &Match, plan: &Plan, r: usize) -> usize
     requires { r < plan.now.c }
     ensures value { result ≡ buffer_length m.now.limit plan.now.c (size plan.now r) }
@@ -35,7 +36,7 @@ pub fn buffer_len(m: &Match, plan: &Plan, r: usize) -> usize
     }
 }
 
-/// Returns E_r, the bits that block `r` sends; `r` is below C. They are G together.
+/// Returns E_r, the bits that block `r` sends (36.212, 5.1.4.1.2); `r` is below C. They are G together.
 pub fn piece_len(m: &Match, plan: &Plan, r: usize) -> usize
     requires { r < plan.now.c }
     ensures value { result ≡ piece_length m.now plan.now.c r }
@@ -51,8 +52,8 @@ pub fn piece_len(m: &Match, plan: &Plan, r: usize) -> usize
     }
 }
 
-/// Returns k0, the place where redundancy version `rv`, 0 to 3, starts in a buffer of `ncb` places of a block
-/// of `k` bits. K is one of the 188 sizes, and `ncb` is 1 to K_w.
+/// Returns k0, the place where redundancy version `rv`, 0 to 3, starts in a buffer of `ncb` places of a
+/// block of `k` bits (36.212, 5.1.4.1.2). K is one of the 188 sizes, and `ncb` is 1 to K_w.
 pub fn start(k: usize, ncb: usize, rv: u8) -> usize
     requires size { Contains sizes k }
     requires some { 1 ≤ ncb }

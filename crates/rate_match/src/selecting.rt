@@ -23,8 +23,8 @@ use segmentation::plans::Plan;
 use std::alloc::Global;
 
 /// Returns the bit of d0, d1 or d2 that stands at place `n` of the circular buffer of a block of `k` bits,
-/// the first `fill` of which are fillers. `None` comes exactly where NULL stands there. K is one of the 188
-/// sizes, `fill` is below K, and `n` is below K_w.
+/// the first `fill` of which are fillers (36.212, 5.1.4.1.1 and 5.1.4.1.2). `None` comes exactly where NULL
+/// stands there. K is one of the 188 sizes, `fill` is below K, and `n` is below K_w.
 pub fn spot(k: usize, fill: usize, n: usize) -> Option<Spot>
     requires size { Contains sizes k }
     requires fills { fill < k }
@@ -124,9 +124,9 @@ pub(crate) fn push_piece(
     Ok(())
 }
 
-/// Returns the E_r bits that redundancy version `rv` sends of block `r`, whose coded streams these are: of
-/// the block's length, NULL at its fillers in d0 and d1, and nowhere in d2. `r` is below C, the buffer fits
-/// the plan, and `rv` is 0 to 3.
+/// Returns the E_r bits that redundancy version `rv` sends of block `r` (36.212, 5.1.4.1.2), whose coded
+/// streams these are: of the block's length, NULL at its fillers in d0 and d1, and nowhere in d2. `r` is
+/// below C, the buffer fits the plan, and `rv` is 0 to 3. Allocates these bits.
 pub fn select(
     alloc: Global,
     streams: &Streams,

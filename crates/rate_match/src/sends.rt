@@ -17,7 +17,8 @@ pub struct Sending {
     pub rv: u8,
 }
 
-/// One to eight transmissions, all with the same soft buffer, in the order in which they are sent.
+/// One to eight transmissions, all with the same soft buffer, in the order in which they are sent. None of
+/// its calls allocates.
 #[derive(Clone, Copy, Debug, PartialEq, Eq)]
 pub struct Sends {
     values: [Sending; MOST],

@@ -6,7 +6,7 @@ use crate::cursor::Cursor;
 use crate::rings::Ring;
 use crate::runs::Run;
 
-/// A walk round a ring: the place that comes next.
+/// A walk round the circular buffer, as bits are selected in 36.212, 5.1.4.1.2: the place that comes next.
 #[derive(Clone, Copy)]
 pub struct Walk {
     pub ring: Ring,
@@ -21,7 +21,7 @@ impl Walk {
     ghost use Rattle.rate_match.specs.Runs.{IsRun, run_places};
     ghost use Rattle.rate_match.specs.Walk.{places_from};
 
-    /// Returns a walk that begins at place `start`, round and round.
+    /// Returns a walk that begins at place `start`, counted round and round.
     pub fn new(ring: Ring, start: usize) -> Walk
         ensures ring { result.ring ≡ ring }
         ensures places { (e : ℕ) → places_from result e
@@ -33,7 +33,7 @@ impl Walk {
         }
     }
 
-    /// Returns the next bits, `most` at most, and goes on behind them.
+    /// Returns the next bits, `most` at most, and goes on after them.
     pub fn next_run(&mut self, most: usize) -> Run
         requires { 0 < most }
         ensures ring { self.new.ring ≡ self.old.ring }

@@ -5,18 +5,8 @@ use Rattle.lte_bits.specs.declared.bit.Bit.TheVariants.{Zero, One}
 use Rattle.model_sender.specs.Bits.{plus}
 use Rattle.model_sender.specs.ConstituentCoder.{State, next}
 use Rattle.model_sender.specs.Tail.{reached}
+use Rattle.model_sender.proofs.Coder.{added_twice}
 use Rattle.rsc_trellis.specs.Steps.{state_before, input_before}
-
--- what was added twice is gone
-pub added_twice : (x a b : Bit) → plus (plus (plus (plus x a) b) a) b ≡ x
-added_twice Zero Zero Zero = refl
-added_twice Zero Zero One = refl
-added_twice Zero One Zero = refl
-added_twice Zero One One = refl
-added_twice One Zero Zero = refl
-added_twice One Zero One = refl
-added_twice One One Zero = refl
-added_twice One One One = refl
 
 with_bits : Bit → Bit → Bit → State
 with_bits a b c = record { a1 = a; a2 = b; a3 = c }
@@ -24,17 +14,7 @@ with_bits a b c = record { a1 = a; a2 = b; a3 = c }
 -- the state before and its input lead to the state
 pub next-before : (s : State) (r : Bit) → next (state_before s r) (input_before s r) ≡ s
 unfolding with_bits
-next-before s r = ap (λ a. with_bits a s.a2 s.a3) (undone s.a1 s.a3 r)
-  where
-    undone : (a c r : Bit) → plus (plus (plus (plus a c) r) c) r ≡ a
-    undone Zero Zero Zero = refl
-    undone Zero Zero One = refl
-    undone Zero One Zero = refl
-    undone Zero One One = refl
-    undone One Zero Zero = refl
-    undone One Zero One = refl
-    undone One One Zero = refl
-    undone One One One = refl
+next-before s r = ap (λ a. with_bits a s.a2 s.a3) (added_twice s.a1 s.a3 r)
 
 -- and the state after a step has that state and input before it
 pub input-next : (s : State) (u : Bit) → input_before (next s u) s.a3 ≡ u

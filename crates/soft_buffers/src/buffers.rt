@@ -17,8 +17,9 @@ use segmentation::{fill, size};
 use std::alloc::Global;
 use std::marker::Model;
 
-/// A cell for each bit of the coded streams of each code block of a transport block. The cells keep, for
-/// each bit, the sum of the soft values that came of it, from -127 to 127.
+/// The soft cells of a transport block: one for each bit of the coded streams of each code block, 3 (K + 4)
+/// a block. A cell keeps the sum of the soft values that were received of its bit, clamped to -127 to 127
+/// at each addition.
 #[derive(Drop)]
 pub struct HarqBuffers {
     plan: Plan,
@@ -48,7 +49,7 @@ fn fresh_cells(alloc: Global, k: usize) -> Result<List<Soft>, NoMemory>
 
 impl HarqBuffers {
     /// Returns the buffers of a transport block of this plan, which the soft buffer fits, before the first
-    /// transmission: every cell is 0.
+    /// transmission: every cell is 0. Allocates a byte for each cell.
     pub fn new(alloc: Global, plan: &Plan, buffer: Buffer) -> Result<HarqBuffers, NoMemory>
         requires { FitsIn (limit_of buffer) plan.now.c plan.now.k_plus }
         ensures plan { IfOk result (λ b. b.plan ≡ plan.now) }
@@ -66,8 +67,8 @@ impl HarqBuffers {
         })
     }
 
-    /// Returns the buffers of a transport block of this plan, which the soft buffer fits, with the cells that
-    /// stand first in `cells`, block after block.
+    /// Returns the buffers of a transport block of this plan, which the soft buffer fits, with the cells
+    /// that stand first in `cells`, block after block. Allocates a byte for each cell.
     pub fn from_cells(
         alloc: Global,
         plan: &Plan,
@@ -87,7 +88,7 @@ impl HarqBuffers {
         })
     }
 
-    /// Returns all cells, block after block.
+    /// Returns all cells, block after block, in a list of their own.
     pub fn cells(&self, alloc: Global) -> Result<List<Soft>, NoMemory>
         ensures { IfOk result (λ cells. cells ≡ flat_map (λ block. block) self.now.cells) }
     {
@@ -96,7 +97,8 @@ impl HarqBuffers {
 
     /// Takes the G soft values of one transmission more, sent with redundancy version `rv`, 0 to 3, by a
     /// matching with this soft buffer. Each is added to the cell of the bit that the sender takes at its
-    /// place of the codeword, and the sum is clamped at once.
+    /// place of the codeword (36.212, 5.1.4.1.2 and 5.1.5), and the sum is clamped at once. Allocates
+    /// nothing.
     pub fn combine(&mut self, m: &Match, rv: u8, softs: &[Soft])
         requires buffer { m.now.limit ≡ self.old.limit }
         requires version { rv ≤ 3 }
@@ -110,8 +112,8 @@ impl HarqBuffers {
         add_codeword(self.blocks.as_mut_slice(), &self.plan, m, rv, softs);
     }
 
-    /// Returns the soft streams of block `r`, which is below C: its cells, with 127 at the fillers of d0 and
-    /// 0 at those of d1.
+    /// Returns the soft streams of block `r`, which is below C: its cells, with 127 at the fillers of d0
+    /// and 0 at those of d1. Allocates the three streams, of K + 4 values each.
     pub fn streams(&self, alloc: Global, r: usize) -> Result<SoftStreams, NoMemory>
         requires { r < self.now.plan.c }
         ensures cells { IfOk result (λ streams. streams ≡ streams_of_cells (size self.now.plan r)

@@ -19,7 +19,7 @@ fn cells_in(plan: &Plan, r: usize) -> usize
     3 * (size(plan, r) + 4)
 }
 
-/// Returns the cells of all code blocks of a transport block, at most 461,100.
+/// Returns how many cells all code blocks of a transport block have, at most 461,100.
 pub fn cell_count(plan: &Plan) -> usize
     ensures { result ≡ cell_count plan.now }
 {

@@ -5,7 +5,7 @@ ghost use Rattle.model_receiver.specs.SoftCells.{Reception};
 ghost use Rattle.soft_buffers.specs.Buffers.{AreLong, HaveTaken};
 ghost use Rattle.soft_buffers.specs.Flat.{by_block, cell_count, combined};
 
-/// The cells of all blocks that have taken a reception are the combined ones.
+/// The cells of all blocks that have taken a reception are the combined ones. The call does nothing.
 pub fn combined_is_the_one()
     ensures is { (plan : Plan) (x : Reception) (cells tail : List ℤ) →
         HaveTaken plan x (by_block plan cells) (by_block plan (combined plan x cells ++ tail)) }

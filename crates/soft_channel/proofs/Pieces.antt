@@ -19,7 +19,8 @@ joined {X} f g a (suc n) h =
     ∙ ap (λ m. map f (range_with_len 0 m)) (let e : a + n + 1 ≡ a + suc n = omega arith in e)
 
 -- a chunk more
-pub chunk_more : {X : Type 0} (f g : ℕ → X) (old new : List X) (a n b : ℕ) → old ≡ map f (range_with_len 0 a) → new ≡ old ++ map g (range_with_len 0 n) → a + n ≡ b → ((k : ℕ) → k < n → g k ≡ f (a + k)) → new ≡ map f (range_with_len 0 b)
+pub chunk_more : {X : Type 0} (f g : ℕ → X) (old new : List X) (a n b : ℕ) → old ≡ map f (range_with_len 0 a)
+    → new ≡ old ++ map g (range_with_len 0 n) → a + n ≡ b → ((k : ℕ) → k < n → g k ≡ f (a + k)) → new ≡ map f (range_with_len 0 b)
 chunk_more {X} f g old new a n b is push sum same =
     push ∙ ap (λ (xs : List X). xs ++ map g (range_with_len 0 n)) is
     ∙ joined f g a n same

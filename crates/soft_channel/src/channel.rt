@@ -32,7 +32,7 @@ impl Model for NoiseChannel {
 
 impl NoiseChannel {
     /// Returns the soft values that are received of the bits of transmission `tx`, 0 to 7, of a block, both
-    /// counted from 0.
+    /// counted from 0. Allocates a byte for each.
     pub fn noisy(
         &self,
         alloc: Global,
@@ -48,7 +48,7 @@ impl NoiseChannel {
     }
 
     /// Returns the first `count` terms, at most 1,000,000, of the noise on transmission `tx`, 0 to 7, of a
-    /// block, both counted from 0.
+    /// block, both counted from 0. Allocates two bytes for each.
     pub fn terms(
         &self,
         alloc: Global,

@@ -18,6 +18,7 @@ fn lowest_bytes(words: &[u32; CHUNK]) -> [u8; CHUNK]
 }
 
 /// Returns the payload of a trial's block, counted from 0: `length` bytes, 1 to 18,722, from the seed.
+/// Allocates these bytes.
 pub fn payload(alloc: Global, length: usize, seed: u64, block: u32) -> Result<List<u8>, NoMemory>
     requires { (1 ≤ length) × (length ≤ 18722) }
     ensures { IfOk result (λ bytes. bytes ≡ trial_payload seed block length) }

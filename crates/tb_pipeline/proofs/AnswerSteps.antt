@@ -11,7 +11,8 @@ use Rattle.tb_pipeline.proofs.Lists.{only_one}
 use Rattle.tb_pipeline.proofs.Zips.{zip_length, zip_set, at_below}
 
 module _ {J D : Type 0} (answers : J → D → Type 0) where
-  completions_snoc : (jobs : List J) (items : List (Completion J D)) (x : Completion J D) → AreCompletionsFor answers jobs items → IsCompletionFor answers jobs x → AreCompletionsFor answers jobs (items ++ x ∷ [])
+  completions_snoc : (jobs : List J) (items : List (Completion J D)) (x : Completion J D)
+      → AreCompletionsFor answers jobs items → IsCompletionFor answers jobs x → AreCompletionsFor answers jobs (items ++ x ∷ [])
   completions_snoc jobs [] x each fits = (fits, tt)
   completions_snoc jobs (y ∷ items) x each fits = (each.0, completions_snoc jobs items x each.1 fits)
 
@@ -28,7 +29,8 @@ module _ {J D : Type 0} (answers : J → D → Type 0) where
       only zero u e = some-injective None u e
       only (suc j) u e = absurd (some-ne-none u (sym e))
 
-  pub opens_one : (n pass : ℕ) (v : Option (List J)) (x : Completion J D) (jobs : List J) → v ≡ None → jobs_of x ≡ Some jobs → IsCompletionFor answers jobs x → Pushes (IsAnswered answers) n pass v x (opens v x)
+  pub opens_one : (n pass : ℕ) (v : Option (List J)) (x : Completion J D) (jobs : List J) → v ≡ None
+      → jobs_of x ≡ Some jobs → IsCompletionFor answers jobs x → Pushes (IsAnswered answers) n pass v x (opens v x)
   opens_one n pass v x jobs none asked fits items views room r at =
       let w : Option (List J) = jobs_of x in
       let mine : (items ≡ []) × (length views ≡ 1) = subst (KnowsJobs answers r.jobs items views) none (r.knows pass v at) in (

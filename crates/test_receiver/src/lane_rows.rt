@@ -33,7 +33,8 @@ fn rows<const N: usize, const B: usize>(
 ) -> Result<Vec<[i16; N]>, NoMemory>
     requires size { N ≤ 64 }
     requires bound { B ≤ 511 }
-    ensures { IfOk result (λ rows. AreWithin N B rows.items) }
+    ensures within { IfOk result (λ rows. AreWithin N B rows.items) }
+    ensures long { IfOk result (λ rows. length rows.items ≡ length numbers.now) }
 {
     let most = B as i16;
     let mut rows = vec![in alloc; [0; N]; numbers.len()]?;
@@ -66,7 +67,7 @@ fn decode_lane<const N: usize>(rt: &impl Abort, alloc: Global, lane: usize) -> R
     let mut alpha_out = vec![in alloc; Border::unknown(); N]?;
     let mut beta_out = vec![in alloc; Border::unknown(); N]?;
     let mut scratch = KernelScratch::<N>::new(alloc, 16)?;
-    assert!(rt; sys.len() == 8 && par.len() == 8 && cells.len() == 8 && lane < N);
+    assert!(rt; lane < N);
     let borders = BordersIn {
         alpha: &alpha_in,
         beta: &beta_in,

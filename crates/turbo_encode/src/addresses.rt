@@ -84,7 +84,8 @@ impl Model for InterleaverAddresses {
 }
 
 impl InterleaverAddresses {
-    /// Returns the addresses in code blocks of `k` bits, one of the 188 sizes.
+    /// Returns the addresses in code blocks of `k` bits, one of the 188 sizes (36.212, 5.1.3.2.3).
+    /// Allocates two bytes for each.
     pub fn new(alloc: Global, k: usize) -> Result<InterleaverAddresses, NoMemory>
         requires { Contains sizes k }
         ensures { IfOk result (λ addresses. addresses ≡ k) }
@@ -94,7 +95,8 @@ impl InterleaverAddresses {
         Ok(InterleaverAddresses { places })
     }
 
-    /// Returns the addresses in code blocks of `k` bits, one of the 188 sizes: these, where they are for them.
+    /// Returns the addresses in code blocks of `k` bits, one of the 188 sizes: these, where they are for
+    /// this size, or else newly allocated ones.
     pub fn for_size(self, alloc: Global, k: usize) -> Result<InterleaverAddresses, NoMemory>
         requires { Contains sizes k }
         ensures { IfOk result (λ addresses. addresses ≡ k) }

@@ -1,5 +1,5 @@
 -- Operations on eight lanes of 16 bits, as they are computed and as they are.
-use Rattle.std.proofs.Common.{◌≡◌, List, [], ◌∷◌, ◌++◌, length, map, get_or, refl, ap, ◌∙◌, arith, ℤ, ◌+ℤ◌, ◌-ℤ◌, w16, Bool, true, false, cond}
+use Rattle.std.proofs.Common.{◌≡◌, ℕ, List, [], ◌∷◌, ◌++◌, length, map, get_or, refl, sym, ap, ◌∙◌, arith, ℤ, ◌+ℤ◌, ◌-ℤ◌, w16, Bool, true, false, cond}
 use Rattle.std.specs.Int.{int_max}
 use Rattle.std.proofs.lemmas.Int.{to_z-of_z, ints}
 use lib.Lanes.{pick_l, Each2, zip2, sel_l, top}
@@ -12,7 +12,7 @@ use Rattle.lte_bits.specs.Softs.{IsWithin}
 use Rattle.lte_bits.specs.declared.bit.Bit.{Bit}
 use Rattle.lte_bits.specs.declared.bit.Bit.TheVariants.{Zero, One}
 use Rattle.model_sender.specs.ConstituentCoder.{State, state_number}
-use Rattle.model_receiver.specs.Borders.{state, states, number_for, border_of, if_zero}
+use Rattle.model_receiver.specs.Borders.{state, states, number_for, border_of}
 use Rattle.window_decode.specs.Recursions.{IsBounded}
 use Rattle.window_decode.specs.Lanes.{IsLanes}
 use Rattle.window_decode.proofs.Within.{within-same}
@@ -54,14 +54,6 @@ stored-border g h =
     (to_z-of_z w16 _ (h (state Zero Zero Zero))) (to_z-of_z w16 _ (h (state Zero Zero One))) (to_z-of_z w16 _ (h (state Zero One Zero))) (to_z-of_z w16 _ (h (state Zero One One)))
     (to_z-of_z w16 _ (h (state One Zero Zero))) (to_z-of_z w16 _ (h (state One Zero One))) (to_z-of_z w16 _ (h (state One One Zero))) (to_z-of_z w16 _ (h (state One One One)))
 
--- a value where a bit is 0
-pub where-border : (b : State → Bit) (v : ℤ) → SFits w16 v → map (to_z w16) (map (of_z w16) (border_of (λ s. if_zero (b s) v))) ≡ border_of (λ s. if_zero (b s) v)
-where-border b v h = stored-border (λ s. if_zero (b s) v) (λ s. fits (b s))
-  where
-    fits : (b : Bit) → SFits w16 (if_zero b v)
-    fits Zero = h
-    fits One = search (arith, ints)
-
 -- the number of another state for each state
 pub picked-border : (m : List ℤ) (f : State → State) → IsLanes m
     → map (to_z w16) (pick_l 0 (map (of_z w16) m ++ map (of_z w16) m) (map (λ s. state_number (f s)) states)) ≡ border_of (λ s. number_for m (f s))
@@ -89,6 +81,11 @@ picked-border m f h =
         at One Zero One = stored g (bounded (state One Zero One))
         at One One Zero = stored i (bounded (state One One Zero))
         at One One One = stored j (bounded (state One One One))
+
+-- and where a known bit says which state
+pub picked-by : (m : List ℤ) (to : State → Bit → State) (u b : Bit) (r : List ℕ) → IsLanes m → u ≡ b
+    → r ≡ pick_l 0 (map (of_z w16) m ++ map (of_z w16) m) (map (λ s. state_number (to s b)) states) → map (to_z w16) r ≡ border_of (λ s. number_for m (to s u))
+picked-by m to u b r h e is = ap (map (to_z w16)) is ∙ (picked-border m (λ s. to s b) h ∙ ap (λ (c : Bit). border_of (λ s. number_for m (to s c))) (sym e))
 
 -- ---- sums and differences
 

@@ -3,7 +3,7 @@
 ghost use Rattle.std.specs.Prelude.{◌≡◌, ◌+ℤ◌, ◌-ℤ◌};
 ghost use Rattle.std.specs.Int.{int_max};
 ghost use Rattle.lte_bits.specs.Softs.{IsWithin};
-ghost use Rattle.lte_bits.specs.declared.bit.Bit.TheVariants.{Zero, One};
+ghost use Rattle.lte_bits.specs.declared.bit.Bit.TheVariants.{One};
 ghost use Rattle.model_sender.specs.ConstituentCoder.{zero_state, next, parity};
 ghost use Rattle.rsc_trellis.specs.Steps.{state_before, input_before};
 ghost use Rattle.model_sender.specs.Bits.{plus};
@@ -12,6 +12,7 @@ ghost use Rattle.model_receiver.specs.Paths.{greatest};
 ghost use Rattle.window_decode.specs.Recursions.{IsBounded};
 ghost use Rattle.window_decode.specs.Lanes.{IsLanes};
 
+use lte_bits::Bit;
 use std::simd::prelude::*;
 
 /// Returns the same number for each state.
@@ -62,72 +63,53 @@ pub fn above_zero(a: i16x8) -> i16x8
     a.strict_sub(of_state_zero(a))
 }
 
-/// Returns for each state the number of the state before it whose oldest value is 0.
+/// Returns for each state the number of the state before it whose oldest value is `oldest`.
 #[inline]
-pub fn before_by_zero(a: i16x8) -> i16x8
+pub fn before_by(oldest: Bit, a: i16x8) -> i16x8
     requires { IsLanes a }
-    ensures { result ≡ border_of (λ s. number_for a (state_before s Zero)) }
+    ensures { result ≡ border_of (λ s. number_for a (state_before s oldest)) }
 {
-    a.swizzle([0, 2, 4, 6, 0, 2, 4, 6])
+    match oldest {
+        Bit::Zero => a.swizzle([0, 2, 4, 6, 0, 2, 4, 6]),
+        Bit::One => a.swizzle([1, 3, 5, 7, 1, 3, 5, 7]),
+    }
 }
 
-/// Returns for each state the number of the state before it whose oldest value is 1.
+/// Returns for each state the number of the state after an input.
 #[inline]
-pub fn before_by_one(a: i16x8) -> i16x8
+pub fn after_by(input: Bit, a: i16x8) -> i16x8
     requires { IsLanes a }
-    ensures { result ≡ border_of (λ s. number_for a (state_before s One)) }
+    ensures { result ≡ border_of (λ s. number_for a (next s input)) }
 {
-    a.swizzle([1, 3, 5, 7, 1, 3, 5, 7])
+    match input {
+        Bit::Zero => a.swizzle([0, 4, 5, 1, 2, 6, 7, 3]),
+        Bit::One => a.swizzle([4, 0, 1, 5, 6, 2, 3, 7]),
+    }
 }
 
-/// Returns for each state the number of the state after the input 0.
+/// Returns what the input earns that leads to each state from the state before it whose oldest value is
+/// `oldest`.
 #[inline]
-pub fn after_zero(a: i16x8) -> i16x8
-    requires { IsLanes a }
-    ensures { result ≡ border_of (λ s. number_for a (next s Zero)) }
+pub fn input_by(oldest: Bit, value: i16) -> i16x8
+    ensures { result ≡ border_of (λ s. if_zero (input_before s oldest) value) }
 {
-    a.swizzle([0, 4, 5, 1, 2, 6, 7, 3])
+    let value = i16x8::splat(value);
+    match oldest {
+        Bit::Zero => value.shuffle(i16x8::splat(0), [0, 8, 0, 8, 8, 0, 8, 0]),
+        Bit::One => value.shuffle(i16x8::splat(0), [8, 0, 8, 0, 0, 8, 0, 8]),
+    }
 }
 
-/// Returns for each state the number of the state after the input 1.
+/// Returns what the parity bit of an input earns from each state.
 #[inline]
-pub fn after_one(a: i16x8) -> i16x8
-    requires { IsLanes a }
-    ensures { result ≡ border_of (λ s. number_for a (next s One)) }
+pub fn parity_of(input: Bit, value: i16) -> i16x8
+    ensures { result ≡ border_of (λ s. if_zero (parity s input) value) }
 {
-    a.swizzle([4, 0, 1, 5, 6, 2, 3, 7])
-}
-
-/// Returns what the input earns that leads to each state from the state before it whose oldest value is 0.
-#[inline]
-pub fn input_by_zero(value: i16) -> i16x8
-    ensures { result ≡ border_of (λ s. if_zero (input_before s Zero) value) }
-{
-    i16x8::splat(value).shuffle(i16x8::splat(0), [0, 8, 0, 8, 8, 0, 8, 0])
-}
-
-/// Returns what the input earns that leads to each state from the state before it whose oldest value is 1.
-#[inline]
-pub fn input_by_one(value: i16) -> i16x8
-    ensures { result ≡ border_of (λ s. if_zero (input_before s One) value) }
-{
-    i16x8::splat(value).shuffle(i16x8::splat(0), [8, 0, 8, 0, 0, 8, 0, 8])
-}
-
-/// Returns what the parity bit of the input 0 earns from each state.
-#[inline]
-pub fn parity_of_zero(value: i16) -> i16x8
-    ensures { result ≡ border_of (λ s. if_zero (parity s Zero) value) }
-{
-    i16x8::splat(value).shuffle(i16x8::splat(0), [0, 0, 8, 8, 8, 8, 0, 0])
-}
-
-/// Returns what the parity bit of the input 1 earns from each state.
-#[inline]
-pub fn parity_of_one(value: i16) -> i16x8
-    ensures { result ≡ border_of (λ s. if_zero (parity s One) value) }
-{
-    i16x8::splat(value).shuffle(i16x8::splat(0), [8, 8, 0, 0, 0, 0, 8, 8])
+    let value = i16x8::splat(value);
+    match input {
+        Bit::Zero => value.shuffle(i16x8::splat(0), [0, 0, 8, 8, 8, 8, 0, 0]),
+        Bit::One => value.shuffle(i16x8::splat(0), [8, 8, 0, 0, 0, 0, 8, 8]),
+    }
 }
 
 /// Returns the numbers of the states whose newest value is the other.

@@ -8,32 +8,22 @@ ghost use Rattle.window_decode.specs.Recursions.{step_gain, way_in, forward, bac
 ghost use Rattle.window_decode.specs.Lanes.{IsRelative};
 
 use crate::lanes::{
-    above_zero, after_one, after_zero, all, before_by_one, before_by_zero, greatest, input_by_one,
-    input_by_zero, larger, parity_of_one, parity_of_zero, sum,
+    above_zero, after_by, all, before_by, greatest, input_by, larger, parity_of, sum,
 };
 use crate::step::Step;
+use lte_bits::Bit;
 use std::simd::prelude::*;
 
-/// Returns the metrics with which paths come to each state from the one before it whose oldest value is 0.
+/// Returns the metrics with which paths come to each state from the one before it whose oldest value is
+/// `oldest`.
 #[inline]
-fn alpha_branch_zero(before: i16x8, step: Step) -> i16x8
+fn alpha_branch(oldest: Bit, before: i16x8, step: Step) -> i16x8
     requires { IsRelative before }
     ensures { result ≡ border_of
-        (λ s. way_in (number_for before) (step_gain step.input step.parity) s Zero) }
+        (λ s. way_in (number_for before) (step_gain step.input step.parity) s oldest) }
 {
-    let gain = sum(input_by_zero(step.input), parity_of_zero(step.parity));
-    sum(before_by_zero(before), gain)
-}
-
-/// Returns the metrics with which paths come to each state from the one before it whose oldest value is 1.
-#[inline]
-fn alpha_branch_one(before: i16x8, step: Step) -> i16x8
-    requires { IsRelative before }
-    ensures { result ≡ border_of
-        (λ s. way_in (number_for before) (step_gain step.input step.parity) s One) }
-{
-    let gain = sum(input_by_one(step.input), parity_of_one(step.parity));
-    sum(before_by_one(before), gain)
+    let gain = sum(input_by(oldest, step.input), parity_of(oldest, step.parity));
+    sum(before_by(oldest, before), gain)
 }
 
 /// Returns the forward metrics after a step, relative to that of state 0, from those before it.
@@ -42,32 +32,21 @@ pub fn forward(before: i16x8, step: Step) -> i16x8
     requires { IsRelative before }
     ensures { result ≡ relative (forward (number_for before) (step_gain step.input step.parity)) }
 {
-    let zero = alpha_branch_zero(before, step);
-    let one = alpha_branch_one(before, step);
+    let zero = alpha_branch(Bit::Zero, before, step);
+    let one = alpha_branch(Bit::One, before, step);
     let next = larger(zero, one);
     above_zero(next)
 }
 
-/// Returns the metrics after the steps by the input 0, with what their parity bits earn.
+/// Returns the metrics after the steps by an input, with what their parity bits earn.
 #[inline]
-fn beta_branch_zero(after: i16x8, value: i16) -> i16x8
+fn beta_branch(input: Bit, after: i16x8, value: i16) -> i16x8
     requires after { IsRelative after }
     requires value { IsWithin 127 value }
     ensures { result
-        ≡ border_of (λ s. if_zero (parity s Zero) value +ℤ number_for after (next s Zero)) }
+        ≡ border_of (λ s. if_zero (parity s input) value +ℤ number_for after (next s input)) }
 {
-    sum(parity_of_zero(value), after_zero(after))
-}
-
-/// Returns the metrics after the steps by the input 1, with what their parity bits earn.
-#[inline]
-fn beta_branch_one(after: i16x8, value: i16) -> i16x8
-    requires after { IsRelative after }
-    requires value { IsWithin 127 value }
-    ensures { result
-        ≡ border_of (λ s. if_zero (parity s One) value +ℤ number_for after (next s One)) }
-{
-    sum(parity_of_one(value), after_one(after))
+    sum(parity_of(input, value), after_by(input, after))
 }
 
 /// Returns the backward metrics before a step, relative to that of state 0, from those after it.
@@ -76,8 +55,8 @@ pub fn backward(after: i16x8, step: Step) -> i16x8
     requires { IsRelative after }
     ensures { result ≡ relative (backward (number_for after) (step_gain step.input step.parity)) }
 {
-    let zero = sum(all(step.input), beta_branch_zero(after, step.parity));
-    let one = beta_branch_one(after, step.parity);
+    let zero = sum(all(step.input), beta_branch(Bit::Zero, after, step.parity));
+    let one = beta_branch(Bit::One, after, step.parity);
     above_zero(larger(zero, one))
 }
 
@@ -90,7 +69,7 @@ pub fn extrinsic(before: i16x8, after: i16x8, value: i16) -> i32
     ensures value { result ≡ through before after value Zero -ℤ through before after value One }
     ensures range { IsWithin 25818 result }
 {
-    let zero = greatest(sum(before, beta_branch_zero(after, value)));
-    let one = greatest(sum(before, beta_branch_one(after, value)));
+    let zero = greatest(sum(before, beta_branch(Bit::Zero, after, value)));
+    let one = greatest(sum(before, beta_branch(Bit::One, after, value)));
     i32::from(zero) - i32::from(one)
 }

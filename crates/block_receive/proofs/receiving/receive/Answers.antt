@@ -37,7 +37,8 @@ take-requires-clause-version g c =
     version_at c.args.sends.now c.loop-i.i (record { m = c.at-m.result.0; rv = c.at-m.result.1 }) c.at-m.ensures.lawful c.at-m.ensures.value
 
 -- what transmission i brings, from how its values were split off
-brought : (task : Task) (seen : List Reception) (last : List CodeResult) (s : Sending) (g : ℕ) (rest values : List ℤ) (p : Progress) (o o' : Option (List ℕ)) → values ≡ take g rest → g ≡ s.m.g → o ≡ o'
+brought : (task : Task) (seen : List Reception) (last : List CodeResult) (s : Sending) (g : ℕ) (rest values : List ℤ) (p : Progress) (o o' : Option (List ℕ))
+    → values ≡ take g rest → g ≡ s.m.g → o ≡ o'
     → GoesOn task seen last (reception s.m s.rv values) p o → GoesOn task seen last (reception s.m s.rv (take s.m.g rest)) p o'
 brought task seen last s g rest values p o o' front count same on =
     subst (λ (vs : List ℤ). GoesOn task seen last (reception s.m s.rv vs) p o') (front ∙ ap (λ (n : ℕ). take n rest) count)
@@ -49,7 +50,8 @@ returns-in-Some g c =
     let way = c.loop-i.invariant.under_way in
     let rest = c.loop-i.rest.now in
     outcome-delivered c.args.task.now c.args.sends.now c.args.softs.now c.loop-i.i rest s c.loop-i.progress c.take.new.self c.in-Some.bytes way c.at-m.ensures.value
-    (brought c.args.task.now way.seen way.last s c.g.result rest c.split_at.result.0.now c.take.new.self c.in_ok-bytes.field-0 (Some c.in-Some.bytes) c.split_at.ensures.front c.g.ensures.value c.in-Some.is
+    (brought c.args.task.now way.seen way.last s c.g.result rest c.split_at.result.0.now c.take.new.self c.in_ok-bytes.field-0
+    (Some c.in-Some.bytes) c.split_at.ensures.front c.g.ensures.value c.in-Some.is
     (c.in_ok-bytes.ensures.goes_on way.seen way.last way.reached))
 
 pub loop-i-preserved : goal.loop-i-preserved

@@ -20,7 +20,8 @@ unwrap-requires c =
     let w = c.win-windows.ensures in
     let count : IsCount c.size-k.result own.windows c.win-windows.result = record { divides = w.divides; wide = w.wide; within = w.within; greatest = w.greatest } in
     c.new.ensures.some.1
-    (lawful c.args.task.now.plan own c.args.r c.size-k.result c.fill.result c.win-windows.result c.check_kind-kind.result c.size-k.ensures.lawful c.limits.invariant c.requires c.size-k.ensures.value c.fill.ensures count)
+    (lawful c.args.task.now.plan own c.args.r c.size-k.result c.fill.result c.win-windows.result c.check_kind-kind.result
+    c.size-k.ensures.lawful c.limits.invariant c.requires c.size-k.ensures.value c.fill.ensures count)
 
 pub returns-clause-value : goal.returns-clause-value
 returns-clause-value c =

@@ -26,8 +26,10 @@ returns-clause-told g c input is =
     ∙ ap (λ (k : ℕ). k * described_size v) c.requires.count in
     let t = told_rest _ _ bytes input c.in_ok-read_unit.ensures.bytes is in
     let P : ℕ → Type 0 = λ k. TransmissionsAreRead v unit k c.first_size-place.result bytes c.read_header_transmissions.result in
-    second-told v c.first_size-place.result unit bytes t.left input _ _ _ t.old_is t.new_is t.input_is c.first_size-place.ensures.value long (subst P c.requires.count c.read_header_transmissions.ensures)
+    second-told v c.first_size-place.result unit bytes t.left input _ _ _ t.old_is t.new_is t.input_is c.first_size-place.ensures.value long
+    (subst P c.requires.count c.read_header_transmissions.ensures)
 
 pub returns-clause-sent : goal.returns-clause-sent
 returns-clause-sent g c =
-    sent-by c.args.version c.args.unit.now c.args.count c.first_size-place.result c.read_unit.new.unit _ c.requires.matching c.requires.some c.requires.few c.requires.count c.read_header_transmissions.ensures
+    sent-by c.args.version c.args.unit.now c.args.count c.first_size-place.result c.read_unit.new.unit _
+    c.requires.matching c.requires.some c.requires.few c.requires.count c.read_header_transmissions.ensures

@@ -73,8 +73,10 @@ loop-turn-preserved g c =
     let P : List ℕ → Type 0 = λ hs. AreTransmissions h.kind hs (take read into ++ unit) in
     record {
       read = ap (λ (n : ℕ). n + size) before.read ∙ ap (λ (n : ℕ). block_size h.kind (take turn gs) + n) c.transmission_size-size.ensures ∙ sym t.turn_is.size;
-      told = λ payload input is. rw front (midway-more h.kind c.args.start payload c.length_at-g.result turn gs (take read into) unit input _ _ (before.told payload input is) t.turn_is took.0 unit_long took.1);
-      taken = rw front (subst P (sym t.turn_is.front) (AreTransmissions-more h.kind (take turn gs) c.length_at-g.result (take read into) unit before.taken (record { size = unit_long; good = took.1 })));
+      told = λ payload input is. rw front
+          (midway-more h.kind c.args.start payload c.length_at-g.result turn gs (take read into) unit input _ _ (before.told payload input is) t.turn_is took.0 unit_long took.1);
+      taken = rw front (subst P (sym t.turn_is.front)
+          (AreTransmissions-more h.kind (take turn gs) c.length_at-g.result (take read into) unit before.taken (record { size = unit_long; good = took.1 })));
       moved = takes_bytes_then _ _ _ before.moved c.read_transmission.ensures.moved;
       later = omega (arith, before.later, c.read_transmission.ensures.later);
     }

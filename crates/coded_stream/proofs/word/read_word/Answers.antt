@@ -24,4 +24,5 @@ returns-in_err-read_unit-clause-told g c input is =
 pub returns-clause-told : goal.returns-clause-told
 returns-clause-told g c input is =
     let t = told_rest _ _ c.read_unit.new.unit input c.in_ok-read_unit.ensures.bytes is in
-    word-told (header_of c.args.header.now) c.args.more c.args.start _ c.read_unit.new.unit t.left input _ _ _ c.read_unit.auto.unit c.word.ensures t.old_is t.new_is t.input_is c.payload_of.ensures.says
+    word-told (header_of c.args.header.now) c.args.more c.args.start _ c.read_unit.new.unit t.left input
+    _ _ _ c.read_unit.auto.unit c.word.ensures t.old_is t.new_is t.input_is c.payload_of.ensures.says

@@ -28,7 +28,8 @@ returns-clause-cells c =
     let new : Buffers = c.combine.new.self in
     let begun : b.cells ≡ by_block p cells = c.in_ok-buffers.ensures.cells ∙ ap (by_block p) (c.as_slice.ensures ∙ c.in_ok-softs.ensures) in
     let took : HaveTaken p (reception m rv values) (by_block p cells) new.cells =
-    taken-of p b.plan m rv c.as_slice-2.result.now values b.cells (by_block p cells) new.cells c.in_ok-buffers.ensures.plan (c.as_slice-2.ensures ∙ c.in_ok-values.ensures) begun c.combine.ensures.added in
+    taken-of p b.plan m rv c.as_slice-2.result.now values b.cells (by_block p cells) new.cells c.in_ok-buffers.ensures.plan
+    (c.as_slice-2.ensures ∙ c.in_ok-values.ensures) begun c.combine.ensures.added in
     let plan_is : new.plan ≡ p = c.combine.ensures.plan ∙ c.in_ok-buffers.ensures.plan in
     let count : length new.cells ≡ p.c = subst (λ (v : Buffers). length v.cells ≡ v.plan.c) c.buffers-2.view_is c.buffers-2.invariant.count ∙ ap (λ (q : Plan). q.c) plan_is in
     let long : AreLong p new.cells = subst (λ (q : Plan). AreLong q new.cells) plan_is (subst (λ (v : Buffers). AreLong v.plan v.cells) c.buffers-2.view_is c.buffers-2.invariant.long) in

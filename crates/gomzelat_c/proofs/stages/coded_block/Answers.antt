@@ -35,7 +35,8 @@ encode-requires c =
     let bytes : ℕ = length c.args.payload.now in
     let p : Plan = c.args.plan.now in
     (one_block c.args.payload.now p c.as_slice.result.now c.in_ok-blocks.blocks c.args.r c.index-as_slice-r.result c.requires.plan
-    (lawful p bytes c.requires.plan (is_plan bytes c.requires.some c.requires.few)) c.requires.block c.as_slice.ensures c.in_ok-blocks.ensures.blocks c.in_ok-blocks.ensures.shape c.index-as_slice-r.is).inside
+    (lawful p bytes c.requires.plan (is_plan bytes c.requires.some c.requires.few)) c.requires.block
+    c.as_slice.ensures c.in_ok-blocks.ensures.blocks c.in_ok-blocks.ensures.shape c.index-as_slice-r.is).inside
 
 pub returns-clause-streams : goal.returns-clause-streams
 returns-clause-streams c =
@@ -43,7 +44,8 @@ returns-clause-streams c =
     let p : Plan = c.args.plan.now in
     let one =
     one_block c.args.payload.now p c.as_slice.result.now c.in_ok-blocks.blocks c.args.r c.index-as_slice-r.result c.requires.plan
-    (lawful p bytes c.requires.plan (is_plan bytes c.requires.some c.requires.few)) c.requires.block c.as_slice.ensures c.in_ok-blocks.ensures.blocks c.in_ok-blocks.ensures.shape c.index-as_slice-r.is in
+    (lawful p bytes c.requires.plan (is_plan bytes c.requires.some c.requires.few)) c.requires.block
+    c.as_slice.ensures c.in_ok-blocks.ensures.blocks c.in_ok-blocks.ensures.shape c.index-as_slice-r.is in
     subst (λ (b : Block). IfOk c.encode.result (λ s. s ≡ streams b)) one.is c.encode.ensures
 
 pub returns-clause-shape : goal.returns-clause-shape
@@ -53,6 +55,7 @@ returns-clause-shape c =
     let r : ℕ = c.args.r in
     let one =
     one_block c.args.payload.now p c.as_slice.result.now c.in_ok-blocks.blocks r c.index-as_slice-r.result c.requires.plan
-    (lawful p bytes c.requires.plan (is_plan bytes c.requires.some c.requires.few)) c.requires.block c.as_slice.ensures c.in_ok-blocks.ensures.blocks c.in_ok-blocks.ensures.shape c.index-as_slice-r.is in
+    (lawful p bytes c.requires.plan (is_plan bytes c.requires.some c.requires.few)) c.requires.block
+    c.as_slice.ensures c.in_ok-blocks.ensures.blocks c.in_ok-blocks.ensures.shape c.index-as_slice-r.is in
     IfOk-weaker c.encode.result (λ s. s ≡ streams c.index-as_slice-r.result) (λ s. AreStreams (size p r) (fill p r) s)
     (λ s is. subst (λ (t : Streams). AreStreams (size p r) (fill p r) t) (sym is) one.streams_are) c.encode.ensures

@@ -25,7 +25,8 @@ bring-requires g c =
     let rows : length (take w c.args.values.now) ≤ length c.args.permutations.now.rows.items = omega (arith, e, c.requires.soft.systematic_long, c.requires.permutations.rows) in
     let banks : length (take w c.args.values.now) ≤ length c.args.permutations.now.banks.items = omega (arith, e, c.requires.soft.systematic_long, c.requires.permutations.banks) in
     let full : length c.as_slice.result.now ≡ length (take w c.args.values.now) = ap length c.as_slice.ensures.value ∙ (sym ww ∙ (sym c.requires.soft.systematic_long ∙ sym e)) in
-    let table = table-for n (length (take w c.args.values.now)) v c.args.permutations.now.rows.items c.args.permutations.now.banks.items (e ∙ c.requires.soft.systematic_long) c.requires.permutations.table in
+    let table = table-for n (length (take w c.args.values.now)) v c.args.permutations.now.rows.items c.args.permutations.now.banks.items
+    (e ∙ c.requires.soft.systematic_long) c.requires.permutations.table in
     let within : AreWithin n 32767 c.as_slice.result.now = subst (AreWithin n 32767) (sym c.as_slice.ensures.value) (within-words n b.values.items inv.within) in
     (omega arith, (fits-twice n inv.lanes, (inv.lanes, (rows, (banks, (full, (within, (table.0, table.1))))))))
 
@@ -78,7 +79,11 @@ put_back-requires g c =
               banks,
               (
                 full,
-                (within, table-for n (length c.run_rows.new.cells) v c.args.permutations.now.rows.items c.args.permutations.now.banks.items (e ∙ c.requires.soft.systematic_long) c.requires.permutations.table),
+                (
+                  within,
+                  table-for n (length c.run_rows.new.cells) v c.args.permutations.now.rows.items c.args.permutations.now.banks.items
+                      (e ∙ c.requires.soft.systematic_long) c.requires.permutations.table,
+                ),
               ),
             ),
           ),
@@ -94,7 +99,8 @@ put_back-requires-2 g c =
     let e : length c.run_rows.new.sums ≡ w = c.run_rows.auto.sums ∙ length-take-le w c.args.sums.now room in
     let rows : length c.run_rows.new.sums ≤ length c.args.permutations.now.rows.items = omega (arith, e, c.requires.soft.systematic_long, c.requires.permutations.rows) in
     let banks : length c.run_rows.new.sums ≤ length c.args.permutations.now.banks.items = omega (arith, e, c.requires.soft.systematic_long, c.requires.permutations.banks) in
-    let full : length c.as_mut_slice-2.result.now ≡ length c.run_rows.new.sums = ap length c.as_mut_slice-2.ensures.value ∙ (inv.sums_long ∙ (sym ww ∙ (sym c.requires.soft.systematic_long ∙ sym e))) in (
+    let full : length c.as_mut_slice-2.result.now ≡ length c.run_rows.new.sums = ap length c.as_mut_slice-2.ensures.value
+    ∙ (inv.sums_long ∙ (sym ww ∙ (sym c.requires.soft.systematic_long ∙ sym e))) in (
       omega arith,
       (
         fits-twice n inv.lanes,
@@ -106,7 +112,11 @@ put_back-requires-2 g c =
               banks,
               (
                 full,
-                (c.run_rows.ensures.sums, table-for n (length c.run_rows.new.sums) v c.args.permutations.now.rows.items c.args.permutations.now.banks.items (e ∙ c.requires.soft.systematic_long) c.requires.permutations.table),
+                (
+                  c.run_rows.ensures.sums,
+                  table-for n (length c.run_rows.new.sums) v c.args.permutations.now.rows.items c.args.permutations.now.banks.items
+                      (e ∙ c.requires.soft.systematic_long) c.requires.permutations.table,
+                ),
               ),
             ),
           ),

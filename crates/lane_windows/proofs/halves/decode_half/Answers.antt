@@ -17,9 +17,11 @@ ends g c t lt =
     c.take_left.ensures.beta_in t lt ∙ ap (λ (b : Border). cond (t + 1 == length c.args.left.now) b (left_by c.args.left.now (t + 1)).backward) c.tail.ensures
 
 ran : (g : Over) (c : goal.After-left-1 g)
-    → HaveRunHalf c.args.views.now.views.shape.windows c.args.views.now.views.streams.now c.args.views.now.views.shape c.args.h c.take_left.new.alpha_in c.take_left.new.beta_in c.args.banks.now c.run.new.banks c.run.new.alpha_out c.run.new.beta_out
+    → HaveRunHalf c.args.views.now.views.shape.windows c.args.views.now.views.streams.now c.args.views.now.views.shape c.args.h
+    c.take_left.new.alpha_in c.take_left.new.beta_in c.args.banks.now c.run.new.banks c.run.new.alpha_out c.run.new.beta_out
 ran g c = let v = c.args.views.now in
-    subst (λ (n : ℕ). HaveRunHalf n v.views.streams.now v.views.shape c.args.h c.take_left.new.alpha_in c.take_left.new.beta_in c.args.banks.now c.run.new.banks c.run.new.alpha_out c.run.new.beta_out) (sym v.windows) c.run.ensures.ran
+    subst (λ (n : ℕ). HaveRunHalf n v.views.streams.now v.views.shape c.args.h c.take_left.new.alpha_in c.take_left.new.beta_in
+    c.args.banks.now c.run.new.banks c.run.new.alpha_out c.run.new.beta_out) (sym v.windows) c.run.ensures.ran
 
 pub returns-clause-cells : goal.returns-clause-cells
 returns-clause-cells g c =

@@ -18,4 +18,5 @@ pub returns-clause-lanes : goal.returns-clause-lanes
 returns-clause-lanes g c =
     let n = g.row.N in
     let b = same-lanes n 12782 _ _ c.loaded.ensures c.requires.base in
-    (lanes_stored n 25564 _ _ _ (omega arith) c.store.ensures (difference-lanes n 12782 12782 _ _ _ _ _ (omega arith) c.better.ensures b c.difference.ensures.vector.long c.difference.ensures.lanes)).lanes
+    (lanes_stored n 25564 _ _ _ (omega arith) c.store.ensures
+    (difference-lanes n 12782 12782 _ _ _ _ _ (omega arith) c.better.ensures b c.difference.ensures.vector.long c.difference.ensures.lanes)).lanes

@@ -77,7 +77,8 @@ pub sweep_backward-requires : goal.sweep_backward-requires
 sweep_backward-requires g c =
     let i = inputs c.args.soft c.args.cells.now c.requires.least c.requires.soft c.requires.cells in
     let sys = c.args.soft.systematic.now in let start = λ (t : ℕ). column t c.put_borders.new.m in
-    let first : AreBorders g.row.N c.put_borders.new.m = borders_from g.row.N c.put_borders.new.m c.args.borders.alpha.now c.put_borders.ensures.shape c.put_borders.ensures.lanes c.put_borders.ensures.borders in (
+    let first : AreBorders g.row.N c.put_borders.new.m = borders_from g.row.N c.put_borders.new.m
+    c.args.borders.alpha.now c.put_borders.ensures.shape c.put_borders.ensures.lanes c.put_borders.ensures.borders in (
       search rules,
       (
         search rules,

@@ -44,7 +44,8 @@ loop-r-preserved c =
       rest = rest_after p c.loop-r.r c.share.result (sequence p c.args.payload.now) c.loop-r.rest.now c.split_at.result.1.now c.loop-r.invariant.rest c.share.ensures c.split_at.ensures.back;
       made = pushed_next (block p c.args.payload.now) c.loop-r.code_blocks.items c.push.new.self.items c.loop-r.r (record { fill = c.fill.result; bits = c.in_ok-checked.field-0 })
           c.loop-r.invariant.made c.in_ok-push.ensures.items
-          (made_block p c.args.payload.now c.loop-r.r c.fill.result c.plan.inside.c c.share.result c.in_ok-checked.field-0 c.split_at.result.0.now c.loop-r.rest.now c.fill.ensures c.in_ok-checked.ensures count c.split_at.ensures.front c.share.ensures c.loop-r.invariant.rest);
+          (made_block p c.args.payload.now c.loop-r.r c.fill.result c.plan.inside.c c.share.result c.in_ok-checked.field-0 c.split_at.result.0.now
+          c.loop-r.rest.now c.fill.ensures c.in_ok-checked.ensures count c.split_at.ensures.front c.share.ensures c.loop-r.invariant.rest);
     }
 
 -- all blocks of the plan have its shape

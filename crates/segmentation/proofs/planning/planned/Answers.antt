@@ -44,7 +44,8 @@ from_steps bytes c l k j m some few blocks own larger smaller count =
     are_the_plan bytes (8 * bytes + 24 + c * l) c k j m some few bits (count-is bytes c blocks) first second (smaller_count-is bytes c (8 * bytes + 24 + c * l) k j m blocks bits first second count)
 
 the_plan : (c : goal.After-smaller_count-c_minus) → AreThePlan c.args.bytes
-    (8 * c.args.bytes + 24 + c.block_count-c.result * c.check_length.result) c.block_count-c.result c.larger_size-k_plus.result c.smaller_size-k_minus.result c.smaller_count-c_minus.result (plan_of c.args.bytes)
+    (8 * c.args.bytes + 24 + c.block_count-c.result * c.check_length.result) c.block_count-c.result
+    c.larger_size-k_plus.result c.smaller_size-k_minus.result c.smaller_count-c_minus.result (plan_of c.args.bytes)
 the_plan c =
     from_steps c.args.bytes c.block_count-c.result c.check_length.result c.larger_size-k_plus.result c.smaller_size-k_minus.result c.smaller_count-c_minus.result
     c.requires.some c.requires.few c.block_count-c.ensures c.check_length.ensures c.larger_size-k_plus.ensures c.smaller_size-k_minus.ensures c.smaller_count-c_minus.ensures

@@ -10,7 +10,13 @@ use Rattle.serial_decode.proofs.window.decode_window.Goals as goal
 pub run_window-forward-requires-clause-least : goal.run_window-forward-requires-clause-least
 run_window-forward-requires-clause-least c =
     let s = c.strip_of-strip.result in let shape = c.args.views.now.shape in
-    omega (arith, length-map s.places.now (cell_at s.cells.items), length-part (order shape.k c.args.h) shape c.args.t s.places.now c.strip_of-strip.ensures.places, c.strip_of-strip.ensures.whole.wide)
+    omega (
+      arith,
+      length-map s.places.now (cell_at s.cells.items),
+      length-part
+          (order shape.k c.args.h) shape c.args.t s.places.now c.strip_of-strip.ensures.places,
+      c.strip_of-strip.ensures.whole.wide,
+    )
 
 pub run_window-forward-requires-clause-room : goal.run_window-forward-requires-clause-room
 run_window-forward-requires-clause-room c =

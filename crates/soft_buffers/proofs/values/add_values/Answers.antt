@@ -65,7 +65,8 @@ loop-taken-preserved c =
       kept = c.next_run-run.ensures.ring ∙ c.loop-taken.invariant.kept;
       sums = λ s inside.
           sums-kept (has_bit ring.k ring.fill s) (places_from walk (length values - taken)) (run_places run) (places_from c.next_run-run.new.self left) values taken run.count (taken + run.count)
-          (cell_of ring.k cells s) (cell_of ring.k c.add_run.new.cells s) fits (length-map-range_with_len (λ i. run.place + i) 0 run.count) (let e : taken + run.count ≡ taken + run.count = omega arith in e) next
+          (cell_of ring.k cells s) (cell_of ring.k c.add_run.new.cells s) fits (length-map-range_with_len (λ i. run.place + i) 0 run.count)
+          (let e : taken + run.count ≡ taken + run.count = omega arith in e) next
           (ap (λ xs. cell_of ring.k xs s) new
           ∙ values-added ring.k ring.fill run.place run.count (bit_down run.first) part cells s is.bits (λ i h. run_bit ring run i is h)
           (omega (arith, c.requires.cells, c.loop-taken.auto.cells)) (omega (arith, long)) inside)

@@ -48,7 +48,8 @@ loop-chunk-preserved c =
     let terms = chunk_mapped (term c.args.noise) (λ (k : ℕ). word d (i + k)) 64 c.next_words.result c.terms_of-terms.result words c.terms_of-terms.ensures.value in
     let values = sym (take_all (length chunk) c.received_values.result (omega (arith, long))) ∙ c.received_values.ensures in (
       more_drawn d i 64 _ c.loop-chunk.words c.next_words.new.generator c.loop-chunk.invariant.0 c.next_words.ensures.after (omega arith),
-      chunk_more (noisy_value s t bits) (λ (k : ℕ). received c.args.amp (slice_index_or chunk k Zero) (slice_index_or c.terms_of-terms.result k (pos 0))) c.loop-chunk.values.items c.extend_from_slice.new.self.items i (length chunk) _
+      chunk_more (noisy_value s t bits) (λ (k : ℕ). received c.args.amp (slice_index_or chunk k Zero) (slice_index_or c.terms_of-terms.result k (pos 0)))
+          c.loop-chunk.values.items c.extend_from_slice.new.self.items i (length chunk) _
           c.loop-chunk.invariant.1 (c.in_ok-extend_from_slice.ensures.items ∙ ap (λ (zs : List ℤ). c.loop-chunk.values.items ++ zs) values) (omega (arith, long))
           (λ k h. chunk_values s t bits chunk c.terms_of-terms.result i 64 k (omega (arith, h, long)) (omega arith)
           (chunk_value 64 (length bits / 64) index k bits chunks Zero c.as_chunks.ensures.front below (omega (arith, h, long))) terms),
@@ -75,7 +76,8 @@ returns c =
     let words = words_drawn d i 64 c.loop-chunk.words c.next_words-2.result c.loop-chunk.invariant.0 c.next_words-2.ensures.words in
     let terms = chunk_mapped (term c.args.noise) (λ (k : ℕ). word d (i + k)) 64 c.next_words-2.result c.terms_of-terms-2.result words c.terms_of-terms-2.ensures.value in
     c.from_vec.ensures
-    ∙ chunk_more (noisy_value s t bits) (λ (k : ℕ). received c.args.amp (slice_index_or last k Zero) (slice_index_or c.terms_of-terms-2.result k (pos 0))) c.loop-chunk.values.items c.extend_from_slice-2.new.self.items i (length last) (length bits)
+    ∙ chunk_more (noisy_value s t bits) (λ (k : ℕ). received c.args.amp (slice_index_or last k Zero) (slice_index_or c.terms_of-terms-2.result k (pos 0)))
+    c.loop-chunk.values.items c.extend_from_slice-2.new.self.items i (length last) (length bits)
     c.loop-chunk.invariant.1 (c.in_ok-extend_from_slice-2.ensures.items ∙ ap (λ (zs : List ℤ). c.loop-chunk.values.items ++ zs) c.received_values-2.ensures) (omega (arith, long, all))
     (λ k h. chunk_values s t bits last c.terms_of-terms-2.result i 64 k (omega (arith, h, long)) (omega arith)
     (ap (λ (xs : List Bit). get_or xs k Zero) c.as_chunks.ensures.back ∙ get_or-drop (length bits / 64 * 64) bits k Zero

@@ -24,7 +24,8 @@ loop-word-preserved c =
     let loop = c.loop-word in (
       length-set loop.word-items loop.word-index c.next_word.result ∙ loop.invariant.0,
       place_more loop.generator c.next_word.new.self first c.next_word.result loop.word-index loop.invariant.1 c.next_word.ensures (omega (arith, c.requires, c.loop-word-test.true)),
-      word_more loop.generator c.next_word.new.self first loop.word-items c.next_word.result loop.word-index loop.invariant.1 c.next_word.ensures loop.invariant.2 (omega (arith, loop.invariant.0, c.loop-word-test.true)),
+      word_more loop.generator c.next_word.new.self first loop.word-items c.next_word.result loop.word-index loop.invariant.1 c.next_word.ensures loop.invariant.2
+          (omega (arith, loop.invariant.0, c.loop-word-test.true)),
     )
 
 pub returns-clause-words : goal.returns-clause-words
@@ -36,4 +37,5 @@ returns-clause-words c =
 pub returns-clause-after : goal.returns-clause-after
 returns-clause-after c =
     let first = c.args.generator.now in
-    c.loop-word.invariant.1 ∙ ap (λ i. record first { word_pos = first.word_pos + i }) (let e : c.loop-word.word-index ≡ 64 = omega (arith, c.loop-word-test.false, c.loop-word.auto.word-index-end) in e)
+    c.loop-word.invariant.1
+    ∙ ap (λ i. record first { word_pos = first.word_pos + i }) (let e : c.loop-word.word-index ≡ 64 = omega (arith, c.loop-word-test.false, c.loop-word.auto.word-index-end) in e)

@@ -35,51 +35,51 @@ greater m x p a o r one g h k l e f i j q =
     larger-numbers 7156 (λ s. way_out (number_for m) (step_gain x p) s Zero) (λ s. way_out (number_for m) (step_gain x p) s One) r one g (omega arith)
     (zero-numbers m x p a o r h k l e f i) (one-numbers m x p one h l j) q
 
-pub beta_branch_zero-requires-clause-after : goal.beta_branch_zero-requires-clause-after
-beta_branch_zero-requires-clause-after c = relative-still c.args.after c.requires
+pub beta_branch-requires-clause-after : goal.beta_branch-requires-clause-after
+beta_branch-requires-clause-after c = relative-still c.args.after c.requires
 
-pub beta_branch_one-one-requires-clause-after : goal.beta_branch_one-one-requires-clause-after
-beta_branch_one-one-requires-clause-after c = relative-still c.args.after c.requires
+pub beta_branch-one-requires-clause-after : goal.beta_branch-one-requires-clause-after
+beta_branch-one-requires-clause-after c = relative-still c.args.after c.requires
 
 pub sum-zero-requires-clause-first : goal.sum-zero-requires-clause-first
 sum-zero-requires-clause-first c = lanes_passed 638 _ _ (omega arith) (all-numbers 638 c.args.step.input c.all.result (omega arith) c.args.step.input_bound c.all.ensures)
 
 pub sum-zero-requires-clause-second : goal.sum-zero-requires-clause-second
 sum-zero-requires-clause-second c =
-    lanes_passed 6518 _ _ (omega arith) (onward-numbers Zero c.args.after c.args.step.parity c.beta_branch_zero.result c.requires c.args.step.parity_bound c.beta_branch_zero.ensures)
+    lanes_passed 6518 _ _ (omega arith) (onward-numbers Zero c.args.after c.args.step.parity c.beta_branch.result c.requires c.args.step.parity_bound c.beta_branch.ensures)
 
 pub sum-zero-requires-clause-fits : goal.sum-zero-requires-clause-fits
 sum-zero-requires-clause-fits c =
-    sum-fits 638 6518 _ _ c.all.result c.beta_branch_zero.result (omega arith)
+    sum-fits 638 6518 _ _ c.all.result c.beta_branch.result (omega arith)
     (all-numbers 638 c.args.step.input c.all.result (omega arith) c.args.step.input_bound c.all.ensures)
-    (onward-numbers Zero c.args.after c.args.step.parity c.beta_branch_zero.result c.requires c.args.step.parity_bound c.beta_branch_zero.ensures)
+    (onward-numbers Zero c.args.after c.args.step.parity c.beta_branch.result c.requires c.args.step.parity_bound c.beta_branch.ensures)
 
 pub larger-requires-clause-first : goal.larger-requires-clause-first
 larger-requires-clause-first c =
     lanes_passed 7156 _ _ (omega arith)
-    (zero-numbers c.args.after c.args.step.input c.args.step.parity c.all.result c.beta_branch_zero.result c.sum-zero.result
-    c.requires c.args.step.input_bound c.args.step.parity_bound c.all.ensures c.beta_branch_zero.ensures c.sum-zero.ensures)
+    (zero-numbers c.args.after c.args.step.input c.args.step.parity c.all.result c.beta_branch.result c.sum-zero.result
+    c.requires c.args.step.input_bound c.args.step.parity_bound c.all.ensures c.beta_branch.ensures c.sum-zero.ensures)
 
 pub larger-requires-clause-second : goal.larger-requires-clause-second
 larger-requires-clause-second c =
-    lanes_passed 7156 _ _ (omega arith) (one-numbers c.args.after c.args.step.input c.args.step.parity c.beta_branch_one-one.result c.requires c.args.step.parity_bound c.beta_branch_one-one.ensures)
+    lanes_passed 7156 _ _ (omega arith) (one-numbers c.args.after c.args.step.input c.args.step.parity c.beta_branch-one.result c.requires c.args.step.parity_bound c.beta_branch-one.ensures)
 
 pub above_zero-requires-clause-lanes : goal.above_zero-requires-clause-lanes
 above_zero-requires-clause-lanes c =
     lanes_passed 7156 _ _ (omega arith)
-    (greater c.args.after c.args.step.input c.args.step.parity c.all.result c.beta_branch_zero.result c.sum-zero.result c.beta_branch_one-one.result c.larger.result
-    c.requires c.args.step.input_bound c.args.step.parity_bound c.all.ensures c.beta_branch_zero.ensures c.sum-zero.ensures c.beta_branch_one-one.ensures c.larger.ensures)
+    (greater c.args.after c.args.step.input c.args.step.parity c.all.result c.beta_branch.result c.sum-zero.result c.beta_branch-one.result c.larger.result
+    c.requires c.args.step.input_bound c.args.step.parity_bound c.all.ensures c.beta_branch.ensures c.sum-zero.ensures c.beta_branch-one.ensures c.larger.ensures)
 
 pub above_zero-requires-clause-fits : goal.above_zero-requires-clause-fits
 above_zero-requires-clause-fits c =
     above_zero-fits 7156 _ c.larger.result (omega arith)
-    (greater c.args.after c.args.step.input c.args.step.parity c.all.result c.beta_branch_zero.result c.sum-zero.result c.beta_branch_one-one.result c.larger.result
-    c.requires c.args.step.input_bound c.args.step.parity_bound c.all.ensures c.beta_branch_zero.ensures c.sum-zero.ensures c.beta_branch_one-one.ensures c.larger.ensures)
+    (greater c.args.after c.args.step.input c.args.step.parity c.all.result c.beta_branch.result c.sum-zero.result c.beta_branch-one.result c.larger.result
+    c.requires c.args.step.input_bound c.args.step.parity_bound c.all.ensures c.beta_branch.ensures c.sum-zero.ensures c.beta_branch-one.ensures c.larger.ensures)
 
 pub returns : goal.returns
 returns c =
     numbers_passed 14312 _ c.above_zero.result (omega arith)
     (above_zero-numbers 7156 _ c.larger.result c.above_zero.result (omega arith)
-    (greater c.args.after c.args.step.input c.args.step.parity c.all.result c.beta_branch_zero.result c.sum-zero.result c.beta_branch_one-one.result c.larger.result
-    c.requires c.args.step.input_bound c.args.step.parity_bound c.all.ensures c.beta_branch_zero.ensures c.sum-zero.ensures c.beta_branch_one-one.ensures c.larger.ensures)
+    (greater c.args.after c.args.step.input c.args.step.parity c.all.result c.beta_branch.result c.sum-zero.result c.beta_branch-one.result c.larger.result
+    c.requires c.args.step.input_bound c.args.step.parity_bound c.all.ensures c.beta_branch.ensures c.sum-zero.ensures c.beta_branch-one.ensures c.larger.ensures)
     c.above_zero.ensures)

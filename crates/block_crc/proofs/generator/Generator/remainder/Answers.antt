@@ -9,7 +9,8 @@ loop-two-preserved c =
     let below : loop.two-index < length bits / 16 = omega (arith, c.loop-two-test.true, c.as_chunks.ensures.front_len) in
     record {
       value =
-          chunk_more c.args.self.now.coefficients 16 (length bits / 16) loop.two-index loop.rest c.remainder_of_two-rest.result bits _ c.as_chunks.result.0.now below c.as_chunks.ensures.front c.remainder_of_two-rest.ensures.value
+          chunk_more c.args.self.now.coefficients 16 (length bits / 16) loop.two-index loop.rest c.remainder_of_two-rest.result
+          bits _ c.as_chunks.result.0.now below c.as_chunks.ensures.front c.remainder_of_two-rest.ensures.value
           ∙ loop.invariant.value;
       small = c.remainder_of_two-rest.ensures.small;
     }

@@ -21,7 +21,8 @@ returns-in-Ok-None-clause-goes_on g c input is =
     let r = c.self.inside in
     let h = header_of r.header in
     let whole = c.in-Ok-None.is ∙ ap Ok c.in-Ok-None.field-0-is in
-    let w = subst (λ (o : Result (Option ℕ) StreamStop). TakesStep (step h (4096 - r.blocks) r.place input) c.read_block.new.into (g.S.Source.left c.args.source.now) (g.S.Source.left c.read_block.new.source) o) whole (c.read_block.ensures.told input is) in
+    let w = subst (λ (o : Result (Option ℕ) StreamStop). TakesStep (step h (4096 - r.blocks) r.place input) c.read_block.new.into
+    (g.S.Source.left c.args.source.now) (g.S.Source.left c.read_block.new.source) o) whole (c.read_block.ensures.told input is) in
     (w.0, w.1, w.2, w.3, ap (λ (s : Reading). remaining s input) (sym c.self.view_is) ∙ body-ended h (4096 - r.blocks) r.place input w.4)
 
 pub returns-in-Ok-Some-clause-goes_on : goal.returns-in-Ok-Some-clause-goes_on
@@ -30,7 +31,8 @@ returns-in-Ok-Some-clause-goes_on g c input is =
     let h = header_of r.header in
     let into = c.read_block.new.into in
     let whole = c.in-Ok-Some.is ∙ ap Ok c.in-Ok-Some.field-0-is in
-    let w = subst (λ (o : Result (Option ℕ) StreamStop). TakesStep (step h (4096 - r.blocks) r.place input) into (g.S.Source.left c.args.source.now) (g.S.Source.left c.read_block.new.source) o) whole (c.read_block.ensures.told input is) in
+    let w = subst (λ (o : Result (Option ℕ) StreamStop). TakesStep (step h (4096 - r.blocks) r.place input) into
+    (g.S.Source.left c.args.source.now) (g.S.Source.left c.read_block.new.source) o) whole (c.read_block.ensures.told input is) in
     let accepted = subst (λ (o : Result (Option ℕ) StreamStop). IfOk o (IsAccepted h (4096 - r.blocks) into)) whole c.read_block.ensures.accepted in
     let room : 0 < 4096 - r.blocks = accepted.0 in
     let long : length into ≡ length c.resize.new.self = c.read_block.auto.into ∙ ap length c.as_mut_slice.ensures.value in

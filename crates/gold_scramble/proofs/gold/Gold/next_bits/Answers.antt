@@ -17,7 +17,8 @@ overflow_cast-result c =
 pub returns-clause-bits : goal.returns-clause-bits
 returns-clause-bits c =
     given_bits (place x1_recurrence (highest_first 31 c.self.inside.x1)) (place x2_recurrence
-    (highest_first 31 c.self.inside.x2)) c.x1_continued-x1.result c.x2_continued-x2.result c.args.count c.x1_continued-x1.ensures.places c.x2_continued-x2.ensures.places c.x1_continued-x1.ensures.small c.x2_continued-x2.ensures.small
+    (highest_first 31 c.self.inside.x2)) c.x1_continued-x1.result c.x2_continued-x2.result c.args.count
+    c.x1_continued-x1.ensures.places c.x2_continued-x2.ensures.places c.x1_continued-x1.ensures.small c.x2_continued-x2.ensures.small
     ∙ ap (λ g. number (places (coming g) 0 c.args.count)) c.self.view_is
 
 pub returns-clause-moved : goal.returns-clause-moved

@@ -14,14 +14,16 @@ still n len new slice items ok es el en =
 pub invariant_of-result : goal.invariant_of-result
 invariant_of-result g c =
     let n = g.row.N in let d = c.args.self in let half = c.decode_half in let b = d.borders in
-    let now = still n d.left_before_last.len half.new.left c.as_mut_slice-5.result.now d.left_before_last.items d.left_before_last.ok.0 c.as_mut_slice-5.ensures.value half.auto.left d.all_windows_earlier in
+    let now = still n d.left_before_last.len half.new.left c.as_mut_slice-5.result.now d.left_before_last.items
+    d.left_before_last.ok.0 c.as_mut_slice-5.ensures.value half.auto.left d.all_windows_earlier in
     let last = d.all_windows in
     record {
       room = omega (arith, d.room, half.ensures.room);
       border_room = record {
         alpha_in = still n b.alpha_in.len half.new.alpha_in c.as_mut_slice.result.now b.alpha_in.items b.alpha_in.ok.0 c.as_mut_slice.ensures.value half.auto.alpha_in d.border_room.alpha_in;
         beta_in = still n b.beta_in.len half.new.beta_in c.as_mut_slice-2.result.now b.beta_in.items b.beta_in.ok.0 c.as_mut_slice-2.ensures.value half.auto.beta_in d.border_room.beta_in;
-        alpha_out = still n b.alpha_out.len half.new.alpha_out c.as_mut_slice-3.result.now b.alpha_out.items b.alpha_out.ok.0 c.as_mut_slice-3.ensures.value half.auto.alpha_out d.border_room.alpha_out;
+        alpha_out = still n b.alpha_out.len half.new.alpha_out c.as_mut_slice-3.result.now b.alpha_out.items
+            b.alpha_out.ok.0 c.as_mut_slice-3.ensures.value half.auto.alpha_out d.border_room.alpha_out;
         beta_out = still n b.beta_out.len half.new.beta_out c.as_mut_slice-4.result.now b.beta_out.items b.beta_out.ok.0 c.as_mut_slice-4.ensures.value half.auto.beta_out d.border_room.beta_out;
       };
       all_places = ap length half.ensures.cells

@@ -94,7 +94,8 @@ laid : (v w t : ℕ) (rows all : List (List ℤ)) (values : List ℤ) → v ≡ 
 laid v w t rows all values ew e h = ap (λ (xs : List (List ℤ)). column t (take v xs)) e ∙ (h ∙ ap (λ (k : ℕ). values_of_window k values t) ew)
 
 same-window : (g : Over) (c : goal.After-beta_out-1 g) (t : ℕ) → t < g.row.N
-    → window_between (border_at c.args.alpha_in.now t) (border_at c.args.beta_in.now t) (column t (take c.width-width.result c.as_slice.result.now)) (column t (take c.width-width.result c.as_slice-2.result.now))
+    → window_between (border_at c.args.alpha_in.now t) (border_at c.args.beta_in.now t)
+    (column t (take c.width-width.result c.as_slice.result.now)) (column t (take c.width-width.result c.as_slice-2.result.now))
     (cells_of_window (length c.args.banks.now / g.row.N) (place_in c.args.order.now) c.args.banks.now t)
     ≡ window_of (length c.args.banks.now / g.row.N) (place_in c.args.order.now) c.args.alpha_in.now c.args.beta_in.now c.args.sys.now c.args.par.now c.args.banks.now t
 same-window g c t lt =

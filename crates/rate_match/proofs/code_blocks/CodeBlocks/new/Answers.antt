@@ -12,7 +12,8 @@ size-requires c =
 pub new-requires : goal.new-requires
 new-requires c =
     let bs = c.in_ok-blocks.blocks in
-    subst (λ (k : ℕ). Contains sizes k) (sym c.size.ensures.value) (first-size c.args.payload.now c.unwrap-plan.result bs (are_cut c.args.payload.now c.unwrap-plan.result bs bs c.requires.some c.requires.few
+    subst (λ (k : ℕ). Contains sizes k) (sym c.size.ensures.value)
+    (first-size c.args.payload.now c.unwrap-plan.result bs (are_cut c.args.payload.now c.unwrap-plan.result bs bs c.requires.some c.requires.few
     (rw c.unwrap-plan.ensures at c.plan.ensures.numbers) refl c.in_ok-blocks.ensures.blocks c.in_ok-blocks.ensures.shape)).1
 
 pub invariant_of-result : goal.invariant_of-result

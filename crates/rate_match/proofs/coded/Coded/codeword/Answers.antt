@@ -30,20 +30,23 @@ is_over p payload view all lent is of lends planned =
 pub push_piece-requires-clause-block : goal.push_piece-requires-clause-block
 push_piece-requires-clause-block c =
     let all = c.deref-streams-items.result.now in
-    let over = is_over c.unwrap-plan.result c.args.self.now c.self.inside.payload.now c.self.inside.streams.items c.deref-streams-items.result.now c.self.view_is c.self.invariant c.deref-streams-items.ensures.value (rw c.unwrap-plan.ensures at c.plan.ensures.numbers) in
+    let over = is_over c.unwrap-plan.result c.args.self.now c.self.inside.payload.now c.self.inside.streams.items c.deref-streams-items.result.now
+    c.self.view_is c.self.invariant c.deref-streams-items.ensures.value (rw c.unwrap-plan.ensures at c.plan.ensures.numbers) in
     omega (arith, ap (λ (q : Plan). q.c) over.planned, (streams-at c.args.self.now all c.loop-r.r c.streams-item.result over.of c.loop-r-test.true c.streams-item.is).below)
 
 pub push_piece-requires-clause-streams : goal.push_piece-requires-clause-streams
 push_piece-requires-clause-streams c =
     let all = c.deref-streams-items.result.now in
     let r : ℕ = c.loop-r.r in
-    let over = is_over c.unwrap-plan.result c.args.self.now c.self.inside.payload.now c.self.inside.streams.items c.deref-streams-items.result.now c.self.view_is c.self.invariant c.deref-streams-items.ensures.value (rw c.unwrap-plan.ensures at c.plan.ensures.numbers) in
+    let over = is_over c.unwrap-plan.result c.args.self.now c.self.inside.payload.now c.self.inside.streams.items c.deref-streams-items.result.now
+    c.self.view_is c.self.invariant c.deref-streams-items.ensures.value (rw c.unwrap-plan.ensures at c.plan.ensures.numbers) in
     subst (λ (q : Plan). AreStreams (size q r) (fill q r) c.streams-item.result) (sym over.planned)
     (streams-at c.args.self.now all r c.streams-item.result over.of c.loop-r-test.true c.streams-item.is).are
 
 pub push_piece-requires-clause-fits : goal.push_piece-requires-clause-fits
 push_piece-requires-clause-fits c =
-    let over = is_over c.unwrap-plan.result c.args.self.now c.self.inside.payload.now c.self.inside.streams.items c.deref-streams-items.result.now c.self.view_is c.self.invariant c.deref-streams-items.ensures.value (rw c.unwrap-plan.ensures at c.plan.ensures.numbers) in
+    let over = is_over c.unwrap-plan.result c.args.self.now c.self.inside.payload.now c.self.inside.streams.items c.deref-streams-items.result.now
+    c.self.view_is c.self.invariant c.deref-streams-items.ensures.value (rw c.unwrap-plan.ensures at c.plan.ensures.numbers) in
     subst (Fits c.args.m.now) (sym over.planned) c.requires.fits
 
 pub loop-r-preserved : goal.loop-r-preserved
@@ -53,7 +56,8 @@ loop-r-preserved c =
     let p : Plan = plan_of (length payload) in
     let m = c.args.m.now in
     let r : ℕ = c.loop-r.r in
-    let over = is_over c.unwrap-plan.result c.args.self.now c.self.inside.payload.now c.self.inside.streams.items c.deref-streams-items.result.now c.self.view_is c.self.invariant c.deref-streams-items.ensures.value (rw c.unwrap-plan.ensures at c.plan.ensures.numbers) in
+    let over = is_over c.unwrap-plan.result c.args.self.now c.self.inside.payload.now c.self.inside.streams.items c.deref-streams-items.result.now
+    c.self.view_is c.self.invariant c.deref-streams-items.ensures.value (rw c.unwrap-plan.ensures at c.plan.ensures.numbers) in
     let at = streams-at payload all r c.streams-item.result over.of c.loop-r-test.true c.streams-item.is in
     c.in_ok-push_piece.ensures
     ∙ ap (λ (q : Plan). c.loop-r.bits.items ++ sent q m c.streams-item.result r c.args.rv) over.planned
@@ -67,7 +71,8 @@ returns-clause-codeword c =
     let payload = c.args.self.now in
     let lent = c.deref-streams-items.result.now in
     let p : Plan = plan_of (length payload) in
-    let over = is_over c.unwrap-plan.result c.args.self.now c.self.inside.payload.now c.self.inside.streams.items c.deref-streams-items.result.now c.self.view_is c.self.invariant c.deref-streams-items.ensures.value (rw c.unwrap-plan.ensures at c.plan.ensures.numbers) in
+    let over = is_over c.unwrap-plan.result c.args.self.now c.self.inside.payload.now c.self.inside.streams.items c.deref-streams-items.result.now
+    c.self.view_is c.self.invariant c.deref-streams-items.ensures.value (rw c.unwrap-plan.ensures at c.plan.ensures.numbers) in
     let all : c.loop-r.r ≡ p.c = omega (arith, c.loop-r-test.false, c.loop-r.auto.r-end, streams-count payload lent over.of) in
     c.from_vec.ensures ∙ c.loop-r.invariant
     ∙ ap (λ (n : ℕ). flat_map (λ i. sent p c.args.m.now (streams (block p payload i)) i c.args.rv) (range_with_len 0 n)) all

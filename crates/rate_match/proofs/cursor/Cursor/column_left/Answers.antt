@@ -28,7 +28,9 @@ returns-clause-column c =
     subst (λ q. IsInColumn q ring.k ring.fill self count) (sym ring.height) (
     elim c.if-self-places.branch [
       | then-self-places w ↦ first-run ring.k ring.fill self count lawful within (omega (arith, c.if-self-padding.false, ring.height))
-          (omega (arith, w.if-self-places, ring.height)) (few-first r ring.rows self.by_rows w.div_ceil-column.result count c.if-self-places.column c.min.result (ring.size - self.n) c.args.most ring.height w.div_ceil-column.ensures w.column-is c.min.ensures c.min-2.ensures)
+          (omega (arith, w.if-self-places, ring.height)) (few-first r ring.rows self.by_rows w.div_ceil-column.result count c.if-self-places.column c.min.result
+          (ring.size - self.n) c.args.most ring.height w.div_ceil-column.ensures w.column-is c.min.ensures c.min-2.ensures)
       | else-self-places w ↦ later-run ring.k ring.fill self count lawful within (omega (arith, c.if-self-padding.false, ring.height))
-          (omega (arith, w.if-self-places, ring.height)) (few-later r ring.rows self.by_rows self.n w.div_ceil.result c.if-self-places.column w.saturating_sub-column.result count c.min.result (ring.size - self.n) c.args.most ring.height w.div_ceil.ensures w.saturating_sub-column.ensures w.column-is c.min.ensures c.min-2.ensures)
+          (omega (arith, w.if-self-places, ring.height)) (few-later r ring.rows self.by_rows self.n w.div_ceil.result c.if-self-places.column w.saturating_sub-column.result
+          count c.min.result (ring.size - self.n) c.args.most ring.height w.div_ceil.ensures w.saturating_sub-column.ensures w.column-is c.min.ensures c.min-2.ensures)
     ])

@@ -18,13 +18,15 @@ still n len new items ok el en = ap length (written len new items (el ∙ sym ok
 pub invariant_of-result-clause-all_windows : goal.invariant_of-result-clause-all_windows
 invariant_of-result-clause-all_windows c =
     let d = c.args.self in let half = c.decode_half-cells in
-    let now = still d.views.shape.windows d.left_before_last.len half.new.left d.left_before_last.items d.left_before_last.ok.0 (half.auto.left ∙ ap length c.as_mut_slice.ensures.value) d.all_windows_earlier in
+    let now = still d.views.shape.windows d.left_before_last.len half.new.left d.left_before_last.items d.left_before_last.ok.0
+    (half.auto.left ∙ ap length c.as_mut_slice.ensures.value) d.all_windows_earlier in
     let last = d.all_windows in
     omega (arith, now, last)
 
 pub invariant_of-result-clause-all_windows_earlier : goal.invariant_of-result-clause-all_windows_earlier
 invariant_of-result-clause-all_windows_earlier c =
     let d = c.args.self in let half = c.decode_half-cells in
-    let now = still d.views.shape.windows d.left_before_last.len half.new.left d.left_before_last.items d.left_before_last.ok.0 (half.auto.left ∙ ap length c.as_mut_slice.ensures.value) d.all_windows_earlier in
+    let now = still d.views.shape.windows d.left_before_last.len half.new.left d.left_before_last.items d.left_before_last.ok.0
+    (half.auto.left ∙ ap length c.as_mut_slice.ensures.value) d.all_windows_earlier in
     let last = d.all_windows in
     omega (arith, now, last)
