@@ -20,8 +20,8 @@ use std::alloc::Global;
 use std::mem;
 use window_decode::{CodeResult, Shape};
 
-/// What the transmissions so far left: the soft cells, the results that are held for the next try, and the
-/// iterations of the last.
+/// The state after the transmissions so far: the soft cells, the results that are held for the next try, and
+/// the iterations of the last.
 #[derive(Drop)]
 pub struct Progress {
     pub buffers: HarqBuffers,
@@ -29,7 +29,7 @@ pub struct Progress {
     pub iterations: usize,
 }
 
-/// What the results of a try come to.
+/// The outcome of a try.
 #[derive(Drop)]
 pub enum Tried {
     /// All checks hold: the bytes of the payload.

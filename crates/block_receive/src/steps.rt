@@ -16,7 +16,7 @@ use soft_buffers::HarqBuffers;
 use std::alloc::Global;
 use window_decode::{CodeResult, Shape};
 
-/// What the results of a try carry: the payload as decided, and whether all checks hold.
+/// The payload that the results of a try carry, as decided, and whether all checks hold.
 #[derive(Debug, Drop)]
 pub struct Carried {
     pub payload: List<u8>,

@@ -1,4 +1,4 @@
-//! What is to be received, and within which limits.
+//! The plan of a transport block, and the limits for decoding it.
 
 use model_receiver::DecoderLimits;
 use segmentation::plans::Plan;

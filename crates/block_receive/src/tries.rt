@@ -15,7 +15,7 @@ use soft_buffers::HarqBuffers;
 use std::alloc::Global;
 use window_decode::{CodeResult, Shape};
 
-/// What the decoding of a code block gives, or that there was no memory.
+/// The result of decoding a code block, or running out of memory.
 pub type Decoded = Result<CodeResult, NoMemory>;
 
 /// Decodes block `r`, below C, from the cells so far.
@@ -39,7 +39,7 @@ fn decode_at<F: Fn(Global, &SoftStreams, &Shape) -> Decoded>(
     decode(alloc, &streams, &block_shape(task, r))
 }
 
-/// Returns the results of a try: block r has the one that stands at r in `held`, where one does, and else is
+/// Returns the results of a try: block r has the one at r in `held`, if any, and else is
 /// decoded. An empty list holds none.
 pub fn try_blocks<F: Fn(Global, &SoftStreams, &Shape) -> Decoded>(
     alloc: Global,

@@ -3,7 +3,7 @@
 /// The magic is that of neither version.
 pub const BAD_MAGIC: u8 = 1;
 
-/// The kind isn't one that is wanted.
+/// The kind isn't the expected one.
 pub const BAD_KIND: u8 = 2;
 
 /// Another field of the header isn't accepted.
@@ -15,7 +15,7 @@ pub const BAD_BLOCK_LENGTH: u8 = 4;
 /// An unused low bit of a hard transmission is 1.
 pub const BAD_BIT: u8 = 5;
 
-/// The input ends in a unit that is due.
+/// The input ends within a unit.
 pub const TRUNCATED: u8 = 6;
 
 /// A byte follows the end word.

@@ -14,7 +14,7 @@ use crate::version::Version;
 use rate_match::{BadMatch, Buffer, Match, fits_lengths};
 use segmentation::MOST_BYTES;
 
-/// What the first unit of a header says: the soft buffer, the bytes of the greatest payload, and the number of
+/// The fields of a header's first unit: the soft buffer, the bytes of the greatest payload, and the number of
 /// transmissions of each block.
 #[derive(Clone, Copy)]
 pub struct Fields {

@@ -1,4 +1,4 @@
-//! What a header says of the transmissions.
+//! The transmissions that a header describes.
 ghost use Rattle.std.specs.Prelude.{◌≡◌, ◌≤◌, ◌*◌, length};
 ghost use Rattle.rate_match.specs.Matching.{limit_of};
 ghost use Rattle.coded_stream.specs.Opening.{first_size, described_size, limit_in};

@@ -1,9 +1,9 @@
-//! What the transmissions of a stream are.
+//! Hard bits or soft values.
 ghost use Rattle.std.specs.Prelude.{◌≡◌};
 ghost use Rattle.coded_stream.specs.Header.{kind_code, kind_of};
 ghost use Rattle.coded_stream.specs.Opening.{is_wanted};
 
-/// What the transmissions of a stream are.
+/// Whether the transmissions of a stream are hard bits or soft values.
 #[derive(Clone, Copy, Debug, PartialEq, Eq, Hash)]
 pub enum Kind {
     /// Bits, packed.

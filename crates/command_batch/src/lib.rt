@@ -1,4 +1,4 @@
-//! The command `batch`: what `decode` does, with several transport blocks at once.
+//! The command `batch`: `decode` with several transport blocks at once.
 #![tactic(auto)]
 
 mod batch;

@@ -1,4 +1,4 @@
-//! What the outcomes of a round's jobs add.
+//! Output and report lines of a round.
 ghost use Rattle.std.specs.Prelude.{◌≡◌, ◌≤◌, ◌<◌, ◌+◌, IfOk, length};
 ghost use Rattle.std.specs.List.{AllZip};
 ghost use Rattle.model_receiver.specs.Limits.{DecoderLimits};

@@ -12,7 +12,7 @@ use lte_bits::NoMemory;
 use run_loop::{Part, Round, Status, Work};
 use std::alloc::Global;
 
-/// Who does the jobs of a round, the reader, and how many blocks failed.
+/// The runner of a round's jobs, the reader, and how many blocks failed.
 #[derive(Drop)]
 pub struct BatchRounds<R: Runner> {
     pub runner: R,

@@ -1,4 +1,4 @@
-//! Who does the jobs of a round.
+//! Runs the jobs of a round.
 ghost use Rattle.std.specs.Prelude.{◌≡◌, ◌≤◌, ℕ, IfOk, length};
 ghost use Rattle.std.specs.List.{AllZip};
 ghost use Rattle.command_batch.specs.Jobs.{answers};
@@ -8,12 +8,12 @@ use command_decode::Received;
 use lte_bits::{List, NoMemory};
 use std::alloc::Global;
 
-/// What the jobs of a round give, in their order, or that there was no memory.
+/// The results of a round's jobs, in their order, or running out of memory.
 pub type Outcomes = Result<List<Received>, NoMemory>;
 
-/// Who does the jobs of a round, by up to so many pipes.
+/// Runs the jobs of a round, by up to so many pipes.
 pub trait Runner: Drop {
-    // What has to be known of it before it is handed jobs.
+    // Its precondition for running jobs.
     ghost able: { Self → Type 0 } = { λ _. Unit {0} };
 
     // How many pipes it has.

@@ -1,4 +1,4 @@
-//! What `decode` makes of a block.
+//! Decoding of one block.
 ghost use Rattle.std.specs.Prelude.{◌≡◌, ◌≤◌, ◌<◌, true, IfOk};
 ghost use Rattle.coded_stream.specs.Blocks.{IsBlock};
 ghost use Rattle.coded_stream.specs.Shown.{header_of};
@@ -17,10 +17,10 @@ use segmentation::plan;
 use std::alloc::Global;
 use stream_loop::{Handled, Handler, softs_of};
 
-/// What the reception of a transport block comes to, or that there was no memory.
+/// The outcome of receiving a transport block, or running out of memory.
 pub type Received = Result<TbOutcome, NoMemory>;
 
-/// Who receives transport blocks, by up to how many workers, 1 to 16, and within which limits.
+/// The receiver of transport blocks, its workers, 1 to 16, and its limits.
 #[derive(Drop)]
 pub struct Decoding<'a, F: Fn(Global, &Task, usize, &Sends, &[Soft]) -> Received> {
     pub receive: &'a F,

@@ -16,7 +16,7 @@ fn push_counts(line: &mut Vec<u8>, transmissions: usize, iterations: usize) -> R
     end_line(line)
 }
 
-/// Returns the line of a block, which says what came of it.
+/// Returns the report line of a block.
 pub fn block_line(alloc: Global, number: usize, outcome: &TbOutcome) -> Result<Vec<u8>, NoMemory>
     ensures { IfOk result (λ line. line.items ≡ block_line number outcome.now) }
 {

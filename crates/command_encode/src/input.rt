@@ -8,7 +8,7 @@ use edge_io::{ReadStop, Source, read_exactly};
 use run_loop::Status;
 use std::alloc::Global;
 
-/// What came of so many bytes.
+/// The result of reading so many bytes.
 #[derive(Debug, Drop)]
 pub enum Input {
     /// All of them.

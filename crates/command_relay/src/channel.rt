@@ -1,4 +1,4 @@
-//! What `channel` makes of a transmission.
+//! `channel`, transmission by transmission.
 
 use crate::bits::bits_in;
 use crate::converter::{Converter, Place};

@@ -23,7 +23,7 @@ pub struct Place {
     pub ghost few: { number < 8 },
 }
 
-/// What a command makes of each transmission of a stream.
+/// The conversion of each transmission of a stream.
 pub trait Converter: Drop {
     ghost conversion: { Self → Conversion };
 

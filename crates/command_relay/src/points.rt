@@ -1,4 +1,4 @@
-//! What `points` makes of a transmission.
+//! `points`, transmission by transmission.
 ghost use Rattle.std.specs.Prelude.{◌≡◌, IfOk, length};
 ghost use Rattle.qam_points.specs.Reception.{received};
 ghost use Rattle.command_relay.specs.Points.{terms_on};

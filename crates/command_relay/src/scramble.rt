@@ -1,4 +1,4 @@
-//! What `scramble` makes of a transmission.
+//! `scramble`, transmission by transmission.
 ghost use Rattle.std.specs.Prelude.{◌≡◌, ◌≤◌};
 ghost use Rattle.command_relay.specs.Scramble.{init_of};
 

@@ -1,4 +1,4 @@
-//! What `upgrade` makes of a transmission.
+//! `upgrade`, transmission by transmission.
 use crate::converter::{Converter, Place};
 use coded_stream::{Header, Version, Want};
 use lte_bits::NoMemory;

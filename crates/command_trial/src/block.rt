@@ -75,7 +75,7 @@ impl Trial {
         Ok(values)
     }
 
-    /// Returns what the reception of a block comes to, whose payload is `sent`.
+    /// Returns the outcome of receiving a block whose payload is `sent`.
     pub fn outcome(&self, alloc: Global, block: usize, sent: &[u8]) -> Result<TbOutcome, NoMemory>
         requires block { block < 4096 }
         requires sent { sent.now ≡ payload (trial_of self.now) block }

@@ -1,4 +1,4 @@
-//! What is counted over the blocks of a trial.
+//! Counts over the blocks of a trial.
 ghost use Rattle.std.specs.Prelude.{◌≡◌, ◌+◌, ◌<◌};
 ghost use Rattle.command_trial.specs.Trials.{added, counts_of, none_counted, AreFew};
 

@@ -1,4 +1,4 @@
-//! What a trial is.
+//! The parameters of a trial.
 ghost use Rattle.std.specs.Prelude.{◌≡◌, ◌≤◌, true};
 ghost use Rattle.segmentation.specs.declared.planning.TheConstants.{MOST_BYTES};
 ghost use Rattle.rate_match.specs.Sendings.{AreSendings, common};
@@ -8,7 +8,7 @@ use block_receive::DecoderLimits;
 use rate_match::Sends;
 use soft_channel::NoiseChannel;
 
-/// What a trial is: how many blocks, 1 to 4,096, of how many bytes, 1 to 18,722, each sent in which
+/// The parameters of a trial: how many blocks, 1 to 4,096, of how many bytes, 1 to 18,722, each sent in which
 /// transmissions, whose soft buffer fits them; the channel, from whose seed the payloads come too; and the
 /// limits of the decoder.
 #[derive(Clone, Copy, Debug)]

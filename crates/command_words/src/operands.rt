@@ -13,7 +13,7 @@ use crate::numbers::Numbers;
 use crate::rules::Rule;
 use crate::splitting::split_first;
 
-/// The first word that is refused, and why: 1 no command, 2 an unknown command, 3 an unknown name,
+/// The first argument that is refused, and why: 1 no command, 2 an unknown command, 3 an unknown name,
 /// 4 a repeated name, 5 a missing name, 6 not spelt as a number, 7 out of range, 8 a soft buffer
 /// that is too small. Places count words from the command, which is at 0.
 #[derive(Clone, Copy, Debug, PartialEq, Eq, Hash)]
@@ -22,7 +22,7 @@ pub struct WordRefusal {
     pub place: usize,
 }
 
-/// What the words give under one name, and where; a default has no place, which is 0.
+/// The value of an operand, and its position; 0 for a default, which has none.
 #[derive(Debug, Drop)]
 pub struct Operand {
     pub place: usize,

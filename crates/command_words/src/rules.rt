@@ -1,4 +1,4 @@
-//! What the commands take: for each name of an operand how its numbers are spelt, which of them
+//! The operands of each command: for each name of an operand how its numbers are spelt, which of them
 //! are accepted, and what is taken where it isn't given.
 ghost use Rattle.std.specs.Prelude.{◌≡◌, ◌<◌, ◌^◌, ◌≤◌, IsTrue};
 ghost use Rattle.command_words.specs.Rules.{name_text, most, in_range, in_form};
@@ -30,7 +30,7 @@ pub enum Name {
     Amp,
     /// How strong the noise is.
     Noise,
-    /// The seed of all that is drawn.
+    /// The seed of the generator.
     Seed,
     /// The blocks of a trial.
     Blocks,
@@ -118,13 +118,13 @@ impl Range {
     }
 }
 
-/// What a command takes under one name.
+/// An operand of a command.
 #[derive(Clone, Copy, Debug, PartialEq, Eq)]
 pub struct Rule {
     pub name: Name,
     pub form: Form,
     pub range: Range,
-    /// The number that is taken where none is given. `None`: one has to be given.
+    /// The default. `None`: a number has to be given.
     pub default: Option<u64>,
 }
 

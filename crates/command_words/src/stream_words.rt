@@ -50,7 +50,7 @@ pub fn batch_of(operands: &[&str]) -> Result<Command, WordRefusal>
     }
 }
 
-/// Returns the channel, where the operands give nothing else.
+/// Returns the channel, if there are no other operands.
 fn channel_asked(operands: &[&str]) -> Result<NoiseChannel, WordRefusal>
     ensures value { result ≡ channel_asked (texts_of operands.now) }
     ensures lawful { IfOk result IsChannel }

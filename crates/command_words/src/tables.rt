@@ -1,5 +1,5 @@
-//! What each command takes: for each name the form of its numbers, their range, and the number that is taken
-//! where none is given.
+//! The operands of each command: for each name the form of its numbers, their range, and the number that is
+//! taken where none is given.
 use crate::rules::{Form, Name, Range, Rule, rule};
 use crate::transmission_tables::{
     G_LIST, G_NUMBER, NIR_NUMBER, NL_LIST, NL_NUMBER, QM_LIST, QM_NUMBER, RV_LIST, RV_OF_ONE,
@@ -35,25 +35,25 @@ pub const SLOT_NUMBER: Rule = rule!(Slot, Number, Between(0, 19), None);
 
 pub const CELL_NUMBER: Rule = rule!(Cell, Number, Between(0, 503), None);
 
-/// What `codeword` takes.
+/// The operands of `codeword`.
 pub const CODEWORD: [Rule; 3] = [G_NUMBER, QM_NUMBER, RV_OF_ONE];
 
-/// What `encode` takes.
+/// The operands of `encode`.
 pub const ENCODE: [Rule; 6] = [TB_NUMBER, G_LIST, QM_LIST, RV_LIST, NL_LIST, NIR_NUMBER];
 
-/// What `decode` takes.
+/// The operands of `decode`.
 pub const DECODE: [Rule; 3] = [WINDOWS_NUMBER, LIMIT_NUMBER, WORKERS_NUMBER];
 
-/// What `batch` takes.
+/// The operands of `batch`.
 pub const BATCH: [Rule; 3] = [WINDOWS_NUMBER, LIMIT_NUMBER, PIPES_NUMBER];
 
-/// What `channel` and `points` take.
+/// The operands of `channel` and `points`.
 pub const CHANNEL: [Rule; 3] = [AMP_NUMBER, NOISE_NUMBER, SEED_NUMBER];
 
-/// What `upgrade` takes.
+/// The operands of `upgrade`.
 pub const UPGRADE: [Rule; 0] = [];
 
-/// What `trial` takes.
+/// The operands of `trial`.
 pub const TRIAL: [Rule; 12] = [
     SEED_NUMBER,
     BLOCKS_NUMBER,
@@ -69,5 +69,5 @@ pub const TRIAL: [Rule; 12] = [
     LIMIT_NUMBER,
 ];
 
-/// What `scramble` takes.
+/// The operands of `scramble`.
 pub const SCRAMBLE: [Rule; 4] = [RNTI_NUMBER, Q_NUMBER, SLOT_NUMBER, CELL_NUMBER];

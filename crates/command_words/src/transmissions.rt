@@ -21,7 +21,7 @@ pub struct Lists {
     pub nl: Operand,
 }
 
-/// What the words gave of the blocks and their transmissions.
+/// The arguments' values for the blocks and their transmissions.
 #[derive(Debug, Drop)]
 pub struct Asked {
     pub lists: Lists,

@@ -63,7 +63,7 @@ impl MemSink {
         }
     }
 
-    /// Makes room for `more` bytes. A refusal leaves the sink as before.
+    /// Makes room for `more` bytes. Where that fails, the sink is unchanged.
     pub fn reserve(&mut self, more: usize) -> Result<(), NoMemory>
         ensures ok { OnOk result (self.new ≡ after_reserve self.old more) }
         ensures err { OnErr result (self.new ≡ self.old) }

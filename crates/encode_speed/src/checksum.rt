@@ -5,7 +5,7 @@ ghost use Rattle.encode_speed.specs.Checksum.{basis, digit, mixed};
 
 use lte_bits::{Bit, Cell};
 
-/// Returns the byte that stands for a cell.
+/// Returns the byte that represents a cell.
 fn digit(cell: Cell) -> u32
     ensures { result ≡ digit cell }
 {

@@ -2,7 +2,7 @@
 use lte_bits::NoMemory;
 use std::io;
 
-/// What kept the block from being encoded or reported on.
+/// Why the block wasn't encoded or reported on.
 #[derive(Debug, Drop)]
 pub enum Fault {
     NoMemory,

@@ -138,7 +138,7 @@ fn accepted(
     Ok(shape)
 }
 
-/// Returns what a code block of a shape comes to, from its soft values.
+/// Returns the result of decoding a code block of a shape from its soft values.
 fn decoded(alloc: Global, code: &Code, shape: &Shape, values: &[i8]) -> Result<CodeResult, NoMemory>
     requires fill { shape.now.f ≡ code.now.fill }
     requires size { shape.now.k ≡ code.now.k }

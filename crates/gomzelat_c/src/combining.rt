@@ -23,7 +23,7 @@ use segmentation::plans::Plan;
 use soft_buffers::{HarqBuffers, cell_count};
 use std::alloc::Global;
 
-/// What is to be combined, with everything tested.
+/// The arguments of a combining, all tested.
 #[derive(Clone, Copy)]
 struct Job {
     plan: Plan,

@@ -90,7 +90,7 @@ fn results_of(
     try_alone(alloc, task, &buffers, last)
 }
 
-/// What a try leaves.
+/// The outcome of a try.
 #[derive(Drop)]
 struct Left {
     entries: List<CodeBlock>,

@@ -67,7 +67,7 @@ fn write_demapped(
             write_softs(out, softs.as_slice());
             Ok(())
         }
-        // What is refused is told before that memory ran out.
+        // A refusal comes before running out of memory.
         Err(no_memory) => {
             accepted(points, qm, amp, out.len())?;
             Err(no_memory.into())

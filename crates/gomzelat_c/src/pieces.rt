@@ -1,4 +1,4 @@
-//! What a code block sends of its circular buffer (36.212 5.1.4.1.2).
+//! The part of its circular buffer that a code block sends (36.212 5.1.4.1.2).
 ghost use Rattle.std.specs.Prelude.{◌≡◌, ◌≢◌, ◌≤◌, ◌<◌, IfOk, OnOk};
 ghost use Rattle.std.specs.Result.{result_err};
 ghost use Rattle.model_sender.specs.CircularBuffer.{Fits};
@@ -15,9 +15,9 @@ use rate_match::{fits_buffer, piece_len, ring_of, start};
 use segmentation::plan;
 use segmentation::plans::Plan;
 
-/// What a code block sends of its circular buffer: K; the number of its fillers; K_w, the places of the
-/// buffer; N_cb, those that it sends from; k0, where the redundancy version starts; and E, the bits that are
-/// sent.
+/// The part of its circular buffer that a code block sends: K; the number of its fillers; K_w, the places of
+/// the buffer; N_cb, those that it sends from; k0, where the redundancy version starts; and E, the bits that
+/// are sent.
 #[repr(C)]
 #[derive(Clone, Copy, Debug)]
 pub struct Piece {

@@ -1,4 +1,4 @@
-//! What a receiver is told, and what it tells.
+//! The limits of a receiver, and its outcome.
 ghost use Rattle.std.specs.Prelude.{◌≡◌};
 ghost use Rattle.gomzelat_c.specs.Receiving.{summary};
 
@@ -14,7 +14,7 @@ pub struct Receiver {
     pub limit: u32,
 }
 
-/// What the transmissions of a transport block came to: 1 in `delivered` where it was delivered, else 0;
+/// The outcome of a transport block after its transmissions: 1 in `delivered` where it was delivered, else 0;
 /// the number of transmissions, up to the one at which all checks held; and the sum over the code blocks
 /// of the iterations that each took when it was last decoded.
 #[repr(C)]
@@ -26,7 +26,7 @@ pub struct Outcome {
 }
 
 impl Outcome {
-    /// Returns what C is told of an outcome.
+    /// Returns an outcome as C sees it.
     pub fn of(outcome: &TbOutcome) -> Outcome
         ensures { result ≡ summary outcome.now }
     {

@@ -24,7 +24,7 @@ use rate_match::{Sends, fits_buffer};
 use segmentation::plans::Plan;
 use std::alloc::Global;
 
-/// What is to be received, with everything tested.
+/// The arguments of a reception, all tested.
 #[derive(Clone, Copy)]
 struct Job {
     task: Task,

@@ -1,4 +1,4 @@
-//! Why a call gives nothing, and the number by which its caller is told.
+//! The error codes of the library.
 ghost use Rattle.std.specs.Prelude.{◌≡◌, [], ◌∷◌, IsTrue, OnOk};
 ghost use Rattle.std.specs.Result.{result_err};
 ghost use Rattle.gomzelat_c.specs.Refusals.{number_of, refusal_of, told};
@@ -8,8 +8,8 @@ use lte_bits::NoMemory;
 use rate_match::BadMatch;
 use segmentation::BadLength;
 
-/// Why a call gives nothing: that memory ran out, which is told only where nothing is refused; and what is
-/// refused, in the order in which it is tested.
+/// Why a call fails: memory ran out, which is only answered where nothing is refused; or an argument is
+/// refused, in the order in which they are tested.
 #[derive(Clone, Copy, Debug, PartialEq, Eq, Hash)]
 pub enum Refusal {
     /// Memory ran out.

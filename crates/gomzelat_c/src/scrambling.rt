@@ -16,7 +16,7 @@ use gold_scramble::{Init, scramble_bits, turn_softs};
 use lte_bits::{List, NoMemory, Soft, pack};
 use std::alloc::Global;
 
-/// What a transmission is scrambled by: n_RNTI, 0 to 65,535; q, the number of its codeword, 0 or 1; n_s, its
+/// The numbers of a scrambling sequence: n_RNTI, 0 to 65,535; q, the number of its codeword, 0 or 1; n_s, its
 /// slot, 0 to 19; and the identity of the cell, 0 to 503.
 #[repr(C)]
 #[derive(Clone, Copy, Debug)]

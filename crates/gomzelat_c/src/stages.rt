@@ -136,7 +136,7 @@ fn write_spots(alloc: Global, bytes: usize, r: usize, out: &mut [u32]) -> Result
 }
 
 /// Writes to the beginning of `out`, for each of the K_w places of the circular buffer of code block `r` of
-/// a payload of `bytes` bytes, which bit of the coded streams stands there: 65,536 times its stream and its
+/// a payload of `bytes` bytes, which bit of the coded streams is there: 65,536 times its stream and its
 /// index; or 2^32 - 1 at a NULL. Answers 0, or a `Refusal`'s number, and then nothing is changed.
 #[unsafe(no_mangle)]
 pub extern "C" fn gomzelat_spots(alloc: Global, bytes: usize, r: usize, out: &mut [u32]) -> u32

@@ -1,4 +1,4 @@
-//! What a caller keeps of a transport block from call to call.
+//! The state of a transport block that a caller keeps between calls.
 ghost use Rattle.std.specs.Prelude.{◌≡◌, ◌≢◌, ◌≤◌, ◌<◌, ◌++◌, [], ◌∷◌, IfOk, OnOk, flat_map, length, map};
 ghost use Rattle.lte_bits.specs.Bits.{bit_of, digit};
 ghost use Rattle.model_sender.specs.Segmentation.{plan_of, size};
@@ -16,8 +16,8 @@ use segmentation::{fill, size};
 use soft_buffers::cell_count;
 use std::alloc::Global;
 
-/// What a code block came to: whether its check holds, 1 or 0, and the iterations that its last decoding
-/// took. Of what a caller leaves here, any number but 0 tells that the block passed.
+/// The outcome of a code block: whether its check holds, 1 or 0, and the iterations of its last decoding.
+/// Of a caller's value, any number but 0 says that the block passed.
 #[repr(C)]
 #[derive(Clone, Copy, Debug)]
 pub struct CodeBlock {

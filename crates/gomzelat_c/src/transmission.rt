@@ -20,7 +20,7 @@ pub struct Transmission {
     pub rv: u32,
 }
 
-/// Returns the soft buffer of N_IR soft values, where 0 stands for a full one.
+/// Returns the soft buffer of N_IR soft values; 0 means a full one.
 pub fn buffer_of(n_ir: u32) -> Buffer
     ensures { limit_of result ≡ limit_in n_ir }
 {

@@ -15,7 +15,7 @@ pub trait HalfDecoder: Drop {
 
     ghost shape: { Self → Numbers };
 
-    /// What the next half starts from.
+    /// The state from which the next half starts.
     ghost before: { Self → Before };
 
     /// Decodes half `h`.

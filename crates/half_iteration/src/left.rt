@@ -1,4 +1,4 @@
-//! The borders that a window leaves to its neighbours.
+//! The borders that a window hands to its neighbours.
 ghost use Rattle.std.specs.Prelude.{◌≡◌, ◌<◌, length};
 ghost use Rattle.model_receiver.specs.HalfIteration.{none_left, end_by};
 

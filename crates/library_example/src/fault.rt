@@ -2,7 +2,7 @@
 use lte_bits::NoMemory;
 use std::io;
 
-/// What kept the payload from being sent or told of.
+/// Why the payload wasn't sent or reported on.
 #[derive(Debug, Drop)]
 pub enum Fault {
     NoMemory,

@@ -9,7 +9,7 @@ use fault::Fault;
 use std::process::ExitCode;
 use transfer::transfer;
 
-/// What is sent, 1 to 18,722 bytes.
+/// The payload, 1 to 18,722 bytes.
 const TEXT: &[u8] = b"A payload goes from one end to the other.";
 
 fn main(rt: HostRuntime) -> Result<ExitCode, Fault> {

@@ -1,8 +1,8 @@
-//! What windows in lock step read: the borders between which they run, and their soft values.
+//! The inputs of windows in lock step: the borders between which they run, and their soft values.
 use window_decode::Border;
 
-/// The borders between which N windows run: window `t` starts from the forward metrics `alpha[t]`, and ends at
-/// the backward metrics `beta[t]`.
+/// The borders between which N windows run: window `t` starts from the forward metrics `alpha[t]`, and ends
+/// at the backward metrics `beta[t]`.
 #[derive(Clone, Copy)]
 pub struct BordersIn<'a> {
     pub alpha: &'a [Border],

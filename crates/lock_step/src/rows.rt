@@ -19,7 +19,7 @@ use crate::metrics::{backward, forward, keep};
 use crate::scratch::KernelScratch;
 use window_decode::{Border, metrics_stay_near};
 
-/// Keeps the metrics before each position in the rows, and leaves those after the last.
+/// Writes the metrics before each position to the rows, and those after the last to `m`.
 fn sweep_forward<const N: usize>(
     rows: &mut [[[i16; N]; 8]],
     m: &mut [[i16; N]; 8],
@@ -113,8 +113,8 @@ fn sweep_backward<const N: usize>(
     }
 }
 
-/// Decodes N windows between their borders, window `t` in lane `t` of each row: leaves the new cells with their
-/// sums, and the forward and the backward border of each window.
+/// Decodes N windows between their borders, window `t` in lane `t` of each row. Writes the new cells with
+/// their sums, and the forward and the backward border of each window.
 pub fn run_rows<const N: usize>(
     scratch: &mut KernelScratch<N>,
     borders: BordersIn<'_>,

@@ -63,7 +63,7 @@ pub fn unpack(alloc: Global, bytes: &[u8]) -> Result<List<Bit>, NoMemory>
 pub fn byte_of(digits: &[Bit; 8]) -> u8
     ensures { result ≡ number digits.now }
 {
-    // In the highest byte of this product each digit stands where it belongs.
+    // The highest byte of this product has each digit at its place.
     let digits = u64::from_le_bytes(digits.map(u8::from));
     (digits.wrapping_mul(0x8040_2010_0804_0201) >> 56) as u8
 }

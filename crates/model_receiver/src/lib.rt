@@ -1,4 +1,4 @@
-//! What a receiver makes of soft values, as definitions: soft cells, the decoding of a code block, and
+//! The receiver's rules, as definitions: soft cells, the decoding of a code block, and
 //! what several transmissions of a transport block come to.
 #![tactic(auto)]
 

@@ -1,4 +1,4 @@
-//! What the decoding of a code block is told and gives, and what comes of a transport block.
+//! Kinds of check, results of code blocks, and outcomes of transport blocks.
 
 use lte_bits::{Block, List};
 
@@ -18,7 +18,7 @@ pub struct CodeResult {
     pub passed: bool,
 }
 
-/// What the transmissions of a transport block came to. `iterations` is the sum over its code blocks of
+/// The outcome of a transport block after its transmissions. `iterations` is the sum over its code blocks of
 /// the iterations that each took when it was last decoded.
 #[derive(Debug, Drop)]
 pub enum TbOutcome {

@@ -33,7 +33,7 @@ pub fn buffer_is_read_by_columns()
         ≡ slice_index_or (y k s.d2) ((read_place (rows_of k) j + 1) % (32 * rows_of k)) Cell.Null }
 {}
 
-/// w is NULL exactly where no bit stands, and a bit that stands there is one of the streams.
+/// w is NULL exactly where there is no bit, and a bit there is one of the streams.
 pub fn null_stands_where_no_bit_does()
     ensures null { (k fill n : ℕ) (s : Streams) → AreStreams k fill s → n < buffer_size k →
         (w k fill s n ≡ Cell.Null) ↔ (spot k fill n ≡ None) }

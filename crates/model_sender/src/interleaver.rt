@@ -44,7 +44,7 @@ pub fn windows_have_banks_of_their_own()
         → t ≡ u }
 {}
 
-/// The row of a size stands in the table.
+/// The row of a size is in the table.
 pub fn sizes_stand_in_the_table()
     ensures { (k : ℕ) → Contains sizes k → Contains ROWS (row_of k) }
 {}

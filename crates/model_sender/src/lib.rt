@@ -1,4 +1,4 @@
-//! What the standard says of the sender, as definitions.
+//! The standard's rules for the sender, as definitions.
 #![tactic(auto)]
 
 pub mod check_bits;

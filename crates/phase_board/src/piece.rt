@@ -1,10 +1,10 @@
-//! What a board asks of its pieces.
+//! The trait of a board's pieces.
 ghost use Rattle.std.specs.Prelude.{ℕ};
 
 /// A piece of work for one window. All its meanings are over a job, which is the same for all
 /// pieces of a board.
 pub trait Piece {
-    /// What the pieces of a half have in common.
+    /// The state that the pieces of a half share.
     type Common;
 
     /// Plain data. No value of it is made: contracts alone read it.

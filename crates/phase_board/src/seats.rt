@@ -49,7 +49,7 @@ pub struct Turning<P: Piece> {
     ghost shows: { half ≡ half_of seat.me.0.loaded },
 }
 
-/// What a claim answers.
+/// The result of a claim.
 pub enum Claim<P: Piece> {
     /// A window was drawn.
     Taken(Working<P>),
@@ -61,7 +61,7 @@ pub enum Claim<P: Piece> {
     Over(Idle<P>),
 }
 
-/// What a finish answers.
+/// The result of a finish.
 pub enum Finish<P: Piece> {
     /// The mask lacked another window.
     Given(Idle<P>),

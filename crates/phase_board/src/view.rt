@@ -1,7 +1,7 @@
-//! What a seat knows, and what a slot holds.
+//! The ghost knowledge of a seat, and the contents of a slot.
 use std::collections::LinkedList;
 
-/// What a seat does.
+/// The activity of a seat.
 pub enum Activity {
     Idle,
     Working(u64),
@@ -9,7 +9,7 @@ pub enum Activity {
     Reset,
 }
 
-/// What a seat knows. No value of it is made. The lists have numbers of windows, counted through
+/// The knowledge of a seat. No value of it is made. The lists have numbers of windows, counted through
 /// all halves.
 pub struct View<J> {
     pub job: Option<J>,

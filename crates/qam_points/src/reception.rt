@@ -1,4 +1,4 @@
-//! What is received of points.
+//! Reception of points over the channel.
 ghost use Rattle.std.specs.Prelude.{◌≡◌, ◌≤◌, ◌<◌, ◌+◌, ◌*◌, ◌+ℤ◌, ◌*ℤ◌, All, length, pos};
 ghost use Rattle.lte_bits.specs.Softs.{IsWithin};
 ghost use Rattle.qam_points.specs.Constellation.{IsSmall};

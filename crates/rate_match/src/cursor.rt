@@ -42,7 +42,7 @@ fn padded_spot(ring: Ring, number: u8, nulls: usize, p: usize) -> Option<Spot>
     }
 }
 
-/// Place `n` of the buffer: the column that stands there, counted in the order of reading, and the
+/// Place `n` of the buffer: its column, counted in the order of reading, and the
 /// place in the stream by rows.
 #[derive(Clone, Copy)]
 pub struct Cursor {
@@ -119,7 +119,7 @@ impl Cursor {
         }
     }
 
-    /// Returns the bit that stands here.
+    /// Returns the bit here, if it isn't NULL.
     pub fn spot(self, ring: Ring) -> Option<Spot>
         requires within { self.n < ring.size }
         requires lawful { self ≡ cursor_at ring.rows self.n }
@@ -160,7 +160,7 @@ impl Cursor {
         column.min(ring.size - self.n).min(most)
     }
 
-    /// Returns the bits of one column that stand from here on, `most` at most, where a bit stands here.
+    /// Returns the bits of this column from here on, `most` at most, if the one here isn't NULL.
     pub fn run(self, ring: Ring, most: usize) -> Option<Run>
         requires within { self.n < ring.size }
         requires lawful { self ≡ cursor_at ring.rows self.n }

@@ -1,4 +1,4 @@
-//! The rate matching of turbo coded transport blocks (36.212 5.1.4.1): what it is told, which
+//! The rate matching of turbo coded transport blocks (36.212 5.1.4.1): its parameters, which
 //! transmissions are sent, which soft buffers are large enough, and the bits that are sent.
 #![tactic(auto)]
 

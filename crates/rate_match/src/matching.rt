@@ -1,4 +1,4 @@
-//! What the rate matching of a transport block is told.
+//! The parameters of the rate matching of a transport block.
 ghost use Rattle.std.specs.Prelude.{◌≡◌, ◌↔◌, IsTrue};
 ghost use Rattle.rate_match.specs.Matching.{IsMatch, limit_of, matched};
 
@@ -15,7 +15,7 @@ pub enum Buffer {
     Limited(u32),
 }
 
-/// What rate matching is told of a transmission (36.212, 5.1.4.1.2): Q_m, the bits of a modulation symbol,
+/// The rate matching of a transmission (36.212, 5.1.4.1.2): Q_m, the bits of a modulation symbol,
 /// 2, 4 or 6; N_L, the layers, 1 or 2; G, the bits of the codeword, from 1 to 1,000,000 and a multiple of
 /// N_L * Q_m; and the soft buffer.
 #[derive(Clone, Copy, Debug, PartialEq, Eq)]

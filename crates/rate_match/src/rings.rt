@@ -11,7 +11,7 @@ use segmentation::plans::Plan;
 use segmentation::{fill, size};
 
 /// The first `size` places of the circular buffer (36.212, 5.1.4.1.2) of a block of `k` bits, whose first
-/// `fill` are fillers and whose streams take `rows` rows. All of d0 stands there.
+/// `fill` are fillers and whose streams take `rows` rows. It holds all of d0.
 #[derive(Clone, Copy)]
 pub struct Ring {
     pub k: usize,

@@ -22,9 +22,9 @@ use model_sender::Spot;
 use segmentation::plans::Plan;
 use std::alloc::Global;
 
-/// Returns the bit of d0, d1 or d2 that stands at place `n` of the circular buffer of a block of `k` bits,
-/// the first `fill` of which are fillers (36.212, 5.1.4.1.1 and 5.1.4.1.2). `None` comes exactly where NULL
-/// stands there. K is one of the 188 sizes, `fill` is below K, and `n` is below K_w.
+/// Returns the bit of d0, d1 or d2 at place `n` of the circular buffer of a block of `k` bits,
+/// the first `fill` of which are fillers (36.212, 5.1.4.1.1 and 5.1.4.1.2). `None` comes exactly where it is
+/// NULL. K is one of the 188 sizes, `fill` is below K, and `n` is below K_w.
 pub fn spot(k: usize, fill: usize, n: usize) -> Option<Spot>
     requires size { Contains sizes k }
     requires fills { fill < k }
@@ -82,7 +82,7 @@ fn write_run(out: &mut [Bit], streams: &Streams, run: Run)
     }
 }
 
-/// Writes the bits of the streams from place `start` of the ring on, round and round.
+/// Writes the bits of the streams from place `start` of the ring on, cyclically.
 fn write_bits(out: &mut [Bit], streams: &Streams, ring: Ring, start: usize)
     requires streams { AreStreams ring.k ring.fill streams.now }
     ensures { out.new ≡ map (λ n. bit_of_cell (w ring.k ring.fill streams.now n))

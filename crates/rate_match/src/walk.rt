@@ -21,7 +21,7 @@ impl Walk {
     ghost use Rattle.rate_match.specs.Runs.{IsRun, run_places};
     ghost use Rattle.rate_match.specs.Walk.{places_from};
 
-    /// Returns a walk that begins at place `start`, counted round and round.
+    /// Returns a walk that begins at place `start`, counted cyclically.
     pub fn new(ring: Ring, start: usize) -> Walk
         ensures ring { result.ring ≡ ring }
         ensures places { (e : ℕ) → places_from result e

@@ -11,9 +11,9 @@ use std::alloc::Global;
 /// A part of a command's answer.
 #[derive(Debug, Drop)]
 pub struct Part {
-    /// What it adds to `out`.
+    /// Its bytes for `out`.
     pub text: Vec<u8>,
-    /// What it adds to the report.
+    /// Its bytes for the report.
     pub line: Vec<u8>,
     /// How many bytes of input it takes.
     pub size: usize,
@@ -39,7 +39,7 @@ pub enum Stop {
     Fails(Status),
 }
 
-/// What one round gives: parts in their order, and how it stops after them.
+/// The result of a round: parts in their order, and how it stops after them.
 #[derive(Debug, Drop)]
 pub struct Round {
     pub parts: Vec<Part>,

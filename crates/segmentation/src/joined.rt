@@ -1,4 +1,4 @@
-//! What code blocks carry.
+//! Code blocks joined again.
 
 use lte_bits::List;
 

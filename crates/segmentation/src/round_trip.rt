@@ -1,4 +1,4 @@
-//! What is cut is joined again. Each function computes nothing: its contract is the law.
+//! Joining inverts cutting. Each function computes nothing: its contract is the law.
 ghost use Rattle.std.specs.Prelude.{◌≡◌, ℕ, ◌*◌, ◌<◌, ◌≤◌, ◌++◌, All, List, length, take};
 ghost use Rattle.lte_bits.specs.Packing.{packed, unpacked};
 ghost use Rattle.model_sender.specs.CheckBits.{IsMultiple, crc, crc24a};

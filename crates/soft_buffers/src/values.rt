@@ -11,7 +11,7 @@ ghost use Rattle.soft_buffers.specs.Runs.{with_values};
 use lte_bits::Soft;
 use rate_match::{Ring, Run, Spot, Walk};
 
-/// Returns where the cell of a bit stands among those of a block of `k` bits.
+/// Returns the index of a bit's cell among those of a block of `k` bits.
 fn cell_index(k: usize, spot: Spot) -> usize
     requires few { k ≤ 6144 }
     requires stream { spot.stream ≤ 2 }
@@ -43,8 +43,8 @@ fn add_run(cells: &mut [Soft], k: usize, run: Run, values: &[Soft])
     }
 }
 
-/// Adds each value at once to the cell of the bit that it is of: the bits stand in the ring from place
-/// `start` on, round and round.
+/// Adds each value to the cell of its bit: the bits are read from the circular buffer cyclically, from place
+/// `start` on.
 pub fn add_values(cells: &mut [Soft], ring: Ring, start: usize, values: &[Soft])
     requires cells { length cells.old ≡ 3 * (ring.k + 4) }
     ensures cells { (s : Bit) → IsBit ring.k s → cell_of ring.k cells.new s

@@ -9,10 +9,10 @@ use rand_chacha::ChaCha8Rng;
 use rand_core::SeedableRng;
 use rand_core::utils::NextWord;
 
-/// How many words are drawn at a time: the generator makes as many at once.
+/// The words drawn at a time, as many as the generator makes at once.
 pub const CHUNK: usize = 64;
 
-/// What words are drawn for.
+/// The purpose that words are drawn for.
 #[derive(Clone, Copy)]
 pub enum Purpose {
     Noise,

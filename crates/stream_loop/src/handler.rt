@@ -11,12 +11,12 @@ use coded_stream::{Header, Want};
 use lte_bits::NoMemory;
 use std::alloc::Global;
 
-/// What a block comes to.
+/// The result of a block.
 #[derive(Debug, Drop)]
 pub struct Handled {
-    /// What it adds to `out`.
+    /// Its bytes for `out`.
     pub text: Vec<u8>,
-    /// What it adds to the report.
+    /// Its bytes for the report.
     pub line: Vec<u8>,
     /// Whether it failed.
     pub failed: bool,
@@ -26,10 +26,10 @@ pub struct Handled {
 pub trait Handler: Drop {
     ghost use Rattle.stream_loop.specs.Rounds.{block_of, handled_of};
 
-    // What it makes of a stream.
+    // Its meaning for a stream.
     ghost handling: { Self → Handling };
 
-    // What has to be known of it before it is handed a block.
+    // Its precondition for a block.
     ghost able: { Self → Type 0 } = { λ _. Unit {0} };
 
     /// Returns which streams it takes.
@@ -41,7 +41,7 @@ pub trait Handler: Drop {
     fn header(&self, header: &Header) -> Option<Header>
         ensures { option_map header_of result ≡ (handling self.now).header (header_of header.now) };
 
-    /// Returns what a block comes to: its number, from 0, the bytes of its payload, and the bytes of its
+    /// Returns the result of a block: its number, from 0, the bytes of its payload, and the bytes of its
     /// transmissions, one transmission after the other.
     fn block(
         &self,

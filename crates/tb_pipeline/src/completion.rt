@@ -1,4 +1,4 @@
-//! What the queue of answers holds, what its passes know, and what a step tells.
+//! The items of the queue of results, what its passes know, and the result of a step.
 ghost use Rattle.std.specs.Prelude.{◌≡◌, None, ⊤};
 ghost use Rattle.tb_pipeline.specs.Completions.{IsAnswered, opens, received};
 
@@ -10,7 +10,7 @@ use std::collections::LinkedList;
 use std::marker::PhantomData;
 use std::snapshot::Snapshot;
 
-/// What the queue of answers holds.
+/// An item of the queue of results.
 #[derive(Drop)]
 pub enum Completion<J, D> {
     /// The jobs whose results are awaited: this comes first.
@@ -80,7 +80,7 @@ pub(crate) struct Answers<J: Job> {
     >,
 }
 
-/// What a thread sends results with.
+/// A thread's end of the queue of results.
 #[derive(Drop)]
 pub(crate) struct ResultSender<J: Job> {
     pub(crate) pass: Pass<Completion<J, <J as Job>::Done>, KnownJobs<J>>,

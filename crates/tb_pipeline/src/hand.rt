@@ -17,13 +17,13 @@ pub struct Relay {
     ghost filled: { IsPassOf queue filler.value × ((view filler.value).all ≡ all_items count hands) },
 }
 
-/// What takes numbers from a relay, until it has taken an end mark.
+/// Takes numbers from a relay until it takes an end mark.
 #[derive(Drop)]
 pub struct Hand {
     pub(crate) pass: Pass<Item, Known>,
 }
 
-/// What a hand takes from a relay.
+/// An item that a hand takes from a relay.
 #[derive(Drop)]
 pub enum Next {
     /// The number of a job.

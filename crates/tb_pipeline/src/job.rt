@@ -3,7 +3,7 @@
 /// A job. Threads share it. One that needs memory holds the allocator that it uses, and its running out of
 /// memory is a value of its `Done`.
 pub trait Job {
-    /// What a job gives.
+    /// The result of a job.
     type Done;
 
     // Which values answer the job.
@@ -14,7 +14,7 @@ pub trait Job {
         ensures { answers self.now result };
 }
 
-/// What a worker enters before it does a job. Threads share it.
+/// The hook that a worker enters before each job. Threads share it.
 pub trait Start {
     /// A worker is about to do a job, counted from 0.
     fn enter(&self, number: usize);

@@ -1,4 +1,4 @@
-//! What the queue of a relay holds, what its passes know, and what a step tells.
+//! The items of a relay's queue, what its passes know, and the result of a step.
 ghost use Rattle.tb_pipeline.specs.declared.known.Role.TheVariants.{Filled};
 ghost use Rattle.tb_pipeline.specs.Relays.{Popped, hand_of, puts};
 
@@ -7,7 +7,7 @@ use crossbeam_queue::protocol::{Outcome, Protocol, Split};
 use std::alloc::Global;
 use std::collections::LinkedList;
 
-/// What the queue of a relay holds.
+/// An item of a relay's queue.
 #[derive(Clone, Copy)]
 pub enum Item {
     /// The number of a job.
@@ -16,7 +16,7 @@ pub enum Item {
     EndMark,
 }
 
-/// What a pass is for.
+/// The role of a pass.
 #[derive(Clone, Copy)]
 pub enum Role {
     /// It fills the queue. No other pass was made.

@@ -47,7 +47,7 @@ where
     unreachable!()
 }
 
-/// Has a worker for each hand do jobs, and gives back the hands, each of which has taken an end mark.
+/// Runs a worker for each hand, and returns the hands, each of which has taken an end mark.
 pub(crate) fn work_all<J: Job + Sync, G: Start + Sync, R: Threads + Wait + Sync>(
     rt: &R,
     relay: &Relay,

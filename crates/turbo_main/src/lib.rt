@@ -1,4 +1,4 @@
-//! What the program's main does with its arguments: words, a run of them, and how it exits.
+//! The program's main: it parses the arguments, runs the command, and returns the exit status.
 #![tactic(auto)]
 
 mod arguments;

@@ -1,7 +1,8 @@
-//! What one position's steps earn.
+//! The branch metrics of one position.
 ghost use Rattle.lte_bits.specs.Softs.{IsWithin};
 
-/// What an input bit 0 earns at a position, by systematic value and cell, and a parity bit 0.
+/// The branch metrics of a position: `input` for an input bit 0, by systematic value and a-priori cell, and
+/// `parity` for a parity bit 0.
 #[derive(Clone, Copy)]
 pub struct Step {
     pub input: i16,

@@ -1,4 +1,4 @@
-//! What the windows of a half have in common.
+//! The state that the windows of a half share.
 ghost use Rattle.std.specs.Prelude.{◌≡◌, ◌%◌, ◌==◌, if◌then◌else◌};
 
 use crate::piece::Tools;
@@ -47,7 +47,7 @@ pub enum Stage {
     Decided(CodeResult),
 }
 
-/// What the pieces of a board have in common: a decoding that runs, or its result.
+/// The state that the pieces of a board share: a decoding under way, or its result.
 pub struct WindowCommon {
     pub(crate) stage: Stage,
 }

@@ -1,4 +1,4 @@
-//! What a worker passes before each window.
+//! The hook that a worker enters before each window.
 
 /// A gate that a worker enters before it runs a window. Threads share it.
 pub trait Gate {

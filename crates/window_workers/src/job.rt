@@ -1,4 +1,4 @@
-//! What the pieces of a board are for.
+//! The job that the pieces of a board belong to.
 
 use cell_shares::CellsName;
 use lte_bits::SoftStreams;

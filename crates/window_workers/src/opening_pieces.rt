@@ -1,4 +1,4 @@
-//! What a board is made of.
+//! The pieces of a new board.
 ghost use Rattle.std.specs.Prelude.{◌≡◌, ◌<◌, IfOk, replicate};
 ghost use Rattle.model_sender.specs.Interleaver.{row_of};
 ghost use Rattle.qpp_table.specs.Qpp.{row_in};

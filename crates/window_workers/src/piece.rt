@@ -11,7 +11,7 @@ use phase_board::Piece;
 use std::snapshot::Snapshot;
 use window_decode::{Border, Ext, Shape, Work};
 
-/// What a worker needs for a window in every half, and the borders that the window left last.
+/// A worker's tools for a window in every half, and the borders that the window left last.
 #[derive(Drop)]
 pub struct Tools {
     pub(crate) streams: Snapshot<SoftStreams>,

@@ -1,5 +1,5 @@
-//! Windows in lock step over banks of cells, by an order of the places: the decoder runs them by `LaneViews::run`,
-//! which has soft values in rows and permutations once for a code block.
+//! Windows in lock step over banks of cells, by an order of the places: the decoder runs them by
+//! `LaneViews::run`, which has soft values in rows and permutations once for a code block.
 ghost use Rattle.std.specs.Prelude.{◌≡◌, ℕ, ◌*◌, ◌/◌, ◌<◌, ◌≤◌, length, take};
 ghost use Rattle.model_receiver.specs.Windows.{new_cells, forward_left, backward_left};
 ghost use Rattle.cell_shares.specs.Orders.{place_in, IsOrderOf};
@@ -82,10 +82,10 @@ fn run_in_order<const N: usize>(
     }
 }
 
-/// Decodes N windows of W positions in lock step between their borders: leaves the new cells in the banks,
-/// and the borders that each window leaves, the forward one in `alpha_out` and the backward one in `beta_out`.
-/// `sys` and `par` have the N*W values by position. An interleaved order has N*W places, and the work has room for
-/// W.
+/// Decodes N windows of W positions in lock step between their borders: writes the new cells to the banks,
+/// and the borders that each window leaves, the forward one in `alpha_out` and the backward one in
+/// `beta_out`. `sys` and `par` have the N*W values by position. An interleaved order has N*W places, and the
+/// work has room for W.
 pub fn run_lock_step<const N: usize>(
     work: &mut LaneWork<N>,
     order: &Order,
