@@ -1,32 +1,33 @@
 /* The coding chain of LTE transport blocks, 3GPP TS 36.212 5.1.1 to 5.1.5, with a receiver and a channel: the calls of
- * libgomzelat. What is proved is the crate behind these declarations; the declarations are tested. docs/LIBRARY_C.md
- * says how to build, install and link.
+ * libgomzelat. The crate behind these declarations is proved; the declarations are tested. docs/LIBRARY_C.md says how
+ * to build, install and link.
  *
- * Every call but gomzelat_version answers a number: GOMZELAT_DONE, or what is refused. All arguments are tested, in the
- * order of the numbers and transmission after transmission, and the first that is refused is told. Then, and where
- * memory runs out, no buffer and no structure of the caller is changed.
+ * Every call but gomzelat_version returns GOMZELAT_DONE or an error code. All arguments are tested, in the order of the
+ * codes and transmission after transmission, and the first error is returned. After an error, and where memory runs
+ * out, no buffer and no structure of the caller has changed.
  *
- * Bits stand in bytes with the highest bit first. A soft value is a number from -127 to 127, positive where 0 is
- * likelier and negative where 1 is; -128 is taken as -127.
+ * Bits are packed into bytes, highest bit first. A soft value (LLR) is a number from -127 to 127, positive where 0 is
+ * likelier and negative where 1 is; 0 is an erasure, and -128 is taken as -127.
  *
- * What a caller owes:
+ * A caller owes:
  *
- * - A pointer that comes with a length leads to so much memory, and may be null where that length is 0. The others are
- *   not null. What a call writes to doesn't overlap anything else that it is passed.
- * - What is passed doesn't change during a call. Several threads may call at once, and share what they only pass to be
- *   read: nothing is kept from one call to the next, and no call starts a thread.
- * - malloc, realloc and free are those of one allocator, and may be called: a call takes working memory and gives it
- *   back before it returns. So no call is made from a signal handler, nor in the child that a process of several
- *   threads forked. The caller owns all buffers.
+ * - A pointer with a length points to that many items, and may be null where the length is 0. Other pointers are not
+ *   null. An output doesn't overlap any other argument.
+ * - Arguments don't change during a call. Calls are thread-safe: threads may call at once, and share inputs. No state is
+ *   kept between calls, and no call starts a thread.
+ * - malloc, realloc and free are those of one allocator, and may be called: a call frees what it allocates before it
+ *   returns. So no call is made from a signal handler, nor in the child that a process of several threads
+ *   forked. The caller owns all buffers.
  * - There are 16 kB of stack for a call; as measured, none takes more than 9 kB. Of malloc's memory, as measured,
  *   gomzelat_receive takes 0.7 MB at most for one transmission of 9,422 bytes in 90,000 bits, and 9 MB for the longest
  *   block in eight transmissions of a million bits; for a million bits gomzelat_demap takes 4 MB, gomzelat_combine 3 MB,
  *   gomzelat_map 2.5 MB and gomzelat_noisy 2 MB; each other call takes less than 1.5 MB (bindings/c/costs.c).
  * - The system is Linux on x86-64, and the processor has the level that the library was compiled for: x86-64-v2 (SSE4.2,
- *   SSSE3, POPCNT), or x86-64-v3 (AVX2 as well), which bindings/build takes on a machine that has it. Nothing asks it.
+ *   SSSE3, POPCNT), or x86-64-v3 (AVX2 as well), which bindings/build takes on a machine that has it. No call checks
+ *   the processor.
  *
- * In later editions structures may grow, at their end alone, and there may be more answers, after these: a program that
- * is compiled anew stays right, and one that was compiled before doesn't load a library of another edition. */
+ * In later editions structures may grow, at their end alone, and there may be more error codes, after these: a program
+ * that is compiled anew stays right, and one that was compiled before doesn't load a library of another edition. */
 #ifndef GOMZELAT_H
 #define GOMZELAT_H
 
@@ -41,11 +42,11 @@
 extern "C" {
 #endif
 
-/* What a call answers. What is refused is numbered in the order in which it is tested; a later version's numbers come
- * after these. */
+/* What a call returns. Errors are numbered in the order in which they are tested; those of later versions come after
+ * these. */
 enum gomzelat_answer {
     GOMZELAT_DONE = 0,
-    GOMZELAT_NO_MEMORY = 1, /* memory ran out: told only where nothing is refused */
+    GOMZELAT_NO_MEMORY = 1, /* memory ran out; only where no argument is in error */
     GOMZELAT_BAD_LENGTH = 2, /* a payload has no bytes, or more than GOMZELAT_MOST_BYTES */
     GOMZELAT_BAD_COUNT = 3, /* there are no transmissions, or more than GOMZELAT_MOST_TRANSMISSIONS */
     GOMZELAT_BAD_QM = 4, /* Q_m isn't 2, 4 or 6 */
@@ -72,7 +73,7 @@ enum gomzelat_answer {
     GOMZELAT_SHORT_BITS = 25 /* there are fewer bytes than the code blocks have bits */
 };
 
-/* Returns what an answer says, in a few words. */
+/* Returns the text of an answer. */
 static inline const char *gomzelat_text(uint32_t answer) {
     switch (answer) {
     case GOMZELAT_DONE: return "done";
@@ -109,7 +110,7 @@ static inline const char *gomzelat_text(uint32_t answer) {
 #define GOMZELAT_MOST_BITS 1000000
 #define GOMZELAT_MOST_TRANSMISSIONS 8
 
-/* What gomzelat_sizes says at most, for buffers of one size. */
+/* The greatest numbers of gomzelat_sizes, for buffers of a fixed size. */
 #define GOMZELAT_MOST_CELLS 451500
 #define GOMZELAT_MOST_BLOCKS 25
 #define GOMZELAT_MOST_BLOCK_BITS 150400
@@ -126,12 +127,12 @@ struct gomzelat_transmission {
 };
 
 /* Writes the codeword of a transmission: to `out`, of `room` bytes, its G bits in GOMZELAT_BYTES(G) bytes, with unused
- * low bits 0; the bytes after them are left.
+ * low bits 0; the bytes after them are unchanged.
  *
  * `payload`, `length`: the transport block, 1 to GOMZELAT_MOST_BYTES bytes.
- * `n_ir`: N_IR, the soft values of the receiver's buffer for the transport block, or 0 for a full buffer. Of it, each
- * code block has to have as many as the first stream of the largest takes in the sub-block interleaver: N_IR / C,
- * rounded down, at least 32 times its rows.
+ * `n_ir`: N_IR, the soft values of the receiver's buffer for the transport block, or 0 for a full buffer. The part of a
+ * code block, N_IR / C rounded down, has to hold the first stream of the largest block: 32 times the rows of its
+ * sub-block interleaver.
  *
  * Refused: BAD_LENGTH, BAD_QM, BAD_NL, BAD_G, BAD_VERSION, BAD_BUFFER, SHORT_OUTPUT. */
 uint32_t gomzelat_codeword(const uint8_t *payload, size_t length, struct gomzelat_transmission transmission,
@@ -139,14 +140,14 @@ uint32_t gomzelat_codeword(const uint8_t *payload, size_t length, struct gomzela
 
 /* Writes the codewords of `count` transmissions, 1 to GOMZELAT_MOST_TRANSMISSIONS, with one soft buffer, from one
  * coding of the transport block: to `out`, of `room` bytes, one after the other, each in GOMZELAT_BYTES(G) bytes of its
- * own as gomzelat_codeword writes it; the bytes after them are left.
+ * own as gomzelat_codeword writes it; the bytes after them are unchanged.
  *
  * Refused: BAD_LENGTH, BAD_COUNT, BAD_QM, BAD_NL, BAD_G, BAD_VERSION, BAD_BUFFER, SHORT_OUTPUT. */
 uint32_t gomzelat_codewords(const uint8_t *payload, size_t length, const struct gomzelat_transmission *transmissions,
                             size_t count, uint32_t n_ir, uint8_t *out, size_t room);
 
 /* How a transport block is cut into code blocks (5.1.2): the first `c_minus` have `k_minus` bits, the others, `c_plus`
- * of them, `k_plus`, and `f` fillers stand first in the first one. */
+ * of them, `k_plus`, and the first one begins with `f` fillers. */
 struct gomzelat_plan {
     size_t c;
     size_t k_plus;
@@ -156,7 +157,7 @@ struct gomzelat_plan {
     size_t f;
 };
 
-/* Leaves in `plan` how a payload of `length` bytes is cut. Refused: BAD_LENGTH. */
+/* Writes to `plan` how a payload of `length` bytes is cut. Refused: BAD_LENGTH. */
 uint32_t gomzelat_plan(size_t length, struct gomzelat_plan *plan);
 
 /* Writes the K bits of code block `r`, counted from 0, to `out`: each 0 or 1 in a byte, fillers 0, with all check bits.
@@ -167,12 +168,12 @@ uint32_t gomzelat_code_block(const uint8_t *payload, size_t length, size_t r, ui
  * 0, 1, or 2 at a NULL. Refused: BAD_LENGTH, BAD_BLOCK, SHORT_OUTPUT. */
 uint32_t gomzelat_streams(const uint8_t *payload, size_t length, size_t r, uint8_t *out, size_t room);
 
-/* Writes to `out`, for each of the K_w places of the circular buffer of code block `r` (5.1.4.1), which bit stands there:
- * 65,536 times its stream, and its index; or 2^32 - 1 at a NULL. K_w is 96 times (K + 4) / 32, rounded up.
+/* Writes to `out`, for each of the K_w places of the circular buffer of code block `r` (5.1.4.1), its bit: 65,536 times
+ * its stream, plus its index; or 2^32 - 1 at a NULL. K_w is 96 times (K + 4) / 32, rounded up.
  * Refused: BAD_LENGTH, BAD_BLOCK, SHORT_OUTPUT. */
 uint32_t gomzelat_spots(size_t length, size_t r, uint32_t *out, size_t room);
 
-/* What a code block sends of its circular buffer (5.1.4.1.2). */
+/* The part of its circular buffer that a code block sends (5.1.4.1.2). */
 struct gomzelat_piece {
     size_t k;      /* its bits */
     size_t fill;   /* those that are fillers */
@@ -182,13 +183,13 @@ struct gomzelat_piece {
     size_t bits;   /* E, the bits that are sent */
 };
 
-/* Leaves in `piece` what code block `r` of a payload of `length` bytes sends in a transmission.
+/* Writes to `piece` what code block `r` of a payload of `length` bytes sends in a transmission.
  * Refused: BAD_LENGTH, BAD_QM, BAD_NL, BAD_G, BAD_VERSION, BAD_BUFFER, BAD_BLOCK. */
 uint32_t gomzelat_piece(size_t length, size_t r, struct gomzelat_transmission transmission, uint32_t n_ir,
                         struct gomzelat_piece *piece);
 
 /* Writes the E bits that code block `r` sends in a transmission to `out`, each 0 or 1 in a byte; the bytes after them
- * are left. Block after block, these are the bits of the codeword.
+ * are unchanged. Block after block, these are the bits of the codeword.
  * Refused: BAD_LENGTH, BAD_QM, BAD_NL, BAD_G, BAD_VERSION, BAD_BUFFER, BAD_BLOCK, SHORT_OUTPUT. */
 uint32_t gomzelat_select(const uint8_t *payload, size_t length, size_t r, struct gomzelat_transmission transmission,
                          uint32_t n_ir, uint8_t *out, size_t room);
@@ -208,14 +209,15 @@ uint32_t gomzelat_crc24b(const uint8_t *bits, size_t count, uint8_t *out, size_t
 
 /* How a receiver decodes. A code block of K bits has the greatest number of windows up to `windows` that divides K and
  * leaves each of them 8 bits. 8, 16 and 32 of them run in lock step, which is fastest: 8 for every K from 64 on, 16 from
- * 512 on, 32 from 1,024 on. More windows know less of the bits beyond their borders, and decode a little worse. */
+ * 512 on, 32 from 1,024 on. More windows decode a little worse: each knows
+ * less of the bits beyond its borders. */
 struct gomzelat_receiver {
     uint32_t n_ir;    /* N_IR, as for gomzelat_codeword; 0 is a full buffer */
     uint32_t windows; /* the most windows of a code block: 1 to 64 */
     uint32_t limit;   /* the most iterations of a code block: 1 to 16 */
 };
 
-/* What the transmissions of a transport block came to. */
+/* The outcome of a transport block after its transmissions. */
 struct gomzelat_outcome {
     uint32_t delivered;   /* 1 where all checks held, else 0 */
     size_t transmissions; /* up to the first after which all checks held, else all */
@@ -223,15 +225,15 @@ struct gomzelat_outcome {
 };
 
 /* Receives a transport block of `length` bytes from `count` transmissions, 1 to GOMZELAT_MOST_TRANSMISSIONS, which
- * share one soft buffer. After each, in order, the code blocks that haven't passed are decoded; the first after which
- * all checks hold ends it. Leaves in `outcome` what they came to. Where the block was delivered, its bytes are written
- * to `payload`, of `room` bytes, at least `length`; else nothing is written there.
+ * share one soft buffer. After each, in order, the code blocks that haven't passed are decoded; it ends with the first
+ * after which all checks hold. Writes to `outcome`, and, where the block was delivered, its bytes to `payload`, of
+ * `room` bytes, at least `length`.
  *
  * `values`, `amount`: the soft values of all transmissions, one transmission after the other, as many as they have
  * bits.
  *
  * THE ZERO BLOCK. Where what is received has little but parity bits (redundancy version 2 or 3 comes first, and the
- * payload has more bits than were sent), the decoder comes to all zeros, and the checks of zeros hold: a block of zeros
+ * payload has more bits than were sent), the decoder tends to all zeros, whose checks hold: a block of zeros
  * may be delivered that wasn't sent, far more often than checks of 24 bits hold by chance. So a payload of zeros isn't
  * to be trusted there: wait for a transmission that has the systematic bits (redundancy version 0).
  *
@@ -241,11 +243,11 @@ uint32_t gomzelat_receive(size_t length, const struct gomzelat_transmission *tra
                           struct gomzelat_receiver receiver, const int8_t *values, size_t amount,
                           uint8_t *payload, size_t room, struct gomzelat_outcome *outcome);
 
-/* ---- A reception call by call, where one transmission comes after the other: the caller keeps what is known between
+/* ---- A reception call by call, where one transmission comes after the other: the caller keeps the state between
  * calls, in three arrays of its own. All are 0 before the first transmission, and there is nothing to be freed. After
  * each transmission gomzelat_combine adds its soft values to the cells, and gomzelat_decode decodes the code blocks
- * that haven't passed. A caller that goes on until a transport block is delivered comes to just what gomzelat_receive
- * tells of the same transmissions. No content of the arrays is bad: they may be saved, copied and made by hand. */
+ * that haven't passed. A caller that goes on until a transport block is delivered gets just what gomzelat_receive
+ * gives for the same transmissions. Any content of the arrays is valid: they may be saved, copied and made by hand. */
 
 /* How many soft cells, entries of code blocks and bits are kept of a transport block. */
 struct gomzelat_sizes {
@@ -254,7 +256,7 @@ struct gomzelat_sizes {
     size_t bits;   /* K of each code block */
 };
 
-/* Leaves in `sizes` how much is kept of a transport block of `length` bytes. Refused: BAD_LENGTH. */
+/* Writes to `sizes` how much is kept of a transport block of `length` bytes. Refused: BAD_LENGTH. */
 uint32_t gomzelat_sizes(size_t length, struct gomzelat_sizes *sizes);
 
 /* Adds the soft values of one transmission to the soft cells of a transport block of `length` bytes: each to the cell of
@@ -262,28 +264,27 @@ uint32_t gomzelat_sizes(size_t length, struct gomzelat_sizes *sizes);
  *
  * `n_ir`: as for gomzelat_codeword.
  * `values`, `amount`: a soft value for each of the transmission's bits.
- * `cells`, `room`: the cells, as many as gomzelat_sizes says or more, of which the others are left. Block after block
- * they are those of d0, of d1 and of d2. -128 is taken as -127.
+ * `cells`, `room`: the cells, as many as gomzelat_sizes says or more, of which the others are unchanged. Block
+ * after block they are those of d0, of d1 and of d2. -128 is taken as -127.
  *
  * Refused: BAD_LENGTH, BAD_QM, BAD_NL, BAD_G, BAD_VERSION, BAD_BUFFER, BAD_VALUES, SHORT_CELLS. */
 uint32_t gomzelat_combine(size_t length, struct gomzelat_transmission transmission, uint32_t n_ir,
                           const int8_t *values, size_t amount, int8_t *cells, size_t room);
 
-/* What a code block came to. */
+/* The outcome of a code block. */
 struct gomzelat_result {
     uint32_t passed;   /* 1 where its check holds, else 0; whatever isn't 0 is taken as 1 */
     size_t iterations; /* that its last decoding took */
 };
 
-/* Decodes the code blocks of a transport block of `length` bytes from its soft cells, but for those whose entry says
- * that they passed; where all entries do, the check of the transport block failed after all, so that all are decoded.
+/* Decodes the code blocks of a transport block of `length` bytes from its soft cells, except those whose entry says
+ * that they passed; where all entries do, the check of the transport block had failed, so that all are decoded.
  *
- * `cells`, `amount`: as gomzelat_combine leaves them.
- * `blocks`, `count`: an entry for each code block, which says before the call what is held of the call before, and
- * after it what each block came to.
+ * `cells`, `amount`: as gomzelat_combine wrote them.
+ * `blocks`, `count`: an entry for each code block: its outcome in the call before, and after this call its outcome now.
  * `bits`, `extent`: a byte 0 or 1 for each bit of the code blocks, one block after the other, fillers and check bits
- * included: before the call those of the call before, and after it those that are decided, also of blocks that failed.
- * Of what is held any byte but 0 is taken as 1.
+ * included: before the call those of the call before, and after it the decided ones, also of blocks that failed. Any
+ * byte but 0 is read as 1.
  * `payload`, `room`: the bytes that these bits carry are written here, whether or not the checks hold.
  * `delivered`: 1 where the checks of all code blocks and of the transport block hold, else 0. A payload of zeros from
  * little but parity bits isn't to be trusted: see THE ZERO BLOCK at gomzelat_receive.
@@ -296,17 +297,17 @@ uint32_t gomzelat_decode(size_t length, struct gomzelat_receiver receiver, const
 /* A code block by itself. */
 struct gomzelat_code {
     size_t k;       /* K, its bits: one of the 188 sizes */
-    size_t fill;    /* those of them that are fillers, which stand first: fewer than K */
+    size_t fill;    /* those of them that are fillers, which come first: fewer than K */
     uint32_t check; /* the check that it ends with: GOMZELAT_CRC24A or GOMZELAT_CRC24B */
 };
 
 /* Decodes one code block from the soft values of its coded streams, as gomzelat_decode decodes each.
  *
  * `windows`, `limit`: the most windows and the most iterations, as in gomzelat_receiver.
- * `values`, `amount`: 3 * (K + 4) soft values: those of d0, of d1 and of d2 (5.1.3.2). What stands at the fillers of d0
- * and d1 isn't used.
+ * `values`, `amount`: 3 * (K + 4) soft values: those of d0, of d1 and of d2 (5.1.3.2). Those at the fillers of d0
+ * and d1 aren't used.
  * `bits`, `room`: a byte 0 or 1 for each of the K bits is written here, fillers 0, whether or not the check holds; the
- * bytes after them are left.
+ * bytes after them are unchanged.
  * `result`: whether the check holds, and the iterations that it took.
  *
  * Refused: BAD_SIZE, BAD_FILLERS, BAD_CHECK, BAD_WINDOWS, BAD_LIMIT, BAD_VALUES, SHORT_OUTPUT. */
@@ -316,15 +317,15 @@ uint32_t gomzelat_decode_block(struct gomzelat_code block, uint32_t windows, uin
 
 /* A channel. */
 struct gomzelat_channel {
-    uint64_t seed;  /* what the noise comes from */
+    uint64_t seed;  /* the seed of the noise */
     uint32_t amp;   /* the soft value of a bit 0, 1 to 127; that of a bit 1 is its negative */
     uint32_t noise; /* the noise's standard deviation, nearly: 0 to 127 */
 };
 
 /* Writes to `out`, of `room` values, a soft value for each of the first `count` bits of `bits`, which has `length`
  * bytes: its amplitude and a term of noise, clamped. The term of a bit comes from the seed, from `block` and `number`,
- * those of the block and of its transmission, from 0, and from its place. The program's `channel` and `trial` make the
- * same.
+ * those of the block and of its transmission, from 0, and from its place. The program's `channel` and `trial` make
+ * the same.
  *
  * Refused: BAD_BITS, BAD_AMP, BAD_NOISE, BAD_NUMBER, SHORT_OUTPUT. */
 uint32_t gomzelat_noisy(const uint8_t *bits, size_t length, size_t count, struct gomzelat_channel channel,
@@ -334,10 +335,10 @@ uint32_t gomzelat_noisy(const uint8_t *bits, size_t length, size_t count, struct
  * does. Refused: BAD_LENGTH. */
 uint32_t gomzelat_trial_payload(uint64_t seed, uint32_t block, uint8_t *out, size_t length);
 
-/* ---- Between the bits of a codeword and what is sent (36.211): scrambling and points. Each call is by itself, so that
- * a caller who has a channel of their own takes only those that they need. */
+/* ---- Between the bits of a codeword and what is sent (36.211): scrambling and modulation. The calls are independent: a
+ * caller with another channel takes those that it needs. */
 
-/* What the bits of a transmission are scrambled by. */
+/* The numbers of a scrambling sequence. */
 struct gomzelat_scrambling {
     uint32_t rnti; /* n_RNTI, the terminal's identity: 0 to 65,535 */
     uint32_t q;    /* q, the number of the codeword: 0 or 1; 0 in the uplink */
@@ -345,19 +346,19 @@ struct gomzelat_scrambling {
     uint32_t cell; /* the identity of the cell: 0 to 503 */
 };
 
-/* Leaves in `init` the number c_init, with which the sequence c of a transmission begins (36.211 6.3.1; with q = 0 also
+/* Writes to `init` c_init, which initialises the scrambling sequence c of a transmission (36.211 6.3.1; with q = 0 also
  * 5.3.1; the sequence itself 7.2). Refused: BAD_SCRAMBLING. */
 uint32_t gomzelat_init(struct gomzelat_scrambling scrambling, uint32_t *init);
 
-/* Scrambles the first `count` bits of `bits`, which has `length` bytes, where they stand: adds c(i) to bit i, modulo 2
- * (36.211 5.3.1, 6.3.1). Unused low bits of their last byte become 0; the bytes after them are left. Scrambling once
- * more gives the bits back.
+/* Scrambles the first `count` bits of `bits`, which has `length` bytes, in place: adds c(i) to bit i, modulo 2
+ * (36.211 5.3.1, 6.3.1). Unused low bits of their last byte become 0; the bytes after them are unchanged. Scrambling
+ * twice gives the original bits.
  *
  * Refused: BAD_BITS, BAD_SCRAMBLING. */
 uint32_t gomzelat_scramble(uint8_t *bits, size_t length, size_t count, struct gomzelat_scrambling scrambling);
 
-/* Turns `amount` soft values of scrambled bits, where they stand, into those of the bits before: negates value i where
- * c(i) is 1. -128 is taken as -127. Refused: BAD_SCRAMBLING. */
+/* Descrambles `amount` soft values in place: negates value i where c(i) is 1. -128 is taken as -127.
+ * Refused: BAD_SCRAMBLING. */
 uint32_t gomzelat_descramble(int8_t *values, size_t amount, struct gomzelat_scrambling scrambling);
 
 /* A point of a constellation, or one that was received. */
@@ -392,8 +393,8 @@ uint32_t gomzelat_demap(const struct gomzelat_point *points, size_t count, uint3
 /* The edition of these declarations. */
 #define GOMZELAT_VERSION 2
 
-/* Returns the edition of the library, which can be compared with that of the header before any other call. It is no
- * answer as those above are. */
+/* Returns the edition of the library, to be compared with that of the header before any other call. It is no error
+ * code. */
 uint32_t gomzelat_version(void);
 
 #ifdef __cplusplus
