@@ -1,4 +1,4 @@
-//! The blocks that the words of `encode` and `trial` ask for.
+//! The blocks that the arguments of `encode` and `trial` ask for.
 ghost use Rattle.std.specs.Prelude.{◌≡◌, IfOk, IfSome};
 ghost use Rattle.coded_stream.specs.Header.{AreHeld};
 ghost use Rattle.command_words.specs.Blocks.{lists_of, asked_of, blocks_given};

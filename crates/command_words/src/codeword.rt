@@ -1,4 +1,4 @@
-//! The words of `codeword`.
+//! The arguments of `codeword`.
 ghost use Rattle.std.specs.Prelude.{◌≡◌, IfOk};
 ghost use Rattle.command_words.specs.Given.{IsGiven};
 ghost use Rattle.command_words.specs.Lawful.{IsLawful};
@@ -31,7 +31,7 @@ fn codeword_given(g: &Operand, qm: &Operand, rv: &Operand) -> Result<Command, Wo
     }
 }
 
-/// Returns what the words after `codeword` ask for.
+/// Returns what the arguments after `codeword` ask for.
 pub fn codeword_of(operands: &[&str]) -> Result<Command, WordRefusal>
     ensures command { result ≡ codeword_of (texts_of operands.now) }
     ensures lawful { IfOk result IsLawful }

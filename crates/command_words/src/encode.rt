@@ -1,4 +1,4 @@
-//! The words of `encode`.
+//! The arguments of `encode`.
 ghost use Rattle.std.specs.Prelude.{◌≡◌, IfOk};
 ghost use Rattle.command_words.specs.Blocks.{blocks_given};
 ghost use Rattle.command_words.specs.Lawful.{IsLawful};
@@ -29,7 +29,7 @@ fn encode_given(asked: &Asked) -> Result<Command, WordRefusal>
     }
 }
 
-/// Returns what the words after `encode` ask for.
+/// Returns what the arguments after `encode` ask for.
 pub fn encode_of(operands: &[&str]) -> Result<Command, WordRefusal>
     ensures command { result ≡ encode_of (texts_of operands.now) }
     ensures lawful { IfOk result IsLawful }

@@ -1,4 +1,4 @@
-//! The commands of the program, as words ask for them.
+//! The commands of the program, as arguments ask for them.
 #![tactic(auto)]
 
 mod blocks;

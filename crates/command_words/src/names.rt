@@ -16,7 +16,7 @@ pub enum CommandName {
     Points,
 }
 
-/// Returns the command that a word names.
+/// Returns the command that an argument names.
 pub fn command_named(word: &str) -> Option<CommandName>
     ensures { result ≡ command_named word.now }
 {

@@ -15,7 +15,7 @@ use crate::splitting::split_first;
 
 /// The first argument that is refused, and why: 1 no command, 2 an unknown command, 3 an unknown name,
 /// 4 a repeated name, 5 a missing name, 6 not spelt as a number, 7 out of range, 8 a soft buffer
-/// that is too small. Places count words from the command, which is at 0.
+/// that is too small. Places count arguments from the command, which is at 0.
 #[derive(Clone, Copy, Debug, PartialEq, Eq, Hash)]
 pub struct WordRefusal {
     pub number: u8,
@@ -40,7 +40,7 @@ fn rule_of(rules: &[Rule], name: &str) -> Option<Rule>
     None
 }
 
-/// Returns what comes after the name, where the word has that name.
+/// Returns what comes after the name, where the argument has that name.
 fn value_of<'a>(word: &'a str, name: &str) -> Option<&'a str>
     ensures { text_of_option result ≡ value_under name.now word.now }
 {
@@ -50,7 +50,7 @@ fn value_of<'a>(word: &'a str, name: &str) -> Option<&'a str>
     }
 }
 
-/// Returns whether one of the words has that name.
+/// Returns whether one of the arguments has that name.
 fn is_given(name: &str, words: &[&str]) -> bool
     ensures { result ≡ list_any (is_named name.now) (texts_of words.now) }
 {
@@ -62,7 +62,7 @@ fn is_given(name: &str, words: &[&str]) -> bool
     false
 }
 
-/// Returns why a word is refused, after the words before it.
+/// Returns why an argument is refused, after the arguments before it.
 fn fault_of(rules: &[Rule], before: &[&str], word: &str) -> Option<u8>
     ensures { result ≡ fault_of rules.now (texts_of before.now) word.now }
 {
@@ -146,7 +146,7 @@ pub fn number_given(rule: &Rule, operands: &[&str]) -> Option<u64>
     }
 }
 
-/// Returns the refusal of a name that is required and isn't given; the place is the number of words, the
+/// Returns the refusal of a name that is required and isn't given; the place is the number of arguments, the
 /// command among them.
 pub fn missing(operands: &[&str]) -> WordRefusal
     ensures { result ≡ missing (texts_of operands.now) }

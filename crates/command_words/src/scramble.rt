@@ -1,4 +1,4 @@
-//! The words of `scramble`.
+//! The arguments of `scramble`.
 ghost use Rattle.std.specs.Prelude.{◌≡◌, IfOk};
 ghost use Rattle.command_words.specs.Lawful.{IsLawful};
 ghost use Rattle.command_words.specs.Texts.{texts_of};
@@ -8,7 +8,7 @@ use crate::operands::{WordRefusal, first_fault, missing, number_given};
 use crate::tables::{CELL_NUMBER, Q_NUMBER, RNTI_NUMBER, SCRAMBLE, SLOT_NUMBER};
 use crate::words::Command;
 
-/// Returns what the words after `scramble` ask for.
+/// Returns what the arguments after `scramble` ask for.
 pub fn scramble_of(operands: &[&str]) -> Result<Command, WordRefusal>
     ensures command { result ≡ scramble_of (texts_of operands.now) }
     ensures lawful { IfOk result IsLawful }

@@ -1,4 +1,4 @@
-//! The words of `decode`, `batch`, `channel`, `points` and `upgrade`, which read a stream.
+//! The arguments of `decode`, `batch`, `channel`, `points` and `upgrade`, which read a stream.
 ghost use Rattle.std.specs.Prelude.{◌≡◌, IfOk};
 ghost use Rattle.soft_channel.specs.Channel.{IsChannel};
 ghost use Rattle.command_words.specs.Lawful.{IsLawful};
@@ -12,7 +12,7 @@ use crate::tables::{BATCH, CHANNEL, DECODE, PIPES_NUMBER, UPGRADE, WORKERS_NUMBE
 use crate::words::Command;
 use soft_channel::NoiseChannel;
 
-/// Returns what the words after `decode` ask for.
+/// Returns what the arguments after `decode` ask for.
 pub fn decode_of(operands: &[&str]) -> Result<Command, WordRefusal>
     ensures command { result ≡ decode_of (texts_of operands.now) }
     ensures lawful { IfOk result IsLawful }
@@ -31,7 +31,7 @@ pub fn decode_of(operands: &[&str]) -> Result<Command, WordRefusal>
     }
 }
 
-/// Returns what the words after `batch` ask for.
+/// Returns what the arguments after `batch` ask for.
 pub fn batch_of(operands: &[&str]) -> Result<Command, WordRefusal>
     ensures command { result ≡ batch_of (texts_of operands.now) }
     ensures lawful { IfOk result IsLawful }
@@ -64,7 +64,7 @@ fn channel_asked(operands: &[&str]) -> Result<NoiseChannel, WordRefusal>
     }
 }
 
-/// Returns what the words after `channel` ask for.
+/// Returns what the arguments after `channel` ask for.
 pub fn channel_of(operands: &[&str]) -> Result<Command, WordRefusal>
     ensures command { result ≡ channel_of (texts_of operands.now) }
     ensures lawful { IfOk result IsLawful }
@@ -75,7 +75,7 @@ pub fn channel_of(operands: &[&str]) -> Result<Command, WordRefusal>
     }
 }
 
-/// Returns what the words after `points` ask for.
+/// Returns what the arguments after `points` ask for.
 pub fn points_of(operands: &[&str]) -> Result<Command, WordRefusal>
     ensures command { result ≡ points_of (texts_of operands.now) }
     ensures lawful { IfOk result IsLawful }
@@ -86,7 +86,7 @@ pub fn points_of(operands: &[&str]) -> Result<Command, WordRefusal>
     }
 }
 
-/// Returns what the words after `upgrade` ask for.
+/// Returns what the arguments after `upgrade` ask for.
 pub fn upgrade_of(operands: &[&str]) -> Result<Command, WordRefusal>
     ensures command { result ≡ upgrade_of (texts_of operands.now) }
     ensures lawful { IfOk result IsLawful }

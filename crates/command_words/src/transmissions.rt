@@ -1,4 +1,4 @@
-//! The transmissions that the words of `encode` and `trial` ask for.
+//! The transmissions that the arguments of `encode` and `trial` ask for.
 ghost use Rattle.std.specs.Prelude.{◌≡◌, ◌<◌, ◌≤◌, ◌*◌, IfSome, None, Some, length, true, if◌then◌else◌};
 ghost use Rattle.std.specs.List.{list_all};
 ghost use Rattle.rate_match.specs.Matching.{is_g, limit_of};

@@ -1,4 +1,4 @@
-//! The words of `trial`.
+//! The arguments of `trial`.
 ghost use Rattle.std.specs.Prelude.{◌≡◌, ◌≤◌, IfOk};
 ghost use Rattle.model_receiver.specs.Limits.{AreLimits};
 ghost use Rattle.soft_channel.specs.Channel.{IsChannel};
@@ -47,7 +47,7 @@ fn trial_given(
     }
 }
 
-/// Returns what the words after `trial` ask for.
+/// Returns what the arguments after `trial` ask for.
 pub fn trial_of(operands: &[&str]) -> Result<Command, WordRefusal>
     ensures command { result ≡ trial_of (texts_of operands.now) }
     ensures lawful { IfOk result IsLawful }

@@ -16,7 +16,7 @@ use model_receiver::DecoderLimits;
 use rate_match::{Match, Sends};
 use soft_channel::NoiseChannel;
 
-/// A command with what its words gave.
+/// A command with what its arguments gave.
 #[derive(Clone, Copy, Debug, PartialEq, Eq)]
 pub enum Command {
     /// The codeword of one transport block: the rate matching, over a full buffer, and the
@@ -69,7 +69,7 @@ pub enum Command {
     Points(NoiseChannel),
 }
 
-/// Returns what the words after a command's name ask for.
+/// Returns what the arguments after a command's name ask for.
 fn command_with(name: CommandName, operands: &[&str]) -> Result<Command, WordRefusal>
     ensures command { result ≡ command_with (Some name) (texts_of operands.now) }
     ensures lawful { IfOk result IsLawful }
@@ -87,7 +87,7 @@ fn command_with(name: CommandName, operands: &[&str]) -> Result<Command, WordRef
     }
 }
 
-/// Returns what the words ask for, or the first of them that is refused.
+/// Returns what the arguments ask for, or the first of them that is refused.
 pub fn read_words(words: &[&str]) -> Result<Command, WordRefusal>
     ensures command { result ≡ command_of (texts_of words.now) }
     ensures lawful { IfOk result IsLawful }

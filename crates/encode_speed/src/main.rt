@@ -1,5 +1,5 @@
 //! Encodes a code block of 6,144 bits and prints checksums of its streams, and then that of the codeword
-//! of a transport block of 9,422 bytes. With the word `seconds=N` it encodes each again and again for N
+//! of a transport block of 9,422 bytes. With the argument `seconds=N` it encodes each again and again for N
 //! seconds, and reports the rates on standard error.
 #![tactic(auto)]
 
@@ -15,14 +15,14 @@ use std::process::ExitCode;
 use std::time::Duration;
 use std::{env, io};
 
-/// Returns the time of a word `seconds=N`.
+/// Returns the time of an argument `seconds=N`.
 fn time_of(word: &str) -> Option<Duration> {
     let seconds = word.strip_prefix("seconds=")?.parse::<u16>().ok()?;
     Some(Duration::from_secs(u64::from(seconds)))
 }
 
-/// Returns the time that the words ask for, no time where there are none, and `None` where they say something
-/// else.
+/// Returns the time that the arguments ask for, no time where there are none, and `None` where they say
+/// something else.
 fn asked_time(rt: &HostRuntime) -> io::Result<Option<Duration>> {
     let mut words = env::args(rt)?.skip(1);
     let Some(word) = words.next() else {

@@ -1,4 +1,4 @@
-//! The program: does what its words ask for, from standard input to standard output, and reports on
+//! The program: does what its arguments ask for, from standard input to standard output, and reports on
 //! standard error.
 #![tactic(auto)]
 

@@ -24,8 +24,8 @@ fn exit(status: Status) -> ExitCode
     ExitCode::from(status.exit())
 }
 
-/// Returns how a run ends whose arguments couldn't be read: since memory ran out, or since one isn't UTF-8. It
-/// is then a run without words.
+/// Returns how a run ends whose arguments couldn't be read: since memory ran out, or since one isn't UTF-8.
+/// It is then a run without arguments.
 fn unread(error: &io::Error) -> Status
     ensures { exit_of result ≡ exit_unread (error_kind error.now) }
 {
@@ -38,7 +38,7 @@ fn unread(error: &io::Error) -> Status
     }
 }
 
-/// Does what these words ask for.
+/// Does what these arguments ask for.
 fn run_words<H: Threads + Wait + Sync, S: Source, D: Sink, R: Sink>(
     rt: &H,
     alloc: Global,
