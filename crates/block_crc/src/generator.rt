@@ -105,7 +105,7 @@ impl Generator {
         digits(self.remainder(self.remainder(0, bits), &[Bit::Zero; 24]))
     }
 
-    /// Returns whether the bits are a multiple.
+    /// Returns whether the generator divides the bits.
     pub fn divides(&self, bits: &[Bit]) -> bool
         ensures { IsTrue result ↔ IsMultiple self.now.coefficients bits.now }
     {
@@ -131,7 +131,7 @@ fn lowest(n: u32) -> Bit
     }
 }
 
-/// Returns the 24 digits of a number, the highest first.
+/// Returns the 24 digits of a number, most significant first.
 fn digits(n: u32) -> [Bit; 24]
     requires { n < 2 ^ 24 }
     ensures width { length result ≡ 24 }

@@ -10,8 +10,8 @@ mod tables;
 use generator::Generator;
 use lte_bits::Bit;
 
-/// Returns the check bits of a transport block, by CRC24A (36.212 5.1.1): the one list of 24 bits for which the
-/// bits followed by it are a multiple of the generator. Of no bits, and of zeros, they are 0.
+/// Returns the check bits of a transport block, by CRC24A (36.212 5.1.1): the only 24 bits for which the bits
+/// followed by them are a multiple of the generator. They are 0 for no bits and for zeros.
 pub fn crc24a(bits: &[Bit]) -> [Bit; 24]
     ensures is_crc { IsCrc crc24a bits.now result }
     ensures value { result ≡ crc crc24a bits.now }
@@ -20,8 +20,8 @@ pub fn crc24a(bits: &[Bit]) -> [Bit; 24]
     Generator::A.check_bits(bits)
 }
 
-/// Returns the check bits of a code block, by CRC24B (36.212 5.1.1): the one list of 24 bits for which the bits
-/// followed by it are a multiple of the generator.
+/// Returns the check bits of a code block, by CRC24B (36.212 5.1.1): the only 24 bits for which the bits
+/// followed by them are a multiple of the generator.
 pub fn crc24b(bits: &[Bit]) -> [Bit; 24]
     ensures is_crc { IsCrc crc24b bits.now result }
     ensures value { result ≡ crc crc24b bits.now }
@@ -30,16 +30,16 @@ pub fn crc24b(bits: &[Bit]) -> [Bit; 24]
     Generator::B.check_bits(bits)
 }
 
-/// Returns whether the bits, check bits and all, are a multiple of CRC24A (36.212 5.1.1). No bits, and
-/// zeros, are one.
+/// Returns whether the bits, check bits included, are a multiple of the generator of CRC24A (36.212 5.1.1).
+/// True for no bits and for zeros.
 pub fn checks_a(bits: &[Bit]) -> bool
     ensures { IsTrue result ↔ IsMultiple crc24a bits.now }
 {
     Generator::A.divides(bits)
 }
 
-/// Returns whether the bits, check bits and all, are a multiple of CRC24B (36.212 5.1.1). No bits, and
-/// zeros, are one.
+/// Returns whether the bits, check bits included, are a multiple of the generator of CRC24B (36.212 5.1.1).
+/// True for no bits and for zeros.
 pub fn checks_b(bits: &[Bit]) -> bool
     ensures { IsTrue result ↔ IsMultiple crc24b bits.now }
 {

@@ -1,4 +1,4 @@
-//! The reception of a transport block: its transmissions, one after the other, and what they came to.
+//! The reception of a transport block: its transmissions, one after the other, and its outcome.
 #![tactic(auto)]
 
 mod alone;

@@ -1,4 +1,4 @@
-//! One transmission more: its values are combined, and all code blocks are tried.
+//! One further transmission: its values are combined, and all code blocks are tried.
 ghost use Rattle.std.specs.Prelude.{◌≡◌, ◌≤◌, ◌++◌, [], ◌∷◌, List, IfOk, length, map};
 ghost use Rattle.model_sender.specs.CircularBuffer.{FitsIn};
 ghost use Rattle.rate_match.specs.Matching.{limit_of};
@@ -38,7 +38,7 @@ pub enum Tried {
     Failed(Vec<Option<CodeResult>>),
 }
 
-/// Returns what the results of a try come to. Where all blocks passed and the check of the transport block
+/// Returns the outcome of a try with these results. If all blocks passed and the check of the transport block
 /// fails, none is held.
 fn comes_to(alloc: Global, results: Vec<CodeResult>, plan: &Plan) -> Result<Tried, NoMemory>
     requires { AreBlocksOf plan.now (map (λ x. x.block) results.items) }
@@ -56,7 +56,7 @@ fn comes_to(alloc: Global, results: Vec<CodeResult>, plan: &Plan) -> Result<Trie
 }
 
 impl Progress {
-    /// Returns what there is before the first transmission.
+    /// Returns the state before the first transmission.
     pub fn new(alloc: Global, plan: &Plan, buffer: Buffer) -> Result<Progress, NoMemory>
         requires { FitsIn (limit_of buffer) plan.now.c plan.now.k_plus }
         ensures plan { IfOk result (λ p. p.buffers.plan ≡ plan.now) }
@@ -71,8 +71,8 @@ impl Progress {
         })
     }
 
-    /// Takes the values of one transmission more, and tries all blocks: the bytes of the payload, where they
-    /// deliver.
+    /// Combines the values of a further transmission, and tries all blocks. Returns the bytes of the payload
+    /// if it is delivered.
     pub fn take<F: Fn(Global, &SoftStreams, &Shape) -> Decoded>(
         &mut self,
         alloc: Global,

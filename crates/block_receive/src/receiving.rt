@@ -21,7 +21,7 @@ use window_decode::Shape;
 
 /// Decodes a transport block from its transmissions, where `decode` decodes its code blocks. The buffer of
 /// `sends` fits the plan, and `softs` has the G values of each transmission, one transmission after the
-/// other. Allocates the soft cells, what decoding a code block takes, and the results of all blocks.
+/// other. Allocates the soft cells, the memory of the decoder, and the results of all blocks.
 pub fn receive<F: Fn(Global, &SoftStreams, &Shape) -> Decoded>(
     alloc: Global,
     decode: &F,

@@ -1,4 +1,4 @@
-//! One try from soft cells, and what its results carry.
+//! One try from soft cells, and the payload of its results.
 ghost use Rattle.std.specs.Prelude.{◌≡◌, IfOk, map};
 ghost use Rattle.model_receiver.specs.Decoding.{code_result};
 ghost use Rattle.model_receiver.specs.TransportBlocks.{delivers, held_after, payload_of};
@@ -23,8 +23,8 @@ pub struct Carried {
     pub delivered: bool,
 }
 
-/// Returns what is held after a try: the results that passed; but none where all did, since the check of the
-/// transport block failed then.
+/// Returns the results that are held after a try: those that passed, or none if all did, since then the check
+/// of the transport block failed.
 fn held_of(alloc: Global, last: Vec<CodeResult>) -> Result<Vec<Option<CodeResult>>, NoMemory>
     ensures { IfOk result (λ held. held.items ≡ held_after last.items) }
 {
@@ -58,7 +58,7 @@ pub fn try_alone(
     try_blocks(alloc, &decode, task, buffers, held)
 }
 
-/// Returns what the results of a try carry. Allocates the payload.
+/// Returns the payload that the results of a try carry, and whether it is delivered. Allocates the payload.
 pub fn carried_by(alloc: Global, results: Vec<CodeResult>, plan: &Plan) -> Result<Carried, NoMemory>
     requires { AreBlocksOf plan.now (map (λ x. x.block) results.items) }
     ensures payload { IfOk result (λ c. c.payload ≡ payload_of plan.now results.items) }

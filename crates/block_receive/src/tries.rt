@@ -1,4 +1,4 @@
-//! One try: what is held is taken, and the other code blocks are decoded.
+//! One try: held results are reused, and the other code blocks are decoded.
 ghost use Rattle.std.specs.Prelude.{◌≡◌, ℕ, ◌≤◌, ◌<◌, List, All, IfOk, length, map};
 ghost use Rattle.model_receiver.specs.Limits.{AreLimits};
 ghost use Rattle.model_receiver.specs.SoftCells.{Reception};
@@ -39,8 +39,8 @@ fn decode_at<F: Fn(Global, &SoftStreams, &Shape) -> Decoded>(
     decode(alloc, &streams, &block_shape(task, r))
 }
 
-/// Returns the results of a try: block r has the one at r in `held`, if any, and else is
-/// decoded. An empty list holds none.
+/// Returns the results of a try: for block r the one at r in `held`, if any, or else by decoding the block.
+/// An empty list holds none.
 pub fn try_blocks<F: Fn(Global, &SoftStreams, &Shape) -> Decoded>(
     alloc: Global,
     decode: &F,
@@ -73,7 +73,7 @@ pub fn try_blocks<F: Fn(Global, &SoftStreams, &Shape) -> Decoded>(
     Ok(results)
 }
 
-/// Holds the results that passed for the next try.
+/// Keeps the results that passed for the next try.
 pub fn hold_passed(
     alloc: Global,
     results: Vec<CodeResult>,
@@ -94,7 +94,7 @@ pub fn all_passed(results: &[CodeResult]) -> bool
     results.iter().all(|block| block.passed)
 }
 
-/// Returns the iterations of all blocks, of which each took at most 16.
+/// Returns the sum of the iterations of all blocks, at most 16 each.
 pub fn total_iterations(results: &[CodeResult]) -> usize
     requires count { length results.now ≤ 25 }
     requires few { All (λ x. x.iterations ≤ 16) results.now }

@@ -38,7 +38,7 @@ pub struct Cells<T: Copy> {
     pub ghost has_room: { windows ≤ vec_capacity room },
 }
 
-/// Puts a value into each place of an empty row.
+/// Writes a value into each place of an empty row.
 fn fill<T: Copy>(row: &mut Slots<T>, values: &[T])
     requires { slots_len row.old ≡ length values.now }
     ensures full { IsFull row.new }

@@ -1,4 +1,4 @@
-//! Shares become cells again.
+//! Joining of shares into cells.
 ghost use Rattle.std.specs.Prelude.{◌≡◌, ◌≤◌, ◌<◌, map, length};
 ghost use Rattle.cell_shares.specs.declared.order.Order.{Order};
 ghost use Rattle.cell_shares.specs.Deal.{deal};

@@ -2,8 +2,8 @@
 
 use std::marker::Model;
 
-/// Which cells they are: where their buffer begins, how many there are, and how many shares they are
-/// split into. No value of it is made: contracts alone read it.
+/// The identity of cells: the address of their buffer, their number, and the number of shares. No value of it
+/// is made: contracts alone read it.
 pub struct CellsName {
     start: *mut u8,
     count: usize,

@@ -1,4 +1,4 @@
-//! The right to free a buffer, in a form that may go to another thread, which a `Lease` may not.
+//! The right to free a buffer. Unlike a `Lease`, it may be sent to another thread.
 ghost use Rattle.std.specs.Prelude.{◌≡◌};
 ghost use base.Fml.{ftrue};
 

@@ -24,10 +24,10 @@ pub(crate) struct Split {
     pub ghost fits: { IsOrderOf count order },
 }
 
-/// One of the M shares of some cells: the cells at the places `order(t W + j)` for j below the width
-/// W, where t is the share's number. No other share has one of them.
+/// One of the M shares of some cells: the cells at the places `order(t W + j)` for j below the width W, where
+/// t is the share's number. No two shares have a cell in common.
 ///
-/// It can't be dropped. It goes back by [`join`](crate::join).
+/// It can't be dropped, only given back by [`join`](crate::join).
 pub struct Share<T: Copy> {
     pub(crate) part: Part<T>,
     pub(crate) right: Option<FreeRight<T>>,
@@ -80,7 +80,7 @@ impl<T: Copy> Share<T> {
     }
 
     /// Returns the value of cell `j`, which is below the width, for a caller that has the cell's place
-    /// `order(t W + j)`, as from a table or by additions. It divides nowhere.
+    /// `order(t W + j)`, as from a table or by additions. It needs no division.
     #[tactic(auto, using(crate::proofs::Positions::at_place, crate::proofs::Changed::cell_read))]
     pub fn get_at(&self, j: usize, place: usize) -> T
         requires cell { j < length (share_values self.now) }
@@ -104,7 +104,7 @@ impl<T: Copy> Share<T> {
     }
 
     /// Writes `v` into cell `j`, which is below the width, for a caller that has the cell's place
-    /// `order(t W + j)`. It divides nowhere.
+    /// `order(t W + j)`. It needs no division.
     #[tactic(auto, using(crate::proofs::Positions::at_place, crate::proofs::Changed::changed_values))]
     pub fn set_at(&mut self, j: usize, place: usize, v: T)
         requires cell { j < length (share_values self.old) }

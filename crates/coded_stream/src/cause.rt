@@ -21,5 +21,5 @@ pub const TRUNCATED: u8 = 6;
 /// A byte follows the end word.
 pub const TRAILING: u8 = 7;
 
-/// A block too many.
+/// There are too many blocks.
 pub const TOO_MANY_BLOCKS: u8 = 8;

@@ -23,7 +23,7 @@ pub struct Fields {
     pub count: usize,
 }
 
-/// Returns the buffer that a header's number for it means.
+/// Returns the soft buffer of a header's N_IR field, 0 for a full one.
 fn buffer_of(limit: u32) -> Buffer
     ensures { limit_of result ≡ limit_of_code limit }
 {
@@ -34,8 +34,8 @@ fn buffer_of(limit: u32) -> Buffer
     }
 }
 
-/// Returns the buffer of a header's number for it at a place of the stream, where that is accepted with
-/// payloads of up to `tb` bytes.
+/// Returns the soft buffer of a header's N_IR field at a place of the stream, if it is accepted with payloads
+/// of up to `tb` bytes.
 fn read_buffer(limit: u32, tb: usize, place: u64) -> Result<Buffer, StreamStop>
     requires some { 1 ≤ tb }
     requires few { tb ≤ MOST_BYTES }

@@ -10,10 +10,9 @@ use crate::kind::Kind;
 use crate::version::Version;
 use rate_match::Sends;
 
-/// The header of a stream: the version of the container, what its transmissions are, the bytes of
-/// the greatest payload, 1 to 18,722, and the transmissions in which each block is sent. A limited
-/// buffer has room for 1 to 1,000,000 values and fits every payload. Version One holds only
-/// transmissions that all have the same rate matching.
+/// The header of a stream: the version of the container, the kind of its transmissions, the bytes of the
+/// greatest payload, 1 to 18,722, and the transmissions of each block. A limited buffer has room for 1 to
+/// 1,000,000 values and fits every payload. In version One all transmissions have the same rate matching.
 #[derive(Clone, Copy, Debug, PartialEq, Eq)]
 pub struct Header {
     pub version: Version,

@@ -43,7 +43,7 @@ impl Kind {
 }
 
 impl Want {
-    /// Returns whether a code is that of a kind that is wanted.
+    /// Returns whether a code is that of a wanted kind.
     pub(crate) fn takes(self, code: u8) -> bool
         ensures { result ≡ is_wanted self code }
     {

@@ -27,7 +27,7 @@ pub fn only_texts_are_accepted()
         is_wanted want (kind_code h.kind) ≡ true }
 {}
 
-/// A text says one header and one list of blocks.
+/// A text encodes one header and one list of blocks.
 pub fn texts_say_one_stream()
     ensures header { (h i : Header) (a b : List Block) → IsStream h a → IsStream i b →
         stream_text h a ≡ stream_text i b → h ≡ i }

@@ -15,7 +15,7 @@ use crate::version::Version;
 use edge_io::Source;
 use rate_match::{Buffer, Sends};
 
-/// Returns the version of a stream that begins so.
+/// Returns the version of a stream that begins with these bytes.
 fn version_of(unit: &[u8]) -> Version
     requires { 4 ≤ length unit.now }
     ensures { result ≡ version_of unit.now }
@@ -27,8 +27,8 @@ fn version_of(unit: &[u8]) -> Version
     }
 }
 
-/// Reads the first unit of a header into the beginning of `unit`. Its first four bytes tell its version, and
-/// so how long it is.
+/// Reads the first unit of a header into the beginning of `unit`. Its first four bytes determine its version,
+/// and so its length.
 pub fn read_first<S: Source>(source: &mut S, unit: &mut [u8]) -> Result<Version, StreamStop>
     requires { length unit.old ≡ 18 }
     ensures told { (want : Want) (input : List ℕ) → S.left source.old ≡ Some input →

@@ -41,16 +41,14 @@ impl Model for StreamReader {
 }
 
 impl StreamReader {
-    /// Reads the header of a stream that is wanted, of either version. It allocates nothing, so that it
-    /// never answers `NoMemory`. After `Bad` and `Fault` no byte past the unit that was being
-    /// read was taken.
+    /// Reads the header of a wanted stream, of either version. Allocates nothing, so never returns
+    /// `NoMemory`. After `Bad` and `Fault` no byte past the unit being read was taken.
     pub fn begin<S: Source>(source: &mut S, want: Want) -> Result<StreamReader, StreamStop>
-        // Where the source tells its bytes: the header that they begin with, or where they are
-        // refused.
+        // If the source's bytes are known: the header that they begin with, or where they are refused.
         ensures begins { (input : List ℕ) → S.left source.old ≡ Some input →
             Begins (opening want input) (S.left source.old) (S.left source.new) result }
 
-        // Whether it tells them or not.
+        // Whether they are known or not.
         ensures accepted { IfOk result (IsBegun want) }
         ensures memory { result ≡ Err StreamStop.NoMemory → ⊥ }
         ensures moved { TakesBytes (S.left source.old) (S.left source.new) }
@@ -89,26 +87,25 @@ impl StreamReader {
         self.place
     }
 
-    /// Returns how often `next_block` answered a block.
+    /// Returns the number of blocks that `next_block` has returned.
     pub fn blocks(&self) -> usize
         ensures { result ≡ self.now.blocks }
     {
         self.blocks
     }
 
-    /// Returns whether the stream may go on: until `next_block` answers `None`, `Bad` or `Fault`.
+    /// Returns whether the stream may go on: until `next_block` returns `None`, `Bad` or `Fault`.
     pub fn is_live(&self) -> bool
         ensures { result ≡ self.now.live }
     {
         self.live
     }
 
-    /// Reads the next block of a live reader. `Some(n)` says that its payload has n bytes, and
-    /// that `into` holds the bytes of its transmissions, one after the other. `None` says that the
-    /// end word and the end of the input were read. `NoMemory` comes before anything is read,
-    /// with all as before. After `None`, `Bad` or `Fault` the reader isn't live, and `into` may
-    /// hold any bytes; after `Bad` and `Fault` no byte past the unit that was being read was
-    /// taken.
+    /// Reads the next block of a live reader. `Some(n)`: its payload has n bytes, and `into` holds the bytes
+    /// of its transmissions, one after the other. `None`: the end word and the end of the input were read.
+    /// `NoMemory` comes before anything is read, with nothing changed. After `None`, `Bad` or `Fault` the
+    /// reader isn't live, and `into` may hold any bytes; after `Bad` and `Fault` no byte past the unit being
+    /// read was taken.
     pub fn next_block<S: Source>(
         &mut self,
         source: &mut S,
@@ -116,12 +113,12 @@ impl StreamReader {
     ) -> Result<Option<usize>, StreamStop>
         requires { self.old.live ≡ true }
 
-        // Where the source tells its bytes: what the stream still says begins with this.
+        // If the source's bytes are known: the rest of the stream begins with this.
         ensures goes_on { (input : List ℕ) → S.left source.old ≡ Some input →
             GoesOn (remaining self.old input) (remaining self.new) into.new
             (S.left source.old) (S.left source.new) result }
 
-        // Whether it tells them or not.
+        // Whether they are known or not.
         ensures advances { Advances self.old self.new into.new result }
         ensures memory { result ≡ Err StreamStop.NoMemory →
             (source.new ≡ source.old) × (into.new ≡ into.old) }

@@ -1,11 +1,11 @@
-//! Why a stream isn't read on.
+//! Why reading a stream stops.
 ghost use Rattle.std.specs.Prelude.{◌≡◌};
 
 use crate::cause;
 use std::error::Error;
 use std::fmt;
 
-/// Why a stream isn't read on.
+/// Why reading a stream stops.
 #[derive(Clone, Copy, Debug, PartialEq, Eq, Hash)]
 pub enum StreamStop {
     /// The stream is refused at a byte, counted from 0. The module `cause` has the numbers.
@@ -17,7 +17,7 @@ pub enum StreamStop {
 }
 
 impl StreamStop {
-    /// Returns the refusal of a field at its first byte, but for the magic and the kind.
+    /// Returns the refusal of a field, other than the magic and the kind, at its first byte.
     pub(crate) fn bad_field(place: u64) -> StreamStop
         ensures { result ≡ StreamStop.Bad 3 place }
     {

@@ -1,4 +1,4 @@
-//! Reading a unit of a stream: the bytes that are read whole before any of them is looked at.
+//! Reading a unit of a stream: bytes that are read as a whole before any of them is examined.
 ghost use Rattle.std.specs.Prelude.{◌≡◌, ◌≤◌, ◌<◌, ◌+◌, ◌^◌, length, slice_index, IfErr};
 ghost use Rattle.edge_io.specs.Edge.{TakesBytes};
 ghost use Rattle.coded_stream.specs.Units.{TakesUnit, IsCause};

@@ -47,7 +47,7 @@ impl Version {
         }
     }
 
-    /// Returns the bytes of the second unit, of so many transmissions, one to eight.
+    /// Returns the bytes of the second unit for `count` transmissions, one to eight.
     pub(crate) fn second_size(self, count: usize) -> usize
         requires { count ≤ 8 }
         ensures value { result ≡ count * described_size self }

@@ -56,7 +56,7 @@ pub fn read_word<S: Source>(
     payload_of(header, more, start, word(&unit, 0) as usize)
 }
 
-/// Reads on after an end word at a place of the stream: only the end may follow.
+/// Reads past an end word at a place of the stream: only the end of the input may follow.
 pub fn read_end<S: Source>(source: &mut S, start: u64) -> Result<(), StreamStop>
     requires { start < 2 ^ 60 }
     ensures told { (input : List ℕ) → S.left source.old ≡ Some input →

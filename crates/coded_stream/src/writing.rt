@@ -22,7 +22,7 @@ fn limit_code(sends: &Sends) -> u32
     }
 }
 
-/// Returns the header of version One but for the redundancy versions.
+/// Returns the header of version One without the redundancy versions.
 fn first_of_one(header: &Header) -> [u8; 18]
     ensures { result ≡ first_text Version.One (header_of header.now) }
 {
@@ -52,7 +52,7 @@ fn first_of_one(header: &Header) -> [u8; 18]
     ]
 }
 
-/// Returns the header of version Two but for the transmissions.
+/// Returns the header of version Two without the transmissions.
 fn first_of_two(header: &Header) -> [u8; 12]
     ensures { result ≡ first_text Version.Two (header_of header.now) }
 {
@@ -97,7 +97,7 @@ fn transmission_of_two(m: &Match, rv: u8) -> [u8; 7]
     [m.qm(), m.nl(), rv, g[0], g[1], g[2], g[3]]
 }
 
-/// Appends what a header says of one transmission alone.
+/// Appends the part of a header that describes one transmission.
 fn write_transmission<D: Sink>(
     sink: &mut D,
     version: Version,

@@ -9,7 +9,7 @@ use lte_bits::{List, NoMemory};
 use std::alloc::Global;
 use tb_pipeline::Job;
 
-/// Does the jobs one after the other.
+/// Runs the jobs one after the other.
 pub fn run_each(alloc: Global, jobs: &[BlockJob]) -> Result<List<Received>, NoMemory>
     ensures { IfOk result (AllZip answers jobs.now) }
 {

@@ -16,7 +16,7 @@ use run_loop::{Part, Stop};
 use std::alloc::Global;
 use stream_loop::{Handled, status_of};
 
-/// Returns what a job adds whose block has this number, and whether the block failed.
+/// Returns the part of a job whose block has this number, and whether the block failed.
 fn part_of(
     alloc: Global,
     number: usize,
@@ -38,7 +38,7 @@ fn part_of(
     Ok((part, failed))
 }
 
-/// Returns what jobs add, the first of which has this number, and how many of their blocks failed.
+/// Returns the parts of jobs, the first of which has this number, and how many of their blocks failed.
 pub fn parts_of(
     alloc: Global,
     first: usize,
@@ -61,7 +61,7 @@ pub fn parts_of(
     Ok((parts, failures))
 }
 
-/// Returns how the round stops, after so many blocks of which so many failed.
+/// Returns how the round stops, after `blocks` blocks of which `failed` failed.
 pub fn stop_of(
     alloc: Global,
     reached: Reached,

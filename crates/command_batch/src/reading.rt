@@ -16,18 +16,18 @@ use edge_io::Source;
 use lte_bits::List;
 use std::alloc::Global;
 
-/// How far the reading of a round came.
+/// How the reading of a round ended.
 #[derive(Debug, Drop)]
 pub enum Reached {
-    /// It has as many blocks as it may have.
+    /// It has the maximum number of blocks.
     Full,
-    /// The stream ended before.
+    /// The stream ended first.
     End,
-    /// The reader stopped before.
+    /// The reader stopped first.
     Stopped(StreamStop),
 }
 
-/// The reader of a stream of soft values, the limits for its blocks, and rooms for the bytes of
+/// The reader of a stream of soft values, the limits for its blocks, and reusable buffers for the bytes of
 /// blocks.
 #[derive(Drop)]
 pub struct JobReader {
@@ -72,7 +72,7 @@ impl JobReader {
         }
     }
 
-    /// Reads the blocks of a round, at most so many: `jobs` has room for them.
+    /// Reads the blocks of a round, at most `most`: `jobs` has room for them.
     pub fn read_jobs<S: Source>(
         &mut self,
         alloc: Global,
@@ -108,7 +108,7 @@ impl JobReader {
         Reached::Full
     }
 
-    /// Keeps the rooms of jobs for the next round, as many as it has memory for.
+    /// Keeps the buffers of jobs for the next round, as many as it has memory for.
     pub fn keep_rooms(&mut self, jobs: Vec<BlockJob>)
         ensures reader { self.new.reader ≡ self.old.reader }
         ensures limits { self.new.limits ≡ self.old.limits }

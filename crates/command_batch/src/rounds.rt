@@ -21,7 +21,7 @@ pub struct BatchRounds<R: Runner> {
 }
 
 impl<R: Runner> BatchRounds<R> {
-    /// Does the jobs, the first of which has this number: what they add, and how many blocks failed.
+    /// Runs the jobs, the first of which has this number. Returns their parts, and how many blocks failed.
     fn done(
         &self,
         alloc: Global,

@@ -11,7 +11,7 @@ use std::alloc::Global;
 /// The results of a round's jobs, in their order, or running out of memory.
 pub type Outcomes = Result<List<Received>, NoMemory>;
 
-/// Runs the jobs of a round, by up to so many pipes.
+/// Runs the jobs of a round, by up to `pipes` pipes.
 pub trait Runner: Drop {
     // Its precondition for running jobs.
     ghost able: { Self → Type 0 } = { λ _. Unit {0} };
@@ -33,7 +33,7 @@ pub trait Runner: Drop {
         ensures { IfOk result (AllZip answers jobs.now) };
 }
 
-/// A closure that does jobs by so many pipes, 1 to 8.
+/// A closure that runs jobs by `pipes` pipes, 1 to 8.
 #[derive(Drop)]
 pub struct Pipes<'a, F: Fn(Global, &[BlockJob], usize) -> Outcomes> {
     pub run: &'a F,

@@ -46,7 +46,7 @@ pub fn block_line(alloc: Global, number: usize, outcome: &TbOutcome) -> Result<V
     Ok(line)
 }
 
-/// Returns the last line, after so many blocks of which so many failed.
+/// Returns the last line, after `blocks` blocks of which `failed` failed.
 pub fn last_line(alloc: Global, blocks: usize, failed: usize) -> Result<Vec<u8>, NoMemory>
     requires { failed ≤ blocks }
     ensures { IfOk result (λ line. line.items ≡ last_line blocks failed) }

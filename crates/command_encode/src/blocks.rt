@@ -48,7 +48,7 @@ fn block_text(alloc: Global, payload: &[u8], header: &Header) -> Result<Vec<u8>,
     Ok(text)
 }
 
-/// Returns the block of a payload, which is known whole once so many bytes have come.
+/// Returns the block of a payload, final once `wants` bytes have been read.
 pub fn block(alloc: Global, payload: &[u8], header: &Header, wants: usize) -> Result<Part, NoMemory>
     requires some { 1 ≤ length payload.now }
     requires few { length payload.now ≤ header.now.tb }

@@ -72,7 +72,7 @@ fn coded(alloc: Global, payload: &[u8], m: &Match, rv: u8) -> Result<Round, NoMe
     })
 }
 
-/// Returns a transport block whose length is refused at a byte.
+/// Returns the refusal of a transport block's length at a byte.
 fn bad_length(place: u64) -> Status
     ensures { result ≡ Status.BadStream 4 place }
 {

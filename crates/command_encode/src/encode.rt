@@ -30,7 +30,7 @@ pub struct EncodeRounds {
     ghost most: { more + count ≡ 4096 },
 }
 
-/// Returns the end after so many blocks.
+/// Returns the end after `count` blocks.
 fn end(alloc: Global, count: usize) -> Result<Stop, NoMemory>
     ensures { IfOk result (IsEnd count) }
 {
@@ -60,7 +60,7 @@ fn of_block(
     Ok(Round { parts, stop })
 }
 
-/// Returns the last round, of what is left after so many blocks.
+/// Returns the last round, for the bytes left after `count` blocks.
 fn last(alloc: Global, header: &Header, count: usize, payload: &[u8]) -> Result<Round, NoMemory>
     requires few { length payload.now ≤ header.now.tb }
     requires count { 0 < length payload.now → count < 4096 }
@@ -73,8 +73,8 @@ fn last(alloc: Global, header: &Header, count: usize, payload: &[u8]) -> Result<
     of_block(alloc, header, payload, payload.len() + 1, stop)
 }
 
-/// Returns the round after the last block that may come: a byte more is refused, and it is read without
-/// memory of its own.
+/// Returns the round after the maximum number of blocks: a further byte is refused, and is read without
+/// allocating.
 fn after_all_blocks<S: Source>(
     alloc: Global,
     header: &Header,

@@ -17,8 +17,7 @@ pub enum Input {
     Ended(Vec<u8>),
 }
 
-/// Reads so many bytes, or all that are left where they are fewer. It answers `NoMemory` before
-/// anything is read.
+/// Reads `size` bytes, or all that are left if they are fewer. `NoMemory` comes before anything is read.
 pub fn read_up_to<S: Source>(alloc: Global, source: &mut S, size: usize) -> Result<Input, Status>
     ensures bytes { IsInput size (S.left source.old) (S.left source.new) result }
     ensures moved { TakesBytes (S.left source.old) (S.left source.new) }

@@ -1,4 +1,4 @@
-//! The commands `codeword` and `encode`: what is sent of an input.
+//! The commands `codeword` and `encode`: the bits that are sent of an input.
 #![tactic(auto)]
 
 mod blocks;

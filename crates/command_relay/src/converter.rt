@@ -1,4 +1,4 @@
-//! A stream out of a stream, transmission by transmission.
+//! Conversion of a stream, transmission by transmission.
 ghost use Rattle.std.specs.Prelude.{◌≡◌, ◌<◌, ◌≤◌, ◌++◌, true, IfOk, length, take, drop};
 ghost use Rattle.coded_stream.specs.Blocks.{IsBlock, IsTransmission, transmission_size};
 ghost use Rattle.coded_stream.specs.Header.{kind_code};
@@ -31,11 +31,11 @@ pub trait Converter: Drop {
     fn want(&self) -> Want
         ensures { result ≡ (conversion self.now).want };
 
-    /// Returns its header, for that of the stream that is read.
+    /// Returns the header of the stream that is written, for that of the stream that is read.
     fn header(&self, header: &Header) -> Header
         ensures { header_of result ≡ (conversion self.now).header (header_of header.now) };
 
-    /// Appends what it makes of a transmission.
+    /// Appends a converted transmission.
     fn push(
         &self,
         alloc: Global,

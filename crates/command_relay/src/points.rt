@@ -20,7 +20,7 @@ pub struct Points {
 }
 
 impl Points {
-    /// Returns the soft values that are received of the bits of a transmission.
+    /// Returns the received soft values of the bits of a transmission.
     fn softs(
         &self,
         alloc: Global,

@@ -25,7 +25,7 @@ pub struct Scramble {
 }
 
 impl Scramble {
-    /// Returns what the sequence of a transmission begins with, with `count` transmissions in each block.
+    /// Returns c_init of a transmission, with `count` transmissions in each block.
     fn init(&self, count: usize, place: Place) -> Init
         requires { count ≤ 8 }
         ensures { result ≡ init_of (record {

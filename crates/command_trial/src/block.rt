@@ -26,7 +26,7 @@ impl Trial {
         payload(alloc, self.tb, channel.seed, block as u32)
     }
 
-    /// Appends what is received of a transmission of a block, both counted from 0.
+    /// Appends the received soft values of a transmission of a block, both counted from 0.
     #[tactic(auto, using(soft_channel::proofs::Lengths::length_noisy))]
     fn push_received(
         &self,
@@ -56,8 +56,7 @@ impl Trial {
         Ok(())
     }
 
-    /// Returns the soft values that are received of all transmissions of a block, one transmission after the
-    /// other.
+    /// Returns the received soft values of all transmissions of a block, one transmission after the other.
     fn softs(&self, alloc: Global, block: usize, sent: &[u8]) -> Result<Vec<Soft>, NoMemory>
         requires block { block < 4096 }
         requires sent { sent.now ≡ payload (trial_of self.now) block }

@@ -12,7 +12,7 @@ use lte_bits::NoMemory;
 use run_loop::{SinkName, Status, end_line, push_number};
 use std::alloc::Global;
 
-/// Returns what is counted over all blocks.
+/// Returns the counts over all blocks.
 fn counted(alloc: Global, trial: &Trial) -> Result<Counts, NoMemory>
     ensures { IfOk result (λ c. c ≡ counted (trial_of trial.now) trial.now.blocks) }
 {

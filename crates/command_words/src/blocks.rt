@@ -37,7 +37,7 @@ fn lists_of(form: Form, operands: &[&str]) -> Option<Lists>
     }
 }
 
-/// Returns what the operands give of the blocks and their transmissions, with G, Q_m and N_L in one form.
+/// Returns the operands' values for the blocks and their transmissions, with G, Q_m and N_L in one form.
 pub fn asked_of(form: Form, operands: &[&str]) -> Option<Asked>
     ensures asked { result ≡ asked_of form (texts_of operands.now) }
     ensures given { IfSome result AreGiven }

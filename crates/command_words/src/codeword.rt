@@ -31,7 +31,7 @@ fn codeword_given(g: &Operand, qm: &Operand, rv: &Operand) -> Result<Command, Wo
     }
 }
 
-/// Returns what the arguments after `codeword` ask for.
+/// Parses the arguments after `codeword`.
 pub fn codeword_of(operands: &[&str]) -> Result<Command, WordRefusal>
     ensures command { result ≡ codeword_of (texts_of operands.now) }
     ensures lawful { IfOk result IsLawful }

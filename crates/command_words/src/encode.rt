@@ -29,7 +29,7 @@ fn encode_given(asked: &Asked) -> Result<Command, WordRefusal>
     }
 }
 
-/// Returns what the arguments after `encode` ask for.
+/// Parses the arguments after `encode`.
 pub fn encode_of(operands: &[&str]) -> Result<Command, WordRefusal>
     ensures command { result ≡ encode_of (texts_of operands.now) }
     ensures lawful { IfOk result IsLawful }

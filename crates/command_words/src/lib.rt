@@ -1,4 +1,4 @@
-//! The commands of the program, as arguments ask for them.
+//! Parsing of arguments into the commands of the program.
 #![tactic(auto)]
 
 mod blocks;

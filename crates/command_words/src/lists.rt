@@ -26,14 +26,14 @@ impl Taken {
         }
     }
 
-    /// Returns the numbers, or 7 where some weren't accepted.
+    /// Returns the numbers, or 7 if some weren't accepted.
     fn finish(self) -> Result<Numbers, u8>
         ensures { result ≡ finished self }
     {
         if self.fine { Ok(self.numbers) } else { Err(7) }
     }
 
-    /// Takes the next number. It answers false where the text spells none.
+    /// Takes the next number. Returns false if the text spells none.
     fn take(&mut self, rule: &Rule, text: &str) -> bool
         requires { length self.old.numbers ≤ most rule.now.form }
         ensures taken { with_text rule.now text.now self.old ≡ if result then Some self.new else None }

@@ -16,8 +16,8 @@ fn is_spelt(text: &[u8]) -> bool
     (1..=20).contains(&text.len()) && is_digits(text) && (text.len() == 1 || text[0] != b'0')
 }
 
-/// Returns the number that a text spells: 1 to 20 digits, the first of them 0 only where it is the only one.
-/// Twenty digits can pass 2^64, so that such a number is out of range and not ill spelt.
+/// Returns the number that a text spells: 1 to 20 digits, the first of them 0 only if it is the only one.
+/// Twenty digits can exceed 2^64; such a number is out of range rather than misspelt.
 pub fn spelt(text: &str) -> Option<u128>
     ensures { result ≡ number_of text.now }
 {

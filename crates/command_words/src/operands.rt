@@ -40,7 +40,7 @@ fn rule_of(rules: &[Rule], name: &str) -> Option<Rule>
     None
 }
 
-/// Returns what comes after the name, where the argument has that name.
+/// Returns the value after the name, if the argument has that name.
 fn value_of<'a>(word: &'a str, name: &str) -> Option<&'a str>
     ensures { text_of_option result ≡ value_under name.now word.now }
 {
@@ -95,7 +95,7 @@ pub fn first_fault(rules: &[Rule], operands: &[&str]) -> Option<WordRefusal>
     None
 }
 
-/// Returns the numbers that are taken where a rule's name isn't given.
+/// Returns the default of a rule, if it has one.
 fn default_of(rule: &Rule) -> Option<Operand>
     requires { HasDefault rule.now }
     ensures value { result ≡ default_of rule.now.default }
@@ -119,7 +119,7 @@ fn accepted(rule: &Rule, place: usize, value: &str) -> Option<Operand>
     }
 }
 
-/// Returns what the operands give for a rule, or its default.
+/// Returns the operand of a rule, or its default.
 pub fn given(rule: &Rule, operands: &[&str]) -> Option<Operand>
     requires { HasDefault rule.now }
     ensures value { result ≡ given rule.now (texts_of operands.now) }
@@ -133,7 +133,7 @@ pub fn given(rule: &Rule, operands: &[&str]) -> Option<Operand>
     default_of(rule)
 }
 
-/// Returns the one number that the operands give for a rule, or its default.
+/// Returns the single number of a rule's operand, or its default.
 #[tactic(auto, using(crate::proofs::Ranged::first_ranged))]
 pub fn number_given(rule: &Rule, operands: &[&str]) -> Option<u64>
     requires { HasDefault rule.now }

@@ -1,5 +1,4 @@
-//! The operands of each command: for each name of an operand how its numbers are spelt, which of them
-//! are accepted, and what is taken where it isn't given.
+//! The operands of each command: for each name the form of its numbers, their range, and the default.
 ghost use Rattle.std.specs.Prelude.{◌≡◌, ◌<◌, ◌^◌, ◌≤◌, IsTrue};
 ghost use Rattle.command_words.specs.Rules.{name_text, most, in_range, in_form};
 
@@ -18,9 +17,9 @@ pub enum Name {
     Nl,
     /// N_IR, 0 for a full buffer.
     Nir,
-    /// The most windows of a code block.
+    /// The maximum number of windows of a code block.
     Windows,
-    /// The most iterations.
+    /// The maximum number of iterations.
     Limit,
     /// The threads that decode a code block.
     Workers,
@@ -28,7 +27,7 @@ pub enum Name {
     Pipes,
     /// The soft value of a bit 0.
     Amp,
-    /// How strong the noise is.
+    /// The strength of the noise.
     Noise,
     /// The seed of the generator.
     Seed,
@@ -83,7 +82,7 @@ pub enum Form {
 }
 
 impl Form {
-    /// Returns the most numbers.
+    /// Returns the maximum count of numbers.
     pub fn most(self) -> usize
         ensures value { result ≡ most self }
         ensures few { result ≤ 8 }
@@ -124,7 +123,7 @@ pub struct Rule {
     pub name: Name,
     pub form: Form,
     pub range: Range,
-    /// The default. `None`: a number has to be given.
+    /// The default, or `None` if the operand is required.
     pub default: Option<u64>,
 }
 

@@ -8,7 +8,7 @@ use crate::operands::{WordRefusal, first_fault, missing, number_given};
 use crate::tables::{CELL_NUMBER, Q_NUMBER, RNTI_NUMBER, SCRAMBLE, SLOT_NUMBER};
 use crate::words::Command;
 
-/// Returns what the arguments after `scramble` ask for.
+/// Parses the arguments after `scramble`.
 pub fn scramble_of(operands: &[&str]) -> Result<Command, WordRefusal>
     ensures command { result ≡ scramble_of (texts_of operands.now) }
     ensures lawful { IfOk result IsLawful }

@@ -1,4 +1,4 @@
-//! Texts cut in two.
+//! Splitting of texts.
 ghost use Rattle.std.specs.Prelude.{◌<◌};
 ghost use Rattle.command_words.specs.Splitting.{IsSplit};
 

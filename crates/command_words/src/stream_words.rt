@@ -12,7 +12,7 @@ use crate::tables::{BATCH, CHANNEL, DECODE, PIPES_NUMBER, UPGRADE, WORKERS_NUMBE
 use crate::words::Command;
 use soft_channel::NoiseChannel;
 
-/// Returns what the arguments after `decode` ask for.
+/// Parses the arguments after `decode`.
 pub fn decode_of(operands: &[&str]) -> Result<Command, WordRefusal>
     ensures command { result ≡ decode_of (texts_of operands.now) }
     ensures lawful { IfOk result IsLawful }
@@ -31,7 +31,7 @@ pub fn decode_of(operands: &[&str]) -> Result<Command, WordRefusal>
     }
 }
 
-/// Returns what the arguments after `batch` ask for.
+/// Parses the arguments after `batch`.
 pub fn batch_of(operands: &[&str]) -> Result<Command, WordRefusal>
     ensures command { result ≡ batch_of (texts_of operands.now) }
     ensures lawful { IfOk result IsLawful }
@@ -64,7 +64,7 @@ fn channel_asked(operands: &[&str]) -> Result<NoiseChannel, WordRefusal>
     }
 }
 
-/// Returns what the arguments after `channel` ask for.
+/// Parses the arguments after `channel`.
 pub fn channel_of(operands: &[&str]) -> Result<Command, WordRefusal>
     ensures command { result ≡ channel_of (texts_of operands.now) }
     ensures lawful { IfOk result IsLawful }
@@ -75,7 +75,7 @@ pub fn channel_of(operands: &[&str]) -> Result<Command, WordRefusal>
     }
 }
 
-/// Returns what the arguments after `points` ask for.
+/// Parses the arguments after `points`.
 pub fn points_of(operands: &[&str]) -> Result<Command, WordRefusal>
     ensures command { result ≡ points_of (texts_of operands.now) }
     ensures lawful { IfOk result IsLawful }
@@ -86,7 +86,7 @@ pub fn points_of(operands: &[&str]) -> Result<Command, WordRefusal>
     }
 }
 
-/// Returns what the arguments after `upgrade` ask for.
+/// Parses the arguments after `upgrade`.
 pub fn upgrade_of(operands: &[&str]) -> Result<Command, WordRefusal>
     ensures command { result ≡ upgrade_of (texts_of operands.now) }
     ensures lawful { IfOk result IsLawful }

@@ -1,5 +1,4 @@
-//! The operands of each command: for each name the form of its numbers, their range, and the number that is
-//! taken where none is given.
+//! The operands of each command: for each name the form of its numbers, their range, and the default.
 use crate::rules::{Form, Name, Range, Rule, rule};
 use crate::transmission_tables::{
     G_LIST, G_NUMBER, NIR_NUMBER, NL_LIST, NL_NUMBER, QM_LIST, QM_NUMBER, RV_LIST, RV_OF_ONE,
@@ -16,7 +15,7 @@ pub const WORKERS_NUMBER: Rule = rule!(Workers, Number, Between(1, 16), Some(1))
 
 pub const PIPES_NUMBER: Rule = rule!(Pipes, Number, Between(1, 8), Some(2));
 
-// The channel: the soft value of a bit 0, how strong the noise is, and the seed of all that is drawn.
+// The channel: the soft value of a bit 0, the strength of the noise, and the seed of all random draws.
 pub const AMP_NUMBER: Rule = rule!(Amp, Number, Between(1, 127), None);
 
 pub const NOISE_NUMBER: Rule = rule!(Noise, Number, Between(0, 127), None);

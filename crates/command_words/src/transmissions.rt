@@ -37,7 +37,7 @@ impl Operand {
         self.numbers.len() == 1 || self.numbers.len() == count
     }
 
-    /// Returns the number of transmission `i` of so many.
+    /// Returns the number of transmission `i` of `count`.
     fn each(&self, i: usize, count: usize) -> u64
         requires some { 1 ≤ length self.now.numbers }
         requires each { is_each count self.now ≡ true }
@@ -53,7 +53,7 @@ impl Operand {
 }
 
 impl Lists {
-    /// Returns the first list that has neither one number nor so many.
+    /// Returns the first list that has neither one number nor `count`.
     pub fn uneven(&self, count: usize) -> Option<usize>
         ensures { result ≡ place_of (uneven_list count self.now) }
     {

@@ -19,7 +19,7 @@ use coded_stream::Version;
 use model_receiver::DecoderLimits;
 use soft_channel::NoiseChannel;
 
-/// Returns the trial of so many of these blocks.
+/// Returns the trial of `count` of these blocks.
 fn trial_given(
     asked: &Asked,
     channel: NoiseChannel,
@@ -47,7 +47,7 @@ fn trial_given(
     }
 }
 
-/// Returns what the arguments after `trial` ask for.
+/// Parses the arguments after `trial`.
 pub fn trial_of(operands: &[&str]) -> Result<Command, WordRefusal>
     ensures command { result ≡ trial_of (texts_of operands.now) }
     ensures lawful { IfOk result IsLawful }

@@ -57,7 +57,7 @@ pub enum Command {
         channel: NoiseChannel,
         limits: DecoderLimits,
     },
-    /// A stream with its hard bits scrambled or its soft values turned (36.211 6.3.1): n_RNTI, the
+    /// A stream with its hard bits scrambled or its soft values descrambled (36.211 6.3.1): n_RNTI, the
     /// codeword's number 0 or 1, the first slot 0 to 19, and the cell's identity 0 to 503.
     Scramble {
         rnti: u16,
@@ -69,7 +69,7 @@ pub enum Command {
     Points(NoiseChannel),
 }
 
-/// Returns what the arguments after a command's name ask for.
+/// Parses the arguments after a command's name.
 fn command_with(name: CommandName, operands: &[&str]) -> Result<Command, WordRefusal>
     ensures command { result ≡ command_with (Some name) (texts_of operands.now) }
     ensures lawful { IfOk result IsLawful }
@@ -87,7 +87,7 @@ fn command_with(name: CommandName, operands: &[&str]) -> Result<Command, WordRef
     }
 }
 
-/// Returns what the arguments ask for, or the first of them that is refused.
+/// Returns the command that the arguments ask for, or the first of them that is refused.
 pub fn read_words(words: &[&str]) -> Result<Command, WordRefusal>
     ensures command { result ≡ command_of (texts_of words.now) }
     ensures lawful { IfOk result IsLawful }

@@ -8,8 +8,7 @@ use lte_bits::{List, NoMemory};
 use std::alloc::{AllocError, Global};
 use std::marker::Model;
 
-/// Bytes held in memory, taken a piece at a time and no more than there is room for, with writes
-/// that fail by their number.
+/// A sink of limited capacity in memory, with short writes, and failures of the writes with given numbers.
 #[derive(Debug, Drop)]
 pub struct MemSink {
     bytes: Vec<u8>,

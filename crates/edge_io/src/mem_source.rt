@@ -8,7 +8,7 @@ use crate::{Source, SourceFault};
 use lte_bits::List;
 use std::marker::Model;
 
-/// Bytes in memory, given a piece at a time, with reads that fail by their number.
+/// A source over bytes in memory, with short reads, and failures of the reads with given numbers.
 #[derive(Debug, Drop)]
 pub struct MemSource {
     rest: Remaining,

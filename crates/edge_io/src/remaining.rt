@@ -1,4 +1,4 @@
-//! A list of bytes that is given away from its front.
+//! A list of bytes that is consumed from its front.
 ghost use Rattle.std.specs.Prelude.{◌≡◌, ◌≤◌, ℕ, List as Items, length, vec_len, min, take, drop};
 
 use lte_bits::List;
@@ -35,7 +35,7 @@ impl Remaining {
         &self.bytes.as_slice()[self.at..]
     }
 
-    /// Gives as many bytes as fit, and no more than `most`.
+    /// Moves bytes from the front to `buf`, as many as fit and at most `most`, and returns their number.
     pub fn give(&mut self, buf: &mut [u8], most: usize) -> usize
         ensures count { result ≡ min (min most (length buf.old)) (length self.old) }
         ensures bytes { take result buf.new ≡ take result self.old }

@@ -7,7 +7,7 @@ use crate::{Source, SourceFault};
 use lte_bits::List;
 use std::marker::Model;
 
-/// Bytes in memory, given as many at a time as fit.
+/// A source over bytes in memory that reads as many at a time as fit.
 #[derive(Debug, Drop)]
 pub struct SteadySource {
     rest: Remaining,

@@ -16,7 +16,7 @@ fn digit(cell: Cell) -> u32
     }
 }
 
-/// Returns a checksum with a cell more.
+/// Returns a checksum updated by a cell.
 fn mixed(sum: u32, cell: Cell) -> u32
     ensures { result ≡ mixed sum cell }
 {

@@ -1,6 +1,6 @@
-//! Encodes a code block of 6,144 bits and prints checksums of its streams, and then that of the codeword
-//! of a transport block of 9,422 bytes. With the argument `seconds=N` it encodes each again and again for N
-//! seconds, and reports the rates on standard error.
+//! Encodes a code block of 6,144 bits and prints checksums of its streams, and then that of the codeword of a
+//! transport block of 9,422 bytes. With the argument `seconds=N` it encodes each repeatedly for N seconds,
+//! and reports the rates on standard error.
 #![tactic(auto)]
 
 mod checksum;
@@ -21,8 +21,7 @@ fn time_of(word: &str) -> Option<Duration> {
     Some(Duration::from_secs(u64::from(seconds)))
 }
 
-/// Returns the time that the arguments ask for, no time where there are none, and `None` where they say
-/// something else.
+/// Returns the time that the arguments ask for, zero if there are none, and `None` if they are anything else.
 fn asked_time(rt: &HostRuntime) -> io::Result<Option<Duration>> {
     let mut words = env::args(rt)?.skip(1);
     let Some(word) = words.next() else {

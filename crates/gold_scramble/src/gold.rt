@@ -17,8 +17,8 @@ const STEPS: u32 = 100;
 
 const STEP: u32 = 16;
 
-/// A generator of the pseudo-random sequence (36.211 7.2): a register of 31 places of x1, and one of x2. The
-/// bits still to come are the sums, place by place, of the two, continued by their recurrences.
+/// A generator of the pseudo-random sequence (36.211 7.2): the registers of x1 and x2, of 31 places each. The
+/// bits to come are the modulo-2 sums of x1 and x2, each continued by its recurrence.
 #[derive(Debug, Drop)]
 pub struct Gold {
     x1: u32,
@@ -38,8 +38,8 @@ impl Model for Gold {
 }
 
 impl Gold {
-    /// Returns the generator whose next bit is c(0) (36.211 7.2): the first N_c = 1600 places of x1 and x2 are
-    /// discarded.
+    /// Returns the generator whose next bit is c(0) (36.211 7.2), after discarding the first N_c = 1600 bits
+    /// of x1 and x2.
     pub fn new(init: Init) -> Gold
         ensures { result ≡ started init }
     {
@@ -53,7 +53,7 @@ impl Gold {
         gold
     }
 
-    /// Returns the next `count` bits, at most 28, the first as the highest.
+    /// Returns the next `count` bits, at most 28, the first one most significant.
     #[inline]
     fn next_bits(&mut self, count: u32) -> u32
         requires { count ≤ 28 }
@@ -80,7 +80,7 @@ impl Gold {
         }
     }
 
-    /// Returns the next 32 bits, the first as the highest.
+    /// Returns the next 32 bits, the first one most significant.
     pub fn next_word(&mut self) -> u32
         ensures bits { result ≡ number (places (coming self.old) 0 32) }
         ensures moved { self.new ≡ moved self.old 32 }

@@ -5,7 +5,7 @@ ghost use Rattle.gold_scramble.specs.Initial.{c_init, IsTransmission};
 
 use std::marker::Model;
 
-/// The number c_init that the sequence of a transmission begins with (36.211 6.3.1, 5.3.1), below 2^31.
+/// The initial value c_init of a transmission's sequence (36.211 6.3.1, 5.3.1), below 2^31.
 #[derive(Clone, Copy, Debug, PartialEq, Eq, Hash)]
 pub struct Init {
     value: u32,
@@ -24,9 +24,9 @@ impl Model for Init {
 }
 
 impl Init {
-    /// Returns c_init (36.211 6.3.1): what the sequence begins with by a terminal's identity `rnti`, the
-    /// number of a codeword `q`, 0 or 1, a slot, 0 to 19, and a cell, 0 to 503; `None` for any other. With
-    /// `q` 0 it is the number for the shared channel of the uplink too (5.3.1).
+    /// Returns c_init (36.211 6.3.1) for a terminal's identity `rnti`, a codeword `q`, 0 or 1, a slot, 0 to
+    /// 19, and a cell, 0 to 503; `None` for any other. With `q` 0 it is also the one for the uplink shared
+    /// channel (5.3.1).
     pub fn new(rnti: u16, q: u8, slot: u8, cell: u16) -> Option<Init>
         ensures { SomeIff result (IsTransmission q slot cell) (c_init rnti q slot cell) }
     {

@@ -35,12 +35,12 @@ pub fn generators_give_the_sequence()
     ensures moves { (init m n : ℕ) → moved (moved (started init) m) n ≡ moved (started init) (m + n) }
 {}
 
-/// Scrambling twice gives the bits back.
+/// Scrambling twice restores the bits.
 pub fn scrambling_twice_gives_the_bits_back()
     ensures { (init : ℕ) (bits : List Bit) → scrambled init (scrambled init bits) ≡ bits }
 {}
 
-/// Turning twice gives the soft values back.
+/// Descrambling twice restores the soft values.
 pub fn turning_twice_gives_the_values_back()
     ensures { (init : ℕ) (softs : List ℤ) → turned init (turned init softs) ≡ softs }
 {}

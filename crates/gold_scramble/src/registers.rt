@@ -1,4 +1,4 @@
-//! Registers of 31 places as numbers, the first place the highest bit, several places at a time.
+//! Registers of 31 places as numbers, the first place most significant, several places at a time.
 ghost use Rattle.std.specs.Prelude.{◌≡◌, ◌+◌, ◌^◌, ◌<◌, ◌≤◌, bit_xor};
 ghost use Rattle.gold_scramble.specs.Places.{highest_first, places};
 ghost use Rattle.gold_scramble.specs.Sequence.{place, x1_recurrence, x2_recurrence};

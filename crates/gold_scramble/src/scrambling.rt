@@ -1,4 +1,4 @@
-//! Bits scrambled, and soft values turned back.
+//! Scrambling of bits, and descrambling of soft values.
 ghost use Rattle.std.specs.Prelude.{◌≡◌, ◌≤◌, ◌<◌, ◌-◌, length};
 ghost use Rattle.gold_scramble.specs.Places.{at, binary_digit, highest_first, plus};
 ghost use Rattle.gold_scramble.specs.Scrambling.{added, scrambled, turned, turned_by, turned_value};
@@ -37,8 +37,8 @@ fn add_word(bits: &mut [Bit], word: u32)
     }
 }
 
-/// Scrambles a transmission's bits: adds the sequence's bit of each place (36.211 6.3.1, 5.3.1). Doing it
-/// twice gives them back.
+/// Scrambles a transmission's bits: adds the sequence's bit of each place (36.211 6.3.1, 5.3.1). Scrambling
+/// twice restores them.
 pub fn scramble_bits(bits: &mut [Bit], init: Init)
     ensures { bits.new ≡ scrambled init bits.old }
 {
@@ -50,7 +50,7 @@ pub fn scramble_bits(bits: &mut [Bit], init: Init)
     }
 }
 
-/// Returns a soft value, turned by a bit.
+/// Returns a soft value, negated if the bit is 1.
 #[inline]
 fn turn(soft: Soft, by: Bit) -> Soft
     ensures { result ≡ turned_value by soft }
@@ -61,7 +61,7 @@ fn turn(soft: Soft, by: Bit) -> Soft
     }
 }
 
-/// Turns at most 32 soft values where the bits of a word are 1, the first by the highest.
+/// Negates those of at most 32 soft values whose bit of the word is 1, the first by the most significant bit.
 fn turn_by_word(softs: &mut [Soft], word: u32)
     requires { length softs.old ≤ 32 }
     ensures { softs.new ≡ turned_by (at (highest_first 32 word)) softs.old }
@@ -71,8 +71,8 @@ fn turn_by_word(softs: &mut [Soft], word: u32)
     }
 }
 
-/// Descrambles a transmission's soft values (36.211 6.3.1, 5.3.1): each is negated where the sequence's bit of
-/// its place is 1. Doing it twice gives them back.
+/// Descrambles a transmission's soft values (36.211 6.3.1, 5.3.1): negates those where the sequence has a 1.
+/// Descrambling twice restores them.
 pub fn turn_softs(softs: &mut [Soft], init: Init)
     ensures { softs.new ≡ turned init softs.old }
 {

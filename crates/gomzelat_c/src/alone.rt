@@ -28,8 +28,8 @@ fn begun_with(
     Ok(List::from_vec(stream))
 }
 
-/// Returns the soft streams of a block of `k` bits, whose values are those of d0, of d1 and of d2: 127 stands
-/// at the fillers of d0, and 0 at those of d1.
+/// Returns the soft streams of a block of `k` bits from the values of d0, of d1 and of d2, with 127 at the
+/// fillers of d0, and 0 at those of d1.
 pub fn streams_of(
     alloc: Global,
     k: usize,

@@ -1,4 +1,4 @@
-//! Values out of a caller's memory, and into it.
+//! Copies of values from and to a caller's memory.
 ghost use Rattle.std.specs.Prelude.{◌≡◌, ◌≤◌, IfOk, length, map, take};
 ghost use Rattle.lte_bits.specs.Packing.{unpacked};
 ghost use Rattle.lte_bits.specs.Softs.{clamped};
@@ -37,7 +37,7 @@ pub fn softs_of(alloc: Global, numbers: &[i8]) -> Result<List<Soft>, NoMemory>
     Ok(List::from_vec(softs))
 }
 
-/// Returns the first bits of bytes, of which those after them are left alone.
+/// Returns the first `count` bits of bytes; the bits after them are ignored.
 pub fn bits_of(alloc: Global, count: usize, bytes: &[u8]) -> Result<List<Bit>, NoMemory>
     requires { byte_count count ≤ length bytes.now }
     ensures { IfOk result (λ bits. bits ≡ take count (unpacked bytes.now)) }

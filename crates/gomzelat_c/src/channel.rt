@@ -23,7 +23,7 @@ pub struct Channel {
     pub noise: u32,
 }
 
-/// Returns the channel of so many bits of a transmission; or what is refused.
+/// Returns the channel of `count` bits of a transmission, or the refusal.
 fn accepted(
     count: usize,
     bytes: usize,
@@ -71,8 +71,8 @@ fn write_noisy(
 }
 
 /// Writes to the beginning of `out` a soft value, -127 to 127, for each of the first `count` bits of `bits`,
-/// whose bytes have the highest bit first: what the channel makes of transmission `number`, 0 to 7, of a
-/// block, both counted from 0. Answers 0, or a `Refusal`'s number, and then nothing is changed.
+/// packed most significant bit first, as received in transmission `number`, 0 to 7, of a block, both counted
+/// from 0. Returns 0, or a `Refusal`'s number with nothing changed.
 #[unsafe(no_mangle)]
 pub extern "C" fn gomzelat_noisy(
     alloc: Global,
@@ -104,8 +104,8 @@ fn write_payload(alloc: Global, seed: u64, block: u32, out: &mut [u8]) -> Result
     Ok(())
 }
 
-/// Fills `out`, of 1 to 18,722 bytes, with the payload of a trial's block, counted from 0. Answers 0, or
-/// a `Refusal`'s number, and then nothing is changed.
+/// Fills `out`, of 1 to 18,722 bytes, with the payload of a trial's block, counted from 0. Returns 0, or a
+/// `Refusal`'s number with nothing changed.
 #[unsafe(no_mangle)]
 pub extern "C" fn gomzelat_trial_payload(
     alloc: Global,

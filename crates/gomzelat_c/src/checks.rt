@@ -41,8 +41,8 @@ fn write_check(alloc: Global, kind: CheckKind, bits: &[u8], out: &mut [u8]) -> R
 }
 
 /// Writes the 24 check bits of a transport block's bits, by CRC24A, to the beginning of `out`, each 0 or 1.
-/// Of `bits`, which may be none, any byte but 0 is a bit 1. Answers 0, or a `Refusal`'s number, and then
-/// nothing is changed.
+/// `bits` may be empty; any non-zero byte is a bit 1. Returns 0, or a `Refusal`'s number with nothing
+/// changed.
 #[unsafe(no_mangle)]
 pub extern "C" fn gomzelat_crc24a(alloc: Global, bits: &[u8], out: &mut [u8]) -> u32
     ensures answer { IsTold result (first_failed (check_tests (length out.old))) }

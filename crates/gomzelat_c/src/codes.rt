@@ -79,7 +79,7 @@ fn is_lawful(code: &Code) -> Result<(), Refusal>
     accept(code.check <= 1, Refusal::BadCheck)
 }
 
-/// Tests how many windows and iterations there may be.
+/// Tests the limits on windows and iterations.
 fn are_limits(windows: u32, limit: u32) -> Result<(), Refusal>
     ensures refused { result_err result ≡ first_failed (limit_tests windows limit) }
     ensures some_windows { OnOk result (1 ≤ windows) }
@@ -91,7 +91,7 @@ fn are_limits(windows: u32, limit: u32) -> Result<(), Refusal>
     accept((1..=16).contains(&limit), Refusal::BadLimit)
 }
 
-/// Returns the shape of a code block's decoding, or what is refused of it.
+/// Returns the shape of a code block's decoding, or the refusal.
 fn shape_of(code: &Code, windows: u32, limit: u32) -> Result<Shape, Refusal>
     ensures refused { result_err result ≡ first_failed (shape_tests code.now windows limit) }
     ensures shape { IfOk result (λ shape. shape ≡ shape_in code.now windows limit) }
@@ -115,8 +115,8 @@ fn fits(code: &Code, values: usize, room: usize) -> Result<(), Refusal>
     accept(code.k <= room, Refusal::ShortOutput)
 }
 
-/// Returns the shape in which a code block is decoded from so many soft values, with room for so many bits;
-/// or what is refused.
+/// Returns the shape in which a code block is decoded from `values` soft values, with room for `room` bits,
+/// or the refusal.
 fn accepted(
     code: &Code,
     windows: u32,
@@ -179,9 +179,9 @@ fn decode_block(
 }
 
 /// Decodes a code block from the 3 * (K + 4) soft values of its coded streams, those of d0, d1 and d2, in at
-/// most so many windows, 1 to 64, and with at most `limit` iterations, 1 to 16. What stands at fillers isn't
-/// read. Writes its K bits, each 0 or 1, to the beginning of `bits`, and leaves in `block` whether its check
-/// holds and the iterations. Answers 0, or a `Refusal`'s number, and then nothing is changed.
+/// most `windows` windows, 1 to 64, and with at most `limit` iterations, 1 to 16. Values at fillers are
+/// ignored. Writes its K bits, each 0 or 1, to the beginning of `bits`, and to `block` whether its check
+/// holds and the iterations. Returns 0, or a `Refusal`'s number with nothing changed.
 #[unsafe(no_mangle)]
 pub extern "C" fn gomzelat_decode_block(
     alloc: Global,

@@ -21,7 +21,7 @@ use segmentation::plan;
 use std::alloc::Global;
 
 /// Returns the transmission of a payload of `bytes` bytes, whose codeword is to be written to a buffer of
-/// `room` bytes; or what is refused.
+/// `room` bytes, or the refusal.
 fn accepted(
     bytes: usize,
     transmission: &Transmission,
@@ -44,7 +44,7 @@ fn accepted(
     Ok(sending)
 }
 
-/// Returns the codeword as bytes, the highest bit first.
+/// Returns the codeword as bytes, most significant bit first.
 fn packed_codeword(alloc: Global, payload: &[u8], sending: &Sending) -> Result<List<u8>, NoMemory>
     requires some { 1 ≤ length payload.now }
     requires few { length payload.now ≤ MOST_BYTES }
@@ -78,8 +78,8 @@ fn write_codeword(
 }
 
 /// Writes the codeword of a payload of 1 to 18,722 bytes to the beginning of `out`: G bits in G/8 bytes,
-/// rounded up, the highest bit first, the unused low bits of the last byte 0. `n_ir` is 0 for a full soft
-/// buffer, or N_IR. Answers 0, or a `Refusal`'s number, and then nothing is changed.
+/// rounded up, most significant bit first, the unused low bits of the last byte 0. `n_ir` is 0 for a full
+/// soft buffer, or N_IR. Returns 0, or a `Refusal`'s number with nothing changed.
 #[unsafe(no_mangle)]
 pub extern "C" fn gomzelat_codeword(
     alloc: Global,

@@ -1,4 +1,4 @@
-//! Transmissions that are combined, one at a time.
+//! Soft combining of transmissions, one at a time.
 ghost use Rattle.std.specs.Prelude.{◌≡◌, ◌≢◌, ◌≤◌, IfOk, OnOk, OnErr, length, map};
 ghost use Rattle.std.specs.Result.{result_err};
 ghost use Rattle.lte_bits.specs.Softs.{clamped};
@@ -30,8 +30,8 @@ struct Job {
     sending: Sending,
 }
 
-/// Returns the job of combining so many soft values of a transmission with so many soft cells of a payload of
-/// `bytes` bytes; or what is refused.
+/// Returns the job of combining `values` soft values of a transmission with `cells` soft cells of a payload
+/// of `bytes` bytes, or the refusal.
 fn accepted(
     bytes: usize,
     transmission: &Transmission,
@@ -58,7 +58,7 @@ fn accepted(
     Ok(Job { plan, sending })
 }
 
-/// Returns the soft cells with a transmission more.
+/// Returns the soft cells after a further transmission.
 fn cells_with(alloc: Global, job: &Job, values: &[i8], cells: &[i8]) -> Result<List<Soft>, NoMemory>
     requires fits { FitsIn job.now.sending.m.limit job.now.plan.c job.now.plan.k_plus }
     requires version { job.now.sending.rv ≤ 3 }
@@ -97,10 +97,10 @@ fn combine(
     Ok(())
 }
 
-/// Adds the G soft values of one transmission more to the soft cells of a payload of `bytes` bytes, 1 to
-/// 18,722, which stand at the beginning of `cells`. All are 0 before the first transmission; -128 is taken
-/// as -127. `n_ir` is 0 for a full soft buffer, or N_IR. Answers 0, or a `Refusal`'s number, and then nothing
-/// is changed.
+/// Adds the G soft values of a further transmission to the soft cells of a payload of `bytes` bytes, 1 to
+/// 18,722, at the beginning of `cells` (HARQ soft combining). All are 0 before the first transmission; -128
+/// is taken as -127. `n_ir` is 0 for a full soft buffer, or N_IR. Returns 0, or a `Refusal`'s number with
+/// nothing changed.
 #[unsafe(no_mangle)]
 pub extern "C" fn gomzelat_combine(
     alloc: Global,

@@ -28,8 +28,8 @@ use segmentation::plan;
 use soft_buffers::{HarqBuffers, cell_count};
 use std::alloc::Global;
 
-/// How much a caller has: soft cells, entries for code blocks, bytes for their bits, and bytes for the
-/// payload.
+/// The sizes of a caller's buffers: soft cells, entries for code blocks, bytes for their bits, and bytes for
+/// the payload.
 #[derive(Clone, Copy)]
 pub struct Rooms {
     pub cells: usize,
@@ -38,7 +38,7 @@ pub struct Rooms {
     pub payload: usize,
 }
 
-/// Returns the task of decoding a payload of `bytes` bytes; or what is refused.
+/// Returns the task of decoding a payload of `bytes` bytes, or the refusal.
 fn accepted(bytes: usize, receiver: &Receiver, rooms: &Rooms) -> Result<Task, Refusal>
     ensures refused { result_err result ≡ first_failed (decode_tests bytes receiver.now rooms.now) }
     ensures plan { IfOk result (λ task. task.plan ≡ plan_of bytes) }
@@ -99,7 +99,7 @@ struct Left {
     delivered: u32,
 }
 
-/// Returns what the results of a try leave.
+/// Returns the outcome of a try with these results.
 fn left_by(alloc: Global, results: Vec<CodeResult>, task: &Task) -> Result<Left, NoMemory>
     requires { AreBlocksOf task.now.plan (map (λ x. x.block) results.items) }
     ensures entries { IfOk result (λ left. left.entries ≡ map entry_of results.items) }
@@ -165,11 +165,11 @@ fn decode(
 }
 
 /// Decodes the code blocks of a payload of `bytes` bytes, 1 to 18,722, from the soft cells at the beginning
-/// of `cells`. A block whose entry in `blocks` tells that it passed isn't decoded, but is as `bits` tells;
-/// where all entries do, all blocks are decoded, since the check of the payload failed then. Leaves an entry
-/// for each block in `blocks`, the decided bits of all blocks, a byte 0 or 1 for each, at the beginning of
-/// `bits`, the bytes that they carry at the beginning of `payload`, and in `delivered` 1 where all checks
-/// hold, else 0. Answers 0, or a `Refusal`'s number, and then nothing is changed.
+/// of `cells`. A block that has passed by its entry in `blocks` isn't decoded again, but is taken from
+/// `bits`; if all have passed, all are decoded, since the check of the payload failed then. Writes an entry
+/// for each block to `blocks`, the decided bits of all blocks, a byte 0 or 1 for each, to the beginning of
+/// `bits`, the bytes that they carry to the beginning of `payload`, and to `delivered` 1 if all checks hold,
+/// else 0. Returns 0, or a `Refusal`'s number with nothing changed.
 #[unsafe(no_mangle)]
 pub extern "C" fn gomzelat_decode(
     alloc: Global,

@@ -15,7 +15,7 @@ use lte_bits::{List, NoMemory, Soft};
 use qam_points::demap;
 use std::alloc::Global;
 
-/// Tests what is asked of points that are to be demapped.
+/// Tests the arguments of demapping.
 fn accepted(points: &[Point], qm: u32, amp: u32, room: usize) -> Result<(), Refusal>
     ensures refused { result_err result ≡ first_failed (demap_tests points.now qm amp room) }
     ensures order { OnOk result (IsModulationOrder qm) }
@@ -41,8 +41,8 @@ fn demapped(alloc: Global, points: &[Point], qm: u32, amp: u32) -> Result<List<S
     demap(alloc, points.as_slice(), qm as u8, amp as u8)
 }
 
-/// Copies points, so that what is demapped is what was tested, also where another thread writes to the
-/// caller's points meanwhile.
+/// Copies points, so that the points demapped are those tested, even if another thread writes to the caller's
+/// points meanwhile.
 fn copied(alloc: Global, points: &[Point]) -> Result<List<Point>, NoMemory>
     ensures { IfOk result (λ copies. copies ≡ points.now) }
 {
@@ -75,10 +75,10 @@ fn write_demapped(
     }
 }
 
-/// Writes to the beginning of `out` the `qm` soft values, 2, 4 or 6, of each received point: by how much the
-/// nearest point whose bit is 1 is further, by its squared distance, than the nearest whose bit is 0, divided
-/// by four times the amplitude, 1 to 127, rounded toward zero, and clamped. Coordinates are from -4000 to
-/// 4000. Answers 0, or a `Refusal`'s number, and then nothing is changed.
+/// Writes to the beginning of `out` the `qm` soft values, 2, 4 or 6, of each received point: the squared
+/// distance to the nearest point whose bit is 1, less that to the nearest whose bit is 0, divided by four
+/// times the amplitude, 1 to 127, rounded toward zero, and clamped. Coordinates are from -4000 to 4000.
+/// Returns 0, or a `Refusal`'s number with nothing changed.
 #[unsafe(no_mangle)]
 pub extern "C" fn gomzelat_demap(
     alloc: Global,

@@ -1,5 +1,5 @@
-//! The chain for callers in C, and in whatever calls C: codewords, plans, stages, receptions, and a channel
-//! with noise. No function here asks more of its caller than memory behind each pointer. Numbers are tested,
+//! The coding chain for C, and for languages that call C: codewords, plans, stages, receptions, and a channel
+//! with noise. No function requires more of its caller than memory behind each pointer. Arguments are tested,
 //! and each refusal has a number of its own.
 #![tactic(auto)]
 

@@ -13,7 +13,7 @@ use crate::refusal::{Refusal, accept, told};
 use qam_points::map;
 use std::alloc::Global;
 
-/// Tests what is asked of bits that are to be mapped.
+/// Tests the arguments of mapping.
 fn accepted(count: usize, bytes: usize, qm: u32, room: usize) -> Result<(), Refusal>
     ensures refused { result_err result ≡ first_failed (map_tests count bytes qm room) }
     ensures order { OnOk result (IsModulationOrder qm) }
@@ -48,9 +48,9 @@ fn write_mapped(
     Ok(())
 }
 
-/// Writes to the beginning of `points` the points as which the first `count` bits of `bits` are sent, whose
-/// bytes have the highest bit first: `qm` bits a point, 2, 4 or 6, of which `count` is a multiple. Coordinates
-/// are odd, from -7 to 7. Answers 0, or a `Refusal`'s number, and then nothing is changed.
+/// Maps the first `count` bits of `bits`, packed most significant bit first, to points at the beginning of
+/// `points`: `qm` bits a point, 2, 4 or 6, of which `count` is a multiple. Coordinates are odd, from -7 to 7.
+/// Returns 0, or a `Refusal`'s number with nothing changed.
 #[unsafe(no_mangle)]
 pub extern "C" fn gomzelat_map(
     alloc: Global,

@@ -36,7 +36,7 @@ pub struct Asked {
     pub sending: Sending,
 }
 
-/// Returns a transmission of a payload of `bytes` bytes that has a block `r`; or what is refused.
+/// Returns a transmission of a payload of `bytes` bytes that has a block `r`, or the refusal.
 pub fn accepted(
     bytes: usize,
     r: usize,
@@ -60,7 +60,7 @@ pub fn accepted(
     Ok(Asked { plan, sending })
 }
 
-/// Returns what block `r` sends.
+/// Returns the part of its circular buffer that block `r` sends.
 fn piece_in(plan: &Plan, r: usize, sending: &Sending) -> Piece
     requires block { r < plan.now.c }
     requires fits { Fits sending.now.m plan.now }
@@ -78,8 +78,8 @@ fn piece_in(plan: &Plan, r: usize, sending: &Sending) -> Piece
     }
 }
 
-/// Writes to `piece` what code block `r` of a payload of `bytes` bytes sends in a transmission. Answers 0, or
-/// a `Refusal`'s number, and then nothing is changed.
+/// Writes to `piece` the part of its circular buffer that code block `r` of a payload of `bytes` bytes sends
+/// in a transmission. Returns 0, or a `Refusal`'s number with nothing changed.
 #[unsafe(no_mangle)]
 pub extern "C" fn gomzelat_piece(
     bytes: usize,

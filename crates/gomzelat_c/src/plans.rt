@@ -7,8 +7,8 @@ ghost use Rattle.gomzelat_c.specs.Tests.{first_failed, length_test};
 
 use crate::refusal::Refusal;
 
-/// How a transport block is cut: C, K+, K-, C+, C- and F. The first `c_minus` of the `c` code blocks have
-/// `k_minus` bits, the others `k_plus`, and the first one begins with `f` fillers.
+/// The segmentation plan of a transport block: C, K+, K-, C+, C- and F. The first `c_minus` of the `c` code
+/// blocks have `k_minus` bits, the others `k_plus`, and the first one begins with `f` fillers.
 #[repr(C)]
 #[derive(Clone, Copy, Debug)]
 pub struct Plan {
@@ -20,8 +20,8 @@ pub struct Plan {
     pub f: usize,
 }
 
-/// Writes to `plan` how a payload of `bytes` bytes is cut. Answers 0, or 2 where there are no bytes or more
-/// than 18,722, and then nothing is changed.
+/// Writes the segmentation plan of a payload of `bytes` bytes to `plan`. Returns 0, or 2 with nothing changed
+/// if there are no bytes or more than 18,722.
 #[unsafe(no_mangle)]
 pub extern "C" fn gomzelat_plan(bytes: usize, plan: &mut Plan) -> u32
     ensures answer { result ≡ told (first_failed (length_test bytes ∷ [])) }

@@ -27,7 +27,7 @@ pub fn accept_order(qm: u32) -> Result<(), Refusal>
     accept(qm == 2 || qm == 4 || qm == 6, Refusal::BadQm)
 }
 
-/// Tells whether both coordinates of each point are from -4000 to 4000.
+/// Returns whether both coordinates of each point are from -4000 to 4000.
 pub fn are_nearby(points: &[Point]) -> bool
     ensures { result ≡ list_all is_nearby points.now }
 {
@@ -35,7 +35,7 @@ pub fn are_nearby(points: &[Point]) -> bool
         && (-4000..=4000).contains(&point.q))
 }
 
-/// Returns a caller's points as those that soft values are read off.
+/// Converts a caller's points to those of `qam_points`.
 pub fn in_the_plane(alloc: Global, points: &[Point]) -> Result<List<qam_points::Point>, NoMemory>
     ensures { IfOk result (λ own. own ≡ map in_the_plane points.now) }
 {

@@ -31,8 +31,8 @@ struct Job {
     sends: Sends,
 }
 
-/// Returns the limits of a receiver for transmissions of so many bits, from so many soft values and with room
-/// for so many bytes; or what is refused.
+/// Returns the limits of a receiver for transmissions of `bits` bits, from `values` soft values and with room
+/// for `room` bytes, or the refusal.
 fn limits(
     plan: &Plan,
     bits: usize,
@@ -63,8 +63,8 @@ fn limits(
     })
 }
 
-/// Returns the job of receiving a payload of `bytes` bytes from so many soft values, with room for so many
-/// bytes; or what is refused.
+/// Returns the job of receiving a payload of `bytes` bytes from `values` soft values, with room for `room`
+/// bytes, or the refusal.
 fn accepted(
     bytes: usize,
     transmissions: &[Transmission],
@@ -100,7 +100,7 @@ fn accepted(
     })
 }
 
-/// Returns what the transmissions of a job come to, from their soft values.
+/// Returns the outcome of the transmissions of a job, from their soft values.
 fn outcome_of(alloc: Global, job: &Job, values: &[i8]) -> Result<TbOutcome, NoMemory>
     requires fits { FitsIn (common job.now.sends).limit job.now.task.plan.c job.now.task.plan.k_plus }
     requires values { length values.now ≡ value_count job.now.sends }
@@ -146,11 +146,10 @@ fn receive(
     Ok(())
 }
 
-/// Receives a payload of `bytes` bytes, 1 to 18,722, from one to eight transmissions: `values` has the G
-/// soft values of each, one transmission after the other, positive where 0 is
-/// likelier. Leaves in `outcome` what they came to, and the payload at the beginning of `payload`, where it
-/// was delivered; else nothing is changed there. Answers 0, or a `Refusal`'s number, and then nothing is
-/// changed.
+/// Receives a payload of `bytes` bytes, 1 to 18,722, from one to eight transmissions: `values` has the G soft
+/// values of each, one transmission after the other, positive if 0 is likelier. Writes the outcome to
+/// `outcome`, and the payload to the beginning of `payload` if it was delivered; else `payload` is unchanged.
+/// Returns 0, or a `Refusal`'s number with nothing changed.
 #[unsafe(no_mangle)]
 pub extern "C" fn gomzelat_receive(
     alloc: Global,

@@ -8,8 +8,8 @@ use lte_bits::NoMemory;
 use rate_match::BadMatch;
 use segmentation::BadLength;
 
-/// Why a call fails: memory ran out, which is only answered where nothing is refused; or an argument is
-/// refused, in the order in which they are tested.
+/// Why a call fails: memory ran out, which is only reported if nothing is refused; or an argument is refused,
+/// in the order in which they are tested.
 #[derive(Clone, Copy, Debug, PartialEq, Eq, Hash)]
 pub enum Refusal {
     /// Memory ran out.
@@ -40,7 +40,7 @@ pub enum Refusal {
     BadFillers,
     /// The check of a code block is neither CRC24A nor CRC24B.
     BadCheck,
-    /// There aren't as many soft values as there have to be.
+    /// The number of soft values is wrong.
     BadValues,
     /// There are fewer bytes than the bits need.
     BadBits,
@@ -99,7 +99,7 @@ impl Refusal {
     }
 }
 
-/// Returns the number of what is refused, or 0.
+/// Returns the number of the refusal, or 0.
 pub fn told(done: Result<(), Refusal>) -> u32
     ensures { result ≡ told (result_err done) }
 {
@@ -141,7 +141,7 @@ impl From<BadMatch> for Refusal {
     }
 }
 
-/// Refuses where a test doesn't hold.
+/// Returns `otherwise` as an error unless a test holds.
 pub fn accept(holds: bool, otherwise: Refusal) -> Result<(), Refusal>
     ensures refused { result_err result ≡ first_failed (test holds otherwise ∷ []) }
     ensures holds { OnOk result (IsTrue holds) }

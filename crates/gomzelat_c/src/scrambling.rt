@@ -1,4 +1,4 @@
-//! Bits scrambled, and soft values turned back (36.211 5.3.1, 6.3.1).
+//! Scrambling of bits, and descrambling of soft values (36.211 5.3.1, 6.3.1).
 ghost use Rattle.std.specs.Prelude.{◌≡◌, ◌≢◌, ◌≤◌, IfOk, OnOk, OnErr, length, map, take};
 ghost use Rattle.std.specs.Result.{result_err};
 ghost use Rattle.lte_bits.specs.Packing.{packed, unpacked};
@@ -27,7 +27,7 @@ pub struct Scrambling {
     pub cell: u32,
 }
 
-/// Returns what the sequence begins with, or what is refused.
+/// Returns c_init, or the refusal.
 fn init_of(scrambling: &Scrambling) -> Result<Init, Refusal>
     ensures refused { result_err result ≡ first_failed (scrambling_tests scrambling.now) }
     ensures init { IfOk result (λ init. init ≡ init_in scrambling.now) }
@@ -41,8 +41,8 @@ fn init_of(scrambling: &Scrambling) -> Result<Init, Refusal>
     Ok(Init::new(rnti, scrambling.q as u8, scrambling.slot as u8, cell).unwrap())
 }
 
-/// Writes to `init` the number c_init that the sequence of a transmission begins with. Answers 0, or a
-/// `Refusal`'s number, and then nothing is changed.
+/// Writes c_init, the initial value of a transmission's sequence, to `init`. Returns 0, or a `Refusal`'s
+/// number with nothing changed.
 #[unsafe(no_mangle)]
 pub extern "C" fn gomzelat_init(scrambling: Scrambling, init: &mut u32) -> u32
     ensures answer { result ≡ told (first_failed (scrambling_tests scrambling)) }
@@ -88,9 +88,9 @@ fn scramble(
     Ok(())
 }
 
-/// Scrambles the first `count` bits of `bits`, whose bytes have the highest bit first, and leaves the unused
-/// low bits of their last byte 0. Twice gives them back. Answers 0, or a `Refusal`'s number, and then nothing
-/// is changed.
+/// Scrambles the first `count` bits of `bits`, packed most significant bit first, and sets the unused low
+/// bits of their last byte to 0. Scrambling twice restores them. Returns 0, or a `Refusal`'s number with
+/// nothing changed.
 #[unsafe(no_mangle)]
 pub extern "C" fn gomzelat_scramble(
     alloc: Global,
@@ -106,7 +106,7 @@ pub extern "C" fn gomzelat_scramble(
     told(scramble(alloc, bits, count, &scrambling))
 }
 
-/// Returns soft values of scrambled bits as those of the bits before.
+/// Returns the descrambled soft values.
 fn turned_back(alloc: Global, values: &[i8], init: Init) -> Result<List<Soft>, NoMemory>
     ensures softs { IfOk result (λ softs. softs ≡ turned init (map (clamped 127) values.now)) }
     ensures long { IfOk result (λ softs. length softs ≡ length values.now) }
@@ -127,9 +127,8 @@ fn descramble(alloc: Global, values: &mut [i8], scrambling: &Scrambling) -> Resu
     Ok(())
 }
 
-/// Turns soft values of scrambled bits into those of the bits before: each is negated where the sequence's
-/// bit of its place is 1; -128 is taken as -127. Answers 0, or a `Refusal`'s number, and then nothing is
-/// changed.
+/// Descrambles soft values: negates each where the sequence's bit is 1; -128 is taken as -127. Returns 0, or
+/// a `Refusal`'s number with nothing changed.
 #[unsafe(no_mangle)]
 pub extern "C" fn gomzelat_descramble(
     alloc: Global,

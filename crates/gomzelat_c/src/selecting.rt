@@ -18,8 +18,8 @@ use crate::transmission::Transmission;
 use rate_match::{piece_len, select};
 use std::alloc::Global;
 
-/// Returns a transmission of a payload of `bytes` bytes in which block `r` sends no more bits than have room;
-/// or what is refused.
+/// Returns a transmission of a payload of `bytes` bytes in which block `r` sends no more bits than have room,
+/// or the refusal.
 fn accepted(
     bytes: usize,
     r: usize,
@@ -67,8 +67,8 @@ fn write_selected(
 }
 
 /// Writes to the beginning of `out` the E bits, each 0 or 1, that code block `r` of a payload of 1 to 18,722
-/// bytes sends in a transmission. `n_ir` is 0 for a full soft buffer, or N_IR. Answers 0, or a `Refusal`'s
-/// number, and then nothing is changed.
+/// bytes sends in a transmission. `n_ir` is 0 for a full soft buffer, or N_IR. Returns 0, or a `Refusal`'s
+/// number with nothing changed.
 #[unsafe(no_mangle)]
 pub extern "C" fn gomzelat_select(
     alloc: Global,

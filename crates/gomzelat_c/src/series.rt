@@ -19,8 +19,8 @@ pub struct Series {
     pub sends: Sends,
 }
 
-/// Returns the transmissions of a payload of `bytes` bytes, or what is refused of them. The caller's are read
-/// here alone, each once, so that what is used is what was tested.
+/// Returns the transmissions of a payload of `bytes` bytes, or the refusal. The caller's transmissions are
+/// read only here, each once, so that the values used are those tested.
 pub fn series_of(
     bytes: usize,
     transmissions: &[Transmission],

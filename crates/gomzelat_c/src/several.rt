@@ -20,7 +20,7 @@ use rate_match::{Coded, Sends, fits_buffer};
 use segmentation::plans::Plan;
 use std::alloc::Global;
 
-/// Tests whether the soft buffer fits a plan, and so many bytes have room.
+/// Tests whether the soft buffer fits a plan, and `bytes` bytes fit in the room.
 fn fits(plan: &Plan, n_ir: u32, bytes: usize, room: usize) -> Result<(), Refusal>
     requires plan { plan.now ≡ plan_of plan.now.bytes }
     ensures refused { result_err result ≡ first_failed (output_tests plan.now.bytes n_ir bytes room) }
@@ -32,7 +32,7 @@ fn fits(plan: &Plan, n_ir: u32, bytes: usize, room: usize) -> Result<(), Refusal
 }
 
 /// Returns the transmissions of a payload of `bytes` bytes, whose codewords are to be written to a buffer of
-/// `room` bytes; or what is refused.
+/// `room` bytes, or the refusal.
 fn accepted(
     bytes: usize,
     transmissions: &[Transmission],
@@ -54,7 +54,7 @@ fn accepted(
     Ok(series.sends)
 }
 
-/// Returns the codewords as bytes, the highest bit first, one after the other.
+/// Returns the codewords as bytes, most significant bit first, one after the other.
 fn packed_codewords(alloc: Global, payload: &[u8], sends: &Sends) -> Result<List<u8>, NoMemory>
     requires some { 1 ≤ length payload.now }
     requires few { length payload.now ≤ 18722 }
@@ -96,7 +96,7 @@ fn write_codewords(
 
 /// Writes the codewords of one to eight transmissions of a payload of 1 to 18,722 bytes to the beginning of
 /// `out`, one after the other, each as `gomzelat_codeword` writes it; the payload is coded once. `n_ir` is 0
-/// for a full soft buffer, or N_IR. Answers 0, or a `Refusal`'s number, and then nothing is changed.
+/// for a full soft buffer, or N_IR. Returns 0, or a `Refusal`'s number with nothing changed.
 #[unsafe(no_mangle)]
 pub extern "C" fn gomzelat_codewords(
     alloc: Global,

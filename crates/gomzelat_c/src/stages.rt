@@ -21,7 +21,7 @@ use segmentation::{cut, fill, plan, size};
 use std::alloc::Global;
 use turbo_encode::encode;
 
-/// Returns the plan of a payload of `bytes` bytes, which has a block `r`; or what is refused.
+/// Returns the plan of a payload of `bytes` bytes, which has a block `r`, or the refusal.
 fn planned(bytes: usize, r: usize) -> Result<Plan, Refusal>
     ensures refused { result_err result ≡ first_failed (length_test bytes ∷ block_test bytes r ∷ []) }
     ensures plan { IfOk result (λ plan. plan ≡ plan_of bytes) }
@@ -35,7 +35,7 @@ fn planned(bytes: usize, r: usize) -> Result<Plan, Refusal>
     Ok(plan)
 }
 
-/// Tests whether so many values have room.
+/// Tests whether `values` values fit in the room.
 pub fn has_room(values: usize, room: usize) -> Result<(), Refusal>
     ensures refused { result_err result ≡ first_failed (test (nat_le values room) ShortOutput ∷ []) }
     ensures room { OnOk result (values ≤ room) }
@@ -58,8 +58,8 @@ fn write_block(alloc: Global, payload: &[u8], r: usize, out: &mut [u8]) -> Resul
     Ok(())
 }
 
-/// Writes to the beginning of `out` the K bits of code block `r` of a payload of 1 to 18,722 bytes, each
-/// 0 or 1, fillers 0. Answers 0, or a `Refusal`'s number, and then nothing is changed.
+/// Writes to the beginning of `out` the K bits of code block `r` of a payload of 1 to 18,722 bytes, each 0 or
+/// 1, fillers 0. Returns 0, or a `Refusal`'s number with nothing changed.
 #[unsafe(no_mangle)]
 pub extern "C" fn gomzelat_code_block(
     alloc: Global,
@@ -108,9 +108,8 @@ fn write_streams(alloc: Global, payload: &[u8], r: usize, out: &mut [u8]) -> Res
     Ok(())
 }
 
-/// Writes to the beginning of `out` the coded streams d0, d1 and d2 of code block `r`, one after the
-/// other, each of K + 4 cells: 0, 1, or 2 at a NULL. Answers 0, or a `Refusal`'s number, and then nothing
-/// is changed.
+/// Writes to the beginning of `out` the coded streams d0, d1 and d2 of code block `r`, one after the other,
+/// each of K + 4 cells: 0, 1, or 2 at a NULL. Returns 0, or a `Refusal`'s number with nothing changed.
 #[unsafe(no_mangle)]
 pub extern "C" fn gomzelat_streams(alloc: Global, payload: &[u8], r: usize, out: &mut [u8]) -> u32
     ensures answer { IsTold result (first_failed (stage_tests (length payload.now) r
@@ -135,9 +134,9 @@ fn write_spots(alloc: Global, bytes: usize, r: usize, out: &mut [u32]) -> Result
     Ok(())
 }
 
-/// Writes to the beginning of `out`, for each of the K_w places of the circular buffer of code block `r` of
-/// a payload of `bytes` bytes, which bit of the coded streams is there: 65,536 times its stream and its
-/// index; or 2^32 - 1 at a NULL. Answers 0, or a `Refusal`'s number, and then nothing is changed.
+/// Writes to the beginning of `out`, for each of the K_w places of the circular buffer of code block `r` of a
+/// payload of `bytes` bytes, which bit of the coded streams is there: 65,536 times its stream and its index;
+/// or 2^32 - 1 at a NULL. Returns 0, or a `Refusal`'s number with nothing changed.
 #[unsafe(no_mangle)]
 pub extern "C" fn gomzelat_spots(alloc: Global, bytes: usize, r: usize, out: &mut [u32]) -> u32
     ensures answer { IsTold result (first_failed (stage_tests bytes r

@@ -16,8 +16,8 @@ use segmentation::{fill, size};
 use soft_buffers::cell_count;
 use std::alloc::Global;
 
-/// The outcome of a code block: whether its check holds, 1 or 0, and the iterations of its last decoding.
-/// Of a caller's value, any number but 0 says that the block passed.
+/// The outcome of a code block: whether its check holds, 1 or 0, and the iterations of its last decoding. In
+/// a caller's value, any non-zero number means that the block passed.
 #[repr(C)]
 #[derive(Clone, Copy, Debug)]
 pub struct CodeBlock {
@@ -25,7 +25,7 @@ pub struct CodeBlock {
     pub iterations: usize,
 }
 
-/// How much a caller keeps of a transport block: its soft cells, its code blocks, and their bits.
+/// The sizes of a transport block's state: the numbers of its soft cells, its code blocks, and their bits.
 #[repr(C)]
 #[derive(Clone, Copy, Debug)]
 pub struct Sizes {
@@ -45,8 +45,8 @@ pub fn bit_count(plan: &Plan) -> usize
     count
 }
 
-/// Writes to `sizes` how much is kept of a payload of `bytes` bytes. Answers 0, or 2 where there are no bytes
-/// or more than 18,722, and then nothing is changed.
+/// Writes the sizes of the state of a payload of `bytes` bytes to `sizes`. Returns 0, or 2 with nothing
+/// changed if there are no bytes or more than 18,722.
 #[unsafe(no_mangle)]
 pub extern "C" fn gomzelat_sizes(bytes: usize, sizes: &mut Sizes) -> u32
     ensures answer { result ≡ told (first_failed (length_test bytes ∷ [])) }
@@ -66,14 +66,14 @@ pub extern "C" fn gomzelat_sizes(bytes: usize, sizes: &mut Sizes) -> u32
     }
 }
 
-/// Returns the bit that a byte tells: any but 0 is a bit 1.
+/// Returns the bit of a byte: any non-zero byte is a bit 1.
 fn bit(byte: u8) -> Bit
     ensures { result ≡ bit_of byte }
 {
     if byte == 0 { Bit::Zero } else { Bit::One }
 }
 
-/// Returns the bits that bytes tell.
+/// Returns the bit of each byte.
 pub fn bits_of(alloc: Global, bytes: &[u8]) -> Result<List<Bit>, NoMemory>
     ensures { IfOk result (λ bits. bits ≡ map bit_of bytes.now) }
 {
@@ -84,7 +84,7 @@ pub fn bits_of(alloc: Global, bytes: &[u8]) -> Result<List<Bit>, NoMemory>
     Ok(List::from_vec(bits))
 }
 
-/// Returns the results that entries and bits tell.
+/// Returns the results given by entries and bits.
 pub fn kept(
     alloc: Global,
     plan: &Plan,

@@ -1,4 +1,4 @@
-//! A transmission as a caller tells it.
+//! A caller's transmission.
 ghost use Rattle.std.specs.Prelude.{◌≡◌, ◌≤◌, min, IfOk, length, flat_map};
 ghost use Rattle.std.specs.Result.{result_err};
 ghost use Rattle.rate_match.specs.Matching.{limit_of};
@@ -39,8 +39,8 @@ fn in_a_byte(n: u32) -> u8
 }
 
 impl Transmission {
-    /// Returns the transmission with a soft buffer, or what is refused of it. It is passed by value, since
-    /// what a caller's memory holds may change between two readings.
+    /// Returns the transmission with a soft buffer, or the refusal. It is passed by value, since what a
+    /// caller's memory holds may change between two readings.
     pub fn sending(self, buffer: Buffer) -> Result<Sending, Refusal>
         ensures refused { result_err result ≡ first_failed (transmission_tests self) }
         ensures sending { IfOk result (λ sending. sending ≡ transmission_of (limit_of buffer) self) }
@@ -54,7 +54,7 @@ impl Transmission {
     }
 }
 
-/// Returns one to eight transmissions with one soft buffer, or what is refused of them. Each is read once.
+/// Returns one to eight transmissions with one soft buffer, or the refusal. Each is read once.
 pub fn sends_of(transmissions: &[Transmission], buffer: Buffer) -> Result<Sends, Refusal>
     requires some { 1 ≤ length transmissions.now }
     requires few { length transmissions.now ≤ 8 }

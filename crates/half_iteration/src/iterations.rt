@@ -1,4 +1,4 @@
-//! Iterations until the check holds, whatever decodes the halves.
+//! Iterations until the check holds, for any decoder of half iterations.
 ghost use Rattle.std.specs.Prelude.{◌≡◌, ◌+◌, ◌-◌, ◌*◌, ◌≤◌, ℕ, IfOk, length};
 ghost use Rattle.lte_bits.specs.declared.block.SoftStreams.{SoftStreams};
 ghost use Rattle.model_receiver.specs.HalfIteration.{Shape as Numbers, Before, after, opening};
@@ -9,7 +9,7 @@ use lte_bits::{Bit, Block, List, NoMemory};
 use std::alloc::Global;
 use window_decode::{CodeResult, Shape};
 
-/// A code block under decoding, half after half. Its cells and borders may be kept in any way.
+/// A decoder of a code block, half by half. Its cells and borders may be kept in any layout.
 pub trait HalfDecoder: Drop {
     ghost streams: { Self → SoftStreams };
 
@@ -30,7 +30,7 @@ pub trait HalfDecoder: Drop {
         ensures { bits.new ≡ decided_bits (shape self.now).f (before self.now).cells };
 }
 
-/// Does iteration `n`, from 1.
+/// Runs iteration `n`, counted from 1.
 fn iteration<H: HalfDecoder>(decoder: H, n: usize) -> H
     requires first { 1 ≤ n }
     requires last { n ≤ 16 }
@@ -60,7 +60,7 @@ pub fn result_in(fill: usize, bits: Vec<Bit>, iterations: usize, passed: bool) -
     }
 }
 
-/// Decodes iterations until the check holds, or up to the limit.
+/// Iterates until the check holds, or up to the limit.
 pub fn decode_halves<H: HalfDecoder>(
     alloc: Global,
     decoder: H,

@@ -5,7 +5,7 @@ ghost use Rattle.model_receiver.specs.HalfIteration.{none_left, end_by};
 use std::marker::Model;
 use window_decode::Border;
 
-/// The borders that a window left: the forward one to the next window, the backward one to the window
+/// The borders that a window hands on: the forward one to the next window, the backward one to the window
 /// before.
 #[derive(Clone, Copy)]
 pub struct BordersLeft {
@@ -24,7 +24,7 @@ impl Model for BordersLeft {
 }
 
 impl BordersLeft {
-    /// Returns the borders before the first half, of which nothing is known.
+    /// Returns the borders before the first half, at which the state is unknown.
     pub fn none() -> BordersLeft
         ensures { result ≡ none_left }
     {
@@ -35,8 +35,8 @@ impl BordersLeft {
     }
 }
 
-/// Returns the border with which window `t` of so many ends: that after the last position, or the one that
-/// the next window left.
+/// Returns the border at the end of window `t`: the next window's backward border, or for the last window
+/// that of the tail.
 pub fn end_of(windows: usize, left: &[BordersLeft], tail: Border, t: usize) -> Border
     requires window { t < windows }
     requires left { length left.now ≡ windows }

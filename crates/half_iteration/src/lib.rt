@@ -1,5 +1,5 @@
-//! Half iterations of a code block, whatever decodes their windows: what they read, the borders between windows, the
-//! iterations until the check holds.
+//! Half iterations of a code block, for any decoder of their windows: their inputs, the borders between
+//! windows, and the iterations until the check holds.
 #![tactic(auto)]
 
 mod bits;

@@ -1,4 +1,4 @@
-//! Lists that are made once for a code block, and their parts.
+//! Lists that are computed once for a code block, and their parts.
 ghost use Rattle.std.specs.Prelude.{◌≡◌, ◌+◌, ◌<◌, ◌≤◌, ℕ, Contains, IfOk, drop, length, map, slice_index, take};
 ghost use Rattle.std.specs.List.{range_with_len};
 ghost use Rattle.model_sender.specs.Interleaver.{sizes, place};
@@ -8,7 +8,7 @@ use lte_bits::{NoMemory, Soft};
 use qpp_table::addresses;
 use std::alloc::Global;
 
-/// Returns the places 0 to k - 1 in their own order.
+/// Returns the places 0 to k - 1 in natural order.
 pub fn own_order(alloc: Global, k: usize) -> Result<Vec<u16>, NoMemory>
     requires { k ≤ 6144 }
     ensures { IfOk result (λ places. places.items ≡ map (λ i. i) (range_with_len 0 k)) }

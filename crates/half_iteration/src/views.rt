@@ -1,4 +1,4 @@
-//! A code block as its half iterations read it.
+//! The inputs of a code block's half iterations.
 ghost use Rattle.std.specs.Prelude.{◌≡◌, ◌≤◌, ℕ};
 ghost use Rattle.model_sender.specs.Interleaver.{place};
 ghost use Rattle.model_receiver.specs.HalfIteration.{systematic_at};

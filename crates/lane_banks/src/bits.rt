@@ -1,4 +1,4 @@
-//! The decided bits of banks, which their sums have.
+//! The decided bits of banks, by the signs of their sums.
 ghost use Rattle.std.specs.Prelude.{◌≡◌, ℕ, ◌+◌, ◌*◌, ◌<◌, ◌≤◌, length};
 ghost use Rattle.std.specs.Prelude.{nat_lt, slice_index_or, if◌then◌else◌};
 ghost use Rattle.lte_bits.specs.declared.bit.Bit.TheVariants.{Zero};

@@ -1,4 +1,4 @@
-//! Rows brought from the order of the banks into that of the windows, and back.
+//! Permutation of rows from the order of the banks to that of the windows, and back.
 ghost use Rattle.std.specs.Prelude.{◌≡◌, ℕ, ◌<◌, ◌≤◌, IfOk, length, slice_index, slice_set};
 ghost use Rattle.lte_bits.specs.Softs.{IsWithin};
 ghost use Rattle.model_receiver.specs.Borders.{at};
@@ -20,7 +20,7 @@ pub struct LanePermutations<const N: usize> {
     ghost inverses: { AreInverse N banks.items windows.items },
 }
 
-/// Notes window `t` at its bank, if that is one of N.
+/// Records window `t` at its bank, if the bank is below N.
 fn put_window<const N: usize>(windows: &mut [u8; N], bank: u8, t: u8)
     requires { t < N }
     ensures long { length windows.new ≡ length windows.old }
@@ -34,7 +34,7 @@ fn put_window<const N: usize>(windows: &mut [u8; N], bank: u8, t: u8)
     }
 }
 
-/// Writes the window of each bank, where they stay: read back whole from a local, they would stall in
+/// Writes the window of each bank in place: if the list were local and read back whole, it would stall in
 /// store-to-load forwarding.
 fn invert<const N: usize>(banks: &[u8; N], windows: &mut [u8; N])
     requires { IsLaneCount N }
@@ -77,7 +77,7 @@ impl<const N: usize> LanePermutations<N> {
         self.banks[j] = banks;
     }
 
-    /// Brings rows of banks into the order of windows.
+    /// Permutes rows from the order of banks to that of windows.
     pub fn bring(&self, from: &[[i16; N]], to: &mut [[i16; N]])
         requires lanes { IsLaneCount N }
         requires rows { length to.old ≤ length self.now.rows.items }
@@ -96,7 +96,7 @@ impl<const N: usize> LanePermutations<N> {
         }
     }
 
-    /// Puts rows in the order of windows back into banks.
+    /// Permutes rows from the order of windows back to that of banks.
     pub fn put_back(&self, from: &[[i16; N]], to: &mut [[i16; N]])
         requires lanes { IsLaneCount N }
         requires rows { length from.now ≤ length self.now.rows.items }

@@ -55,7 +55,7 @@ fn bank_at(places: &[u16], banks: &[u8], width: usize, i: usize) -> u8
     banks[usize::from(places[i])]
 }
 
-/// Returns the row of the place of position `i`: what its bank leaves.
+/// Returns the row of the place of position `i`: the offset of the place in its bank.
 fn row_at(places: &[u16], banks: &[u8], width: usize, i: usize) -> u16
     requires position { i < length places.now }
     requires place { slice_index places.now i < length banks.now }
@@ -82,8 +82,8 @@ fn banks_at<const N: usize>(places: &[u16], banks: &[u8], width: usize, j: usize
     permutation
 }
 
-/// Returns the permutations of N windows of `width` positions at these places. It needs no division: a list has
-/// the bank of each place, and its row is what its bank leaves.
+/// Returns the permutations of N windows of `width` positions at these places. It needs no division: the bank
+/// of each place is tabulated, and its row is the offset in the bank.
 pub fn permutations_of<const N: usize>(
     alloc: Global,
     places: &[u16],

@@ -1,4 +1,4 @@
-//! The numbers of a row put into another order, eight at once.
+//! Permutations of a row's numbers, eight at a time.
 ghost use Rattle.std.specs.Prelude.{◌≡◌, ◌+◌, ◌*◌, ◌%◌, ◌≤◌, ◌<◌, ℕ, nat_lt, length, slice_index};
 ghost use Rattle.std.specs.Prelude.{if◌then◌else◌};
 ghost use Rattle.std.specs.Int.{w16, cast_unsigned, cast_signed};

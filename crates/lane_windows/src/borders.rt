@@ -10,7 +10,7 @@ use lte_bits::NoMemory;
 use std::alloc::Global;
 use window_decode::Border;
 
-/// The borders between which each window runs, and those that it leaves.
+/// The borders between which each window runs, and its new borders.
 #[derive(Drop)]
 pub struct Borders {
     pub alpha_in: Vec<Border>,
@@ -37,9 +37,8 @@ impl Borders {
     }
 }
 
-/// Takes the borders that so many windows left: each window starts with the forward one of the window before,
-/// the first with the known border; it ends with the backward one of the next window, the last with the
-/// tail's.
+/// Reads the borders that the windows left: each window starts at the forward one of the window before, the
+/// first at the known border; it ends at the backward one of the next window, the last at the tail's.
 pub fn take_left(
     windows: usize,
     left: &[BordersLeft],

@@ -1,4 +1,4 @@
-//! Windows in lock step over banks of cells: straight, or crossed by a table.
+//! Windows in lock step over banks of cells, in natural order or permuted by a table.
 ghost use Rattle.std.specs.Prelude.{◌≡◌, ℕ, ◌/◌, ◌≤◌, length};
 ghost use Rattle.lock_step.specs.Lanes.{AreBordersOf, AreSoftRows};
 ghost use Rattle.lane_windows.specs.Lanes.{HaveRun, LeadApart};
@@ -9,8 +9,7 @@ use lane_banks::{Banks, LanePermutations};
 use lock_step::{BordersIn, KernelScratch, SoftRows, run_rows};
 use window_decode::Border;
 
-/// Decodes N windows whose positions are at the places of the same number: the cells of step j are in row j,
-/// that of window t in bank t.
+/// Decodes N windows in natural order: the cell of window t at step j is in row j of bank t.
 pub fn run_straight<const N: usize>(
     kernel: &mut KernelScratch<N>,
     borders: BordersIn<'_>,
@@ -33,8 +32,8 @@ pub fn run_straight<const N: usize>(
     run_rows(kernel, borders, soft, values, sums, alpha_out, beta_out);
 }
 
-/// Decodes N windows whose positions are at the places of a table of permutations, with room for their cells in
-/// the order of the windows.
+/// Decodes N windows in the order of a table of permutations, with room for their cells in the order of the
+/// windows.
 fn run_in_room<const N: usize>(
     kernel: &mut KernelScratch<N>,
     values: &mut [[i16; N]],
@@ -69,7 +68,7 @@ fn run_in_room<const N: usize>(
     permutations.put_back(sums, banks.sums.as_mut_slice());
 }
 
-/// Decodes N windows whose positions are at the places of a table of permutations.
+/// Decodes N windows in the order of a table of permutations.
 pub fn run_crossed<const N: usize>(
     scratch: &mut LaneScratch<N>,
     permutations: &LanePermutations<N>,

@@ -13,8 +13,8 @@ use lte_bits::{Bit, NoMemory, SoftStreams};
 use std::alloc::Global;
 use window_decode::Shape;
 
-/// A code block under decoding: the cells of all places in banks, and the borders that each window left in
-/// the half before and in the one before that.
+/// The state of a code block's decoding: the cells of all places in banks, and the borders that each window
+/// left in the last two halves.
 #[derive(Drop)]
 pub struct LaneDecoder<'a, const N: usize> {
     views: LaneViews<'a, N>,

@@ -19,7 +19,7 @@ pub struct HalfRows<const N: usize> {
 }
 
 impl<const N: usize> HalfRows<N> {
-    /// Allocates the rows of half `h`, whose windows are N.
+    /// Allocates the rows of half `h`, which has N windows.
     pub fn new(alloc: Global, views: &Views<'_>, h: usize) -> Result<HalfRows<N>, NoMemory>
         requires lanes { IsLaneCount N }
         requires windows { views.now.shape.windows ≡ N }

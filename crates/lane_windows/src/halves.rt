@@ -11,9 +11,8 @@ use lane_banks::Banks;
 use lock_step::BordersIn;
 use window_decode::Border;
 
-/// Decodes half `h` of a code block, and writes the new cells. `left` has the borders that each window left
-/// two halves ago, and is given those that they leave now; the other lists of borders are room for those of
-/// the half.
+/// Decodes half `h` of a code block, and writes the new cells. `left` has each window's borders from two
+/// halves ago, and receives the new ones; the other lists of borders are scratch space.
 pub fn decode_half<const N: usize>(
     views: &LaneViews<'_, N>,
     h: usize,

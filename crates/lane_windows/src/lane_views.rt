@@ -1,4 +1,4 @@
-//! A code block as its half iterations in lock step read it.
+//! The inputs of a code block's half iterations in lock step.
 ghost use Rattle.std.specs.Prelude.{◌≡◌, ◌≤◌, length};
 ghost use Rattle.model_sender.specs.Interleaver.{place};
 ghost use Rattle.model_receiver.specs.HalfIteration.{window_width};

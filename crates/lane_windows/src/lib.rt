@@ -23,9 +23,9 @@ pub use reference::{LaneWork, run_lock_step};
 use std::alloc::Global;
 use window_decode::{CodeResult, Shape};
 
-/// Decodes a code block in N windows at once: the result of the first iteration whose check holds, or else of
-/// the last that the shape allows. N is 8, 16 or 32, and the windows of the shape. The streams have length
-/// K + 4, and as many fillers as the shape.
+/// Decodes a code block in N windows at once: returns the result of the first iteration whose check holds, or
+/// else of the last that the shape allows. N is 8, 16 or 32, and the shape's number of windows. The streams
+/// have length K + 4, and as many fillers as the shape.
 pub fn decode_block_lanes<const N: usize>(
     alloc: Global,
     streams: &SoftStreams,

@@ -1,4 +1,4 @@
-//! The chain called from a crate of one's own: a text is sent twice over noise, and received.
+//! The chain called from another crate: a text is sent twice over noise, and received.
 #![tactic(auto)]
 
 mod fault;

@@ -1,4 +1,4 @@
-//! A transport block from its payload to what is received of it.
+//! A transport block from its payload to the outcome of its reception.
 ghost use Rattle.std.specs.Prelude.{◌≡◌, ◌≤◌, IfOk, length};
 ghost use Rattle.model_sender.specs.Segmentation.{plan_of};
 ghost use Rattle.model_sender.specs.CircularBuffer.{Fits};
@@ -10,14 +10,14 @@ use segmentation::plan;
 use soft_channel::noisy;
 use std::alloc::Global;
 
-/// How a bit is received: 40 for a 0 and -40 for a 1, with noise of deviation 20, drawn from a seed.
+/// The channel: 40 for a 0 and -40 for a 1, with noise of standard deviation 20, drawn from a seed.
 const AMP: u8 = 40;
 
 const NOISE: u8 = 20;
 
 const SEED: u64 = 1;
 
-/// Returns the soft values that come of transmission `number`, which sends redundancy version `rv`.
+/// Returns the received soft values of transmission `number`, which sends redundancy version `rv`.
 #[tactic(auto, using(soft_channel::proofs::Lengths::length_noisy))]
 fn received(
     alloc: Global,

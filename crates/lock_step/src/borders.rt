@@ -7,7 +7,7 @@ ghost use Rattle.lock_step.specs.Vectors.{AreMetrics, AreBorders};
 
 use window_decode::Border;
 
-/// Puts each border's number of state `s` into its lane.
+/// Writes each border's metric of state `s` to its lane.
 fn put_numbers<const N: usize>(borders: &[Border], s: usize, row: &mut [i16; N])
     requires lanes { length borders.now ≡ N }
     requires state { s < 8 }
@@ -20,7 +20,7 @@ fn put_numbers<const N: usize>(borders: &[Border], s: usize, row: &mut [i16; N])
     }
 }
 
-/// Puts the numbers of borders into the lanes.
+/// Writes the metrics of borders to the lanes.
 pub fn put_borders<const N: usize>(borders: &[Border], m: &mut [[i16; N]; 8])
     requires { length borders.now ≡ N }
     ensures shape { AreMetrics N m.new }

@@ -1,4 +1,4 @@
-//! How the metrics before and after a position join: the extrinsic values, and the new cells by them.
+//! Extrinsic values and new cells, from the metrics before and after a position.
 ghost use Rattle.std.specs.Prelude.{◌≡◌, ◌+ℤ◌};
 ghost use Rattle.model_receiver.specs.Borders.{at};
 ghost use Rattle.model_receiver.specs.Windows.{scaled};
@@ -11,7 +11,7 @@ use crate::lanes::{self, better, difference, larger, loaded, scaled, store};
 use lte_bits::Bit;
 use std::simd::prelude::*;
 
-/// Returns the branches by an input bit that have a parity bit: the states before and after each.
+/// Returns the branches with an input bit and a parity bit: the states before and after each.
 #[inline]
 fn branches(input: Bit, parity: Bit) -> [(usize, usize); 4]
     ensures { result ≡ branches input parity }
@@ -24,7 +24,7 @@ fn branches(input: Bit, parity: Bit) -> [(usize, usize); 4]
     }
 }
 
-/// Returns the greatest number of a path along these branches, without what their bits earn.
+/// Returns the best path metric over these branches, without their branch metrics.
 #[inline]
 fn best_along<const N: usize>(
     input: Bit,
@@ -44,7 +44,7 @@ fn best_along<const N: usize>(
     )
 }
 
-/// Returns the greatest number of a path by an input bit, without what the bit itself earns.
+/// Returns the best path metric with an input bit, without the metric of that bit.
 #[inline]
 fn best_with<const N: usize>(
     input: Bit,
@@ -63,7 +63,8 @@ fn best_with<const N: usize>(
     larger(lanes::sum(zero, loaded(p)), one)
 }
 
-/// Returns how much better 0 is than 1 at a position, by all but what the bit itself earns.
+/// Returns the extrinsic value of a position: the best path metric with a 0 less that with a 1, both without
+/// the metric of the input bit.
 #[inline]
 pub fn extrinsic<const N: usize>(
     alpha: &[[i16; N]; 8],
@@ -80,8 +81,8 @@ pub fn extrinsic<const N: usize>(
     difference(zero, one)
 }
 
-/// Writes the new cell of a position, and the extrinsic value with what an input bit 0 earns, which is
-/// negative exactly where the decided bit is 1.
+/// Writes the new cell of a position, and the sum of its extrinsic value and the metric of an input bit 0,
+/// which is negative exactly if the decided bit is 1.
 #[inline]
 pub fn write_extrinsic<const N: usize>(
     alpha: &[[i16; N]; 8],

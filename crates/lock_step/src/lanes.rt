@@ -8,7 +8,7 @@ ghost use Rattle.lock_step.specs.Vectors.{IsSmall, IsVector, AreLanes};
 
 use std::simd::prelude::*;
 
-/// Returns the numbers of a row.
+/// Loads the numbers of a row.
 #[inline]
 pub fn loaded<const N: usize>(row: &[i16; N]) -> Simd<i16, N>
     requires { IsVector N 32767 row.now }
@@ -17,7 +17,7 @@ pub fn loaded<const N: usize>(row: &[i16; N]) -> Simd<i16, N>
     Simd::from_slice(row)
 }
 
-/// Puts the numbers into a row.
+/// Stores the numbers in a row.
 #[inline]
 pub fn store<const N: usize>(lanes: Simd<i16, N>, row: &mut [i16; N])
     requires { IsVector N 32767 lanes }
@@ -58,7 +58,7 @@ pub fn larger<const N: usize>(a: Simd<i16, N>, b: Simd<i16, N>) -> Simd<i16, N>
     a.simd_max(b)
 }
 
-/// Returns the nearest numbers from -682 to 682.
+/// Returns the numbers, clamped to -682..=682.
 #[inline]
 fn near<const N: usize>(a: Simd<i16, N>) -> Simd<i16, N>
     requires { IsVector N 32767 a }

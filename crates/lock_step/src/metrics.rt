@@ -8,7 +8,7 @@ ghost use Rattle.lock_step.specs.Vectors.{IsSmall, IsVector, AreMetrics, AreRela
 
 use crate::lanes::{add, better, difference, greater, loaded, store};
 
-/// Writes the greater of two sums, less the base.
+/// Writes max(a + x, b + y) - base in each lane.
 #[inline]
 fn next<const N: usize>(
     a: &[i16; N],
@@ -28,8 +28,8 @@ fn next<const N: usize>(
     store(difference(better(a, x, b, y), loaded(base)), out);
 }
 
-/// Writes the metrics after a step, relative to those of state 0, from those before it. An input bit 0 earns
-/// `x` and a parity bit 0 `p`.
+/// Writes the forward metrics after a step, relative to those of state 0, from those before it. The branch
+/// metrics are `x` for an input bit 0 and `p` for a parity bit 0.
 #[inline]
 pub fn forward<const N: usize>(
     m: &[[i16; N]; 8],
@@ -59,7 +59,7 @@ pub fn forward<const N: usize>(
     next(&m[6], &both, &m[7], &none, &base, &mut after[7]);
 }
 
-/// Writes the metrics before a step, relative to those of state 0, from those after it.
+/// Writes the backward metrics before a step, relative to those of state 0, from those after it.
 #[inline]
 pub fn backward<const N: usize>(
     m: &[[i16; N]; 8],

@@ -1,5 +1,5 @@
-//! N windows by rows. That their metrics fit 16 bits is a law of window_decode, which is called where it is
-//! used: the call does nothing.
+//! N windows by rows. That their metrics fit in 16 bits is a law of window_decode, called where it is needed;
+//! the call does nothing.
 ghost use Rattle.std.specs.Prelude.{◌≡◌, ◌<◌, ◌≤◌, ℕ, ℤ, List, pos, ◌+ℤ◌, int_lt, length};
 ghost use Rattle.model_receiver.specs.Borders.{at, number_for, relative};
 ghost use Rattle.model_receiver.specs.Windows.{new_cells, forward_left, backward_left};

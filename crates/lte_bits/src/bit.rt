@@ -9,7 +9,7 @@ pub enum Bit {
     One,
 }
 
-/// A cell of a coded stream: a bit, or `Null` where a filler stood (36.212 5.1.3.2.1).
+/// A cell of a coded stream: a bit, or `Null` at a filler bit (36.212 5.1.3.2.1).
 #[derive(Clone, Copy, Debug, PartialEq, Eq, Hash)]
 pub enum Cell {
     Zero,

@@ -3,8 +3,8 @@ use crate::bit::{Bit, Cell};
 use crate::list::List;
 use crate::soft::Soft;
 
-/// A code block of K bits (36.212 5.1.2). The first `fill` of them are `Zero` and stand for
-/// fillers; `fill` is below K.
+/// A code block of K bits (36.212 5.1.2). The first `fill` of them are filler bits, with the value `Zero`;
+/// `fill` is below K.
 #[derive(Clone, Debug, Drop, PartialEq, Eq, Hash)]
 pub struct Block {
     pub fill: usize,

@@ -37,7 +37,7 @@ impl<T: Drop> From<AllocFailed<T>> for NoMemory {
     }
 }
 
-/// A list of values, thin over a `Vec`.
+/// A list of values: a thin wrapper around `Vec`.
 #[derive(Debug, Drop)]
 pub struct List<T> {
     values: Vec<T>,
@@ -57,14 +57,14 @@ impl<T> Model for List<T> {
 impl<T> List<T> {
     ghost use Rattle.lte_bits.specs.Lists.{LendsElements};
 
-    /// Returns the values of a vector.
+    /// Converts a vector into a list.
     pub fn from_vec(items: Vec<T>) -> List<T>
         ensures { result ≡ items.items }
     {
         List { values: items }
     }
 
-    /// Returns the values as a vector.
+    /// Converts the list into a vector.
     pub fn into_vec(self) -> Vec<T>
         ensures { result.items ≡ self }
     {
@@ -72,14 +72,14 @@ impl<T> List<T> {
         values
     }
 
-    /// Returns the values.
+    /// Returns the values as a slice.
     pub fn as_slice(&self) -> &[T]
         ensures { result.now ≡ self.now }
     {
         self.values.as_slice()
     }
 
-    /// Returns the values, for writing.
+    /// Returns the values as a mutable slice.
     pub fn as_mut_slice(&mut self) -> &mut [T]
         ensures* writes_back { sem 𝓛 (LendsElements T.row self.entry result) }
         ensures value { result.now ≡ self.old }
@@ -91,8 +91,8 @@ impl<T> List<T> {
 impl<T: Copy> List<T> {
     ghost use Rattle.lte_bits.specs.Lists.{resized};
 
-    /// Keeps the first `n` values, followed by as many `v` as are missing to `n`. Where memory runs out the list
-    /// stays as it was.
+    /// Resizes the list to `n` values: truncates it, or appends copies of `v`. If memory runs out, the list
+    /// is unchanged.
     pub fn resize(&mut self, n: usize, v: T) -> Result<(), NoMemory>
         ensures ok { OnOk result (self.new ≡ resized self.old n v) }
         ensures err { OnErr result (self.new ≡ self.old) }

@@ -1,4 +1,4 @@
-//! Bits out of bytes, and bytes out of bits.
+//! Unpacking of bytes into bits, and packing of bits into bytes.
 ghost use Rattle.std.specs.Prelude.{◌+◌, ◌*◌, ◌/◌, ◌≡◌, ◌≤◌, ◌<◌, IfOk, length};
 ghost use Rattle.lte_bits.specs.Bits.{number};
 ghost use Rattle.lte_bits.specs.Lists.{resized};
@@ -8,7 +8,7 @@ use crate::bit::Bit;
 use crate::list::{List, NoMemory};
 use std::alloc::Global;
 
-/// The bits of four, in the order of their number.
+/// The four bits of each number 0 to 15, most significant first.
 static ROWS: [[Bit; 4]; 16] = [
     [Bit::Zero, Bit::Zero, Bit::Zero, Bit::Zero],
     [Bit::Zero, Bit::Zero, Bit::Zero, Bit::One],
@@ -28,7 +28,7 @@ static ROWS: [[Bit; 4]; 16] = [
     [Bit::One, Bit::One, Bit::One, Bit::One],
 ];
 
-/// Returns the four bits of a number, the highest first.
+/// Returns the four bits of a number, most significant first.
 fn row(n: usize) -> [Bit; 4]
     requires { n < 16 }
     ensures { result ≡ four_bits n }
@@ -36,7 +36,7 @@ fn row(n: usize) -> [Bit; 4]
     ROWS[n]
 }
 
-/// Writes the bits of each byte, the highest first.
+/// Writes the bits of each byte, most significant first.
 fn write_unpacked(bits: &mut [Bit], bytes: &[u8])
     requires { length bits.old ≡ 8 * length bytes.now }
     ensures { bits.new ≡ unpacked bytes.now }
@@ -49,7 +49,7 @@ fn write_unpacked(bits: &mut [Bit], bytes: &[u8])
     }
 }
 
-/// Returns the bits of each byte, the highest first. Allocates eight for each.
+/// Returns the bits of each byte, most significant first. Allocates eight for each byte.
 pub fn unpack(alloc: Global, bytes: &[u8]) -> Result<List<Bit>, NoMemory>
     ensures { IfOk result (λ bits. bits ≡ unpacked bytes.now) }
 {
@@ -59,16 +59,16 @@ pub fn unpack(alloc: Global, bytes: &[u8]) -> Result<List<Bit>, NoMemory>
     Ok(List::from_vec(bits))
 }
 
-/// Returns the byte with eight digits, the highest first.
+/// Returns the byte of eight bits, most significant first.
 pub fn byte_of(digits: &[Bit; 8]) -> u8
     ensures { result ≡ number digits.now }
 {
-    // The highest byte of this product has each digit at its place.
+    // The highest byte of this product collects the digits, each at its weight.
     let digits = u64::from_le_bytes(digits.map(u8::from));
     (digits.wrapping_mul(0x8040_2010_0804_0201) >> 56) as u8
 }
 
-/// Returns at most eight bits, filled up with `Zero`.
+/// Returns at most eight bits, padded with `Zero`.
 fn filled_up(bits: &[Bit]) -> [Bit; 8]
     requires { length bits.now ≤ 8 }
     ensures { result ≡ resized bits.now 8 Bit.Zero }
@@ -78,7 +78,7 @@ fn filled_up(bits: &[Bit]) -> [Bit; 8]
     digits
 }
 
-/// Writes the bits as bytes, the highest first.
+/// Packs bits into bytes, most significant bit first.
 fn write_packed(bytes: &mut [u8], bits: &[Bit])
     requires { length bytes.old ≡ (length bits.now + 7) / 8 }
     ensures { bytes.new ≡ packed bits.now }
@@ -92,8 +92,8 @@ fn write_packed(bytes: &mut [u8], bits: &[Bit])
     }
 }
 
-/// Returns the bits as bytes, the highest first: ceil(n / 8) of them, which are allocated. The unused low
-/// bits of the last are 0.
+/// Packs n bits into ceil(n / 8) bytes, which are allocated, most significant bit first. The unused low bits
+/// of the last byte are 0.
 pub fn pack(alloc: Global, bits: &[Bit]) -> Result<List<u8>, NoMemory>
     ensures { IfOk result (λ bytes. bytes ≡ packed bits.now) }
 {

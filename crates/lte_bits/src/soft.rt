@@ -4,7 +4,7 @@ ghost use Rattle.lte_bits.specs.Softs.{clamped, IsWithin};
 
 use std::marker::Model;
 
-/// A soft value, a number from -127 to 127: positive where 0 is likelier, negative where 1 is.
+/// A soft bit (LLR), -127 to 127: positive if 0 is likelier, negative if 1 is.
 #[derive(Clone, Copy, Debug, PartialEq, Eq, Hash)]
 pub struct Soft {
     value: i8,
@@ -27,7 +27,7 @@ impl Soft {
     /// An erasure (LLR 0).
     pub const ZERO: Soft = Soft { value: 0 };
 
-    /// Returns the number, and -127 for -128.
+    /// Returns the soft value of `v`, where -128 is taken as -127.
     pub fn from_i8(v: i8) -> Soft
         ensures { result ≡ clamped 127 v }
     {

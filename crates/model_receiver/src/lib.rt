@@ -1,5 +1,5 @@
-//! The receiver's rules, as definitions: soft cells, the decoding of a code block, and
-//! what several transmissions of a transport block come to.
+//! The receiver's rules, as definitions: soft cells, the decoding of a code block, and the outcome of several
+//! transmissions of a transport block.
 #![tactic(auto)]
 
 pub mod decoding;

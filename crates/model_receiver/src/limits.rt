@@ -1,8 +1,8 @@
-//! How far the decoding of a code block may go.
+//! Limits of the decoding of a code block.
 
 use std::marker::Model;
 
-/// The most windows of a code block, 1 to 64, and the most iterations, 1 to 16.
+/// The maximum numbers of windows of a code block, 1 to 64, and of iterations, 1 to 16.
 #[derive(Clone, Copy, Debug, PartialEq, Eq)]
 pub struct DecoderLimits {
     pub windows: usize,

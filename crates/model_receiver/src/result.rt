@@ -22,13 +22,13 @@ pub struct CodeResult {
 /// the iterations that each took when it was last decoded.
 #[derive(Debug, Drop)]
 pub enum TbOutcome {
-    /// All checks held after so many transmissions, and not before: the bytes of the payload.
+    /// All checks held after `transmissions` transmissions, and not before: the bytes of the payload.
     Delivered {
         bytes: List<u8>,
         transmissions: usize,
         iterations: usize,
     },
-    /// The checks held after none of so many transmissions.
+    /// The checks held after none of the `transmissions` transmissions.
     Failed {
         transmissions: usize,
         iterations: usize,

@@ -6,8 +6,8 @@ ghost use Rattle.model_receiver.specs.SoftCells.{Reception};
 ghost use Rattle.model_receiver.specs.Limits.{DecoderLimits};
 ghost use Rattle.model_receiver.specs.TransportBlocks.{delivering_try, outcome, outcome_in, window_count};
 
-/// The number of windows is the one that divides the block, leaves each window 8 positions, isn't above
-/// the limit, and that none such exceeds.
+/// The number of windows is the greatest up to the limit that divides the block into windows of at least 8
+/// positions.
 pub fn window_counts_are_the_greatest()
     ensures { (k m d : ℕ) → 1 ≤ d → d ∣ k → 8 * d ≤ k → d ≤ m →
         ((n : ℕ) → n ∣ k → 8 * n ≤ k → n ≤ m → n ≤ d) → window_count k m ≡ d }

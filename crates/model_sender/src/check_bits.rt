@@ -41,12 +41,12 @@ pub fn only_the_crc_makes_a_multiple()
     ensures b { (bits p : List Bit) → length p ≡ 24 → IsMultiple crc24b (bits ++ p) → p ≡ crc crc24b bits }
 {}
 
-/// The multiples are the lists that leave nothing.
+/// A list is a multiple of the generator exactly if its remainder is 0.
 pub fn multiples_leave_nothing()
     ensures { (g : ℕ) (bits : List Bit) → IsMonic g → IsMultiple g bits ↔ (remainder g 0 bits ≡ 0) }
 {}
 
-/// Zeros, and no bits, are a multiple of each generator.
+/// A list of zeros, also the empty one, is a multiple of each generator.
 pub fn zeros_are_a_multiple()
     ensures { (g n : ℕ) → IsMultiple g (replicate n Bit.Zero) }
 {}
@@ -57,7 +57,7 @@ pub fn crc_of_byte_01()
     ensures b { crc crc24b (unpacked (0x01 ∷ [])) ≡ unpacked (0x80 ∷ 0x00 ∷ 0x63 ∷ []) }
 {}
 
-/// The check bits of no bits are zeros.
+/// The check bits of the empty list are zeros.
 pub fn crc_of_no_bits()
     ensures { (g : ℕ) → crc g [] ≡ replicate 24 Bit.Zero }
 {}

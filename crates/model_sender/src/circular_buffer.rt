@@ -21,8 +21,8 @@ pub fn streams_have_nulls_at_fillers()
     ensures { (b : Block) → b.fill ≤ length b.bits → AreStreams (length b.bits) b.fill (streams b) }
 {}
 
-/// The buffer is v0, and then v1 and v2 by turns, each read by columns out of its stream after the
-/// NULLs that fill the rows; that of d2 one place further on.
+/// The buffer is v0, then v1 and v2 interlaced. Each stream, padded with NULLs in front, is read by columns;
+/// d2 one place further on.
 pub fn buffer_is_read_by_columns()
     ensures first { (k fill j : ℕ) (s : Streams) → AreStreams k fill s → j < 32 * rows_of k →
         w k fill s j ≡ slice_index_or (y k s.d0) (read_place (rows_of k) j) Cell.Null }

@@ -13,7 +13,7 @@ pub fn coder_is_the_one()
     ensures only { (c a z : List Bit) → IsCoder c a z → (a ≡ values c) × (z ≡ parities c) }
 {}
 
-/// Three inputs of the tail lead each state to zero, with the parities of the tail.
+/// From each state, the three input bits of the tail lead to state zero, with the parity bits of the tail.
 pub fn tail_ends_the_coder()
     ensures ends { (s : State) → reached s (tail_inputs s) ≡ zero_state }
     ensures values { (s : State) → values_from s (tail_inputs s) ≡ Zero ∷ Zero ∷ Zero ∷ [] }

@@ -23,19 +23,19 @@ pub fn values_differ()
         → pi k f1 f2 i ≡ pi k f1 f2 j → i ≡ j }
 {}
 
-/// Places that lie a divisor of the size apart have values with one remainder by it.
+/// Places that are a divisor w of the size apart have values that are congruent modulo w.
 pub fn remainders_are_kept()
     ensures { (k f1 f2 w i : ℕ) → Lawful k f1 f2 → w ∣ k
         → pi k f1 f2 (i + w) % w ≡ pi k f1 f2 i % w }
 {}
 
-/// The values of place j of all m windows have one row.
+/// The values of place j of all m windows are in the same row.
 pub fn windows_have_one_row()
     ensures { (k f1 f2 m j t u : ℕ) → Lawful k f1 f2 → m ∣ k → j < k / m → t < m → u < m
         → row (k / m) (pi k f1 f2 (j + t * (k / m))) ≡ row (k / m) (pi k f1 f2 (j + u * (k / m))) }
 {}
 
-/// The values of place j of m windows stand in m banks, and those of two windows in different ones.
+/// The values of place j of the m windows are in m different banks.
 pub fn windows_have_banks_of_their_own()
     ensures below { (k f1 f2 m j t : ℕ) → Lawful k f1 f2 → m ∣ k → j < k / m → t < m
         → bank (k / m) (pi k f1 f2 (j + t * (k / m))) < m }

@@ -41,7 +41,7 @@ pub fn blocks_are_filled()
         ≡ carried (bits_of bytes) + (plan_of bytes).f }
 {}
 
-/// The fillers stand in the first block, and leave some of it.
+/// The filler bits are in the first block, and are fewer than its bits.
 pub fn fillers_leave_some()
     ensures one { (bytes : ℕ) → 1 ≤ bytes → bytes ≤ 18722 →
         (plan_of bytes).c ≡ 1 → (plan_of bytes).f < (plan_of bytes).k_plus }
@@ -51,7 +51,7 @@ pub fn fillers_leave_some()
         (plan_of bytes).f < share (plan_of bytes) 0 }
 {}
 
-/// The shares of all blocks are all of S.
+/// The shares of all blocks together are S.
 pub fn shares_are_the_sequence()
     ensures { (payload : List ℕ) → 1 ≤ length payload → length payload ≤ 18722 →
         before (plan_of (length payload)) (plan_of (length payload)).c

@@ -16,9 +16,9 @@ pub(crate) type Words<P> = Table<
     Global,
 >;
 
-/// Pieces and their common value, which threads share. Word 0 is the claim word, the half times
-/// 256 and the number of its windows drawn, with bit 63 set once stopped. Word 1 is the mask of
-/// the windows done. `close` alone spends a board.
+/// Pieces and their common value, which threads share. Word 0 is the claim word, the half times 256 and the
+/// number of its windows drawn, with bit 63 set once stopped. Word 1 is the mask of the windows done. Only
+/// `close` consumes a board.
 pub struct Board<P: Piece> {
     pub(crate) table: Words<P>,
     pub(crate) count: usize,

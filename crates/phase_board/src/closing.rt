@@ -1,4 +1,4 @@
-//! A stopped board is taken apart.
+//! Closing of a stopped board.
 ghost use Rattle.std.specs.Prelude.{◌≡◌};
 ghost use Rattle.phase_board.specs.ClaimWord.{half_of, IsStopped};
 

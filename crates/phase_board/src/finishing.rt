@@ -12,7 +12,8 @@ impl<P: Piece> Board<P> {
     ghost use Rattle.phase_board.specs.Seats.{IsWorkingOf};
     ghost use Rattle.phase_board.specs.Finishes.{IsFinishOf, FinishIs};
 
-    /// Gives the piece back and marks its window. The seat that marks the last one has all pieces.
+    /// Returns the piece to the board and marks its window done. The seat that marks the last window gets all
+    /// pieces.
     pub fn finish(&self, seat: Working<P>) -> Finish<P>
         requires board { IsWorkingOf self.now seat }
         requires done { P.done (board_job P.job self.now) seat.half seat.window seat.piece }

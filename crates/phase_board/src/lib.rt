@@ -1,6 +1,6 @@
-//! A board of pieces, one for each window of a half, that the threads which share it draw, do and
-//! mark, each by one atomic step. The thread that marks the last one has all pieces, and either
-//! turns the board to the next half or stops it. No call waits.
+//! A board of pieces, one for each window of a half, which threads share: they draw, run and mark them done,
+//! each by one atomic step. The thread that marks the last one gets all pieces, and either turns the board to
+//! the next half or stops it. No call waits.
 #![tactic(auto)]
 
 mod board;

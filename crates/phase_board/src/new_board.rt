@@ -1,4 +1,4 @@
-//! A board is made.
+//! Creation of a board.
 ghost use Rattle.std.specs.Prelude.{◌≡◌, ◌+◌, ◌<◌, ◌≤◌, ◌∷◌, length, map, List};
 ghost use Rattle.std.specs.Prelude.{Some, Vec, IfOk, IfErr, IsSomeAnd};
 ghost use Rattle.std.specs.declared.alloc.Global.{Global};
@@ -15,13 +15,13 @@ use atomic_table::{Refused, Table};
 use std::alloc::Global;
 use std::snapshot::Snapshot;
 
-/// There was no memory. The pieces and the common value come back.
+/// The error of running out of memory, with the pieces and the common value.
 pub struct NewRefused<P: Piece> {
     pub pieces: Vec<P>,
     pub common: P::Common,
 }
 
-// The slots of a new board: the common value with the emptied vector, and then the pieces.
+// Returns the slots of a new board: the common value with the emptied vector, and then the pieces.
 fn lay<P: Piece>(
     alloc: Global,
     mut pieces: Vec<P>,
@@ -46,7 +46,7 @@ fn lay<P: Piece>(
     Ok(slots)
 }
 
-// The pieces and the common value out of the slots of a board that wasn't made.
+// Returns the pieces and the common value from the slots of a board that wasn't made.
 fn unlay<P: Piece>(mut slots: Vec<Slot<P, P::Common>>) -> NewRefused<P>
     requires { (x : P.Common) × (room : Vec P Global) × (ps : List P)
         × (slots.items ≡ Keeps x room ∷ map Holds ps) × HasRoom (length ps) room }

@@ -1,4 +1,4 @@
-//! The pieces go back into the slots that a turning seat has.
+//! Return of the pieces to the slots that a turning seat has.
 ghost use Rattle.std.specs.Prelude.{◌≡◌, ◌∷◌, ◌++◌, [], map, length, Vec};
 ghost use Rattle.atomic_table.specs.Table.{rest};
 ghost use Rattle.std.specs.declared.alloc.Global.{Global};
@@ -43,7 +43,7 @@ impl<P: Piece> Board<P> {
         }
     }
 
-    // Puts a piece into the empty slot that the seat has in front, which goes after the others.
+    // Puts a piece into the empty slot at the seat's front, and moves the slot to the back.
     fn put_front(&self, seat: &mut Place<P>, slot: usize, piece: P)
         requires board { seat.old.table_id ≡ board_id self.now }
         requires front { seat.old.me.1 ≡ (slot, Empty) ∷ rest seat.old.me.1 }

@@ -1,4 +1,4 @@
-//! Seats are split off and joined.
+//! Splitting and joining of seats.
 ghost use Rattle.std.specs.Prelude.{◌≡◌};
 
 use crate::board::Board;

@@ -23,13 +23,13 @@ pub struct Idle<P: Piece> {
     ghost shows: { found ≡ seat.me.0.found },
 }
 
-/// A seat that has the piece of one window. `finish` alone spends it.
+/// A seat that has the piece of one window. Only `finish` consumes it.
 pub struct Working<P: Piece> {
     pub(crate) seat: Place<P>,
     pub(crate) half: u32,
     pub(crate) window: u32,
     pub(crate) found: u64,
-    /// The piece, ready at first. `finish` wants it done.
+    /// The piece, ready at first. `finish` requires it done.
     pub piece: P,
     ghost works: { (seat.me.1 ≡ (window + 1, Empty) ∷ []) × (seat.me.0.activity ≡ AtWork window)
         × (window < 64) },
@@ -37,7 +37,7 @@ pub struct Working<P: Piece> {
         × (found ≡ seat.me.0.found) },
 }
 
-/// The seat that did the last window of a half. `turn` and `stop` alone spend it.
+/// The seat that did the last window of a half. Only `turn` and `stop` consume it.
 pub struct Turning<P: Piece> {
     pub(crate) seat: Place<P>,
     pub(crate) half: u32,
@@ -63,7 +63,7 @@ pub enum Claim<P: Piece> {
 
 /// The result of a finish.
 pub enum Finish<P: Piece> {
-    /// The mask lacked another window.
+    /// Another window wasn't in the mask yet.
     Given(Idle<P>),
     /// All windows of the half are done.
     Last(Turning<P>),
@@ -72,7 +72,7 @@ pub enum Finish<P: Piece> {
 impl<P: Piece> Idle<P> {
     ghost use Rattle.phase_board.specs.Seats.{idle_view};
 
-    /// Returns whether the word that the seat found says that the board is stopped.
+    /// Returns whether the board is stopped, by the word that the seat found.
     pub fn saw_over(&self) -> bool
         ensures { IsTrue result ↔ IsStopped (idle_view self.now).found }
     {

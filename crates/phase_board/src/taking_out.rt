@@ -51,7 +51,7 @@ impl<P: Piece> Board<P> {
         }
     }
 
-    // The value of the slot that the seat has in front, which is emptied and goes after the others.
+    // Takes the value out of the slot at the seat's front, and moves the emptied slot to the back.
     fn take_front(&self, seat: &mut Place<P>, slot: usize) -> Slot<P, P::Common>
         requires board { seat.old.table_id ≡ board_id self.now }
         requires front { (x : _) × (seat.old.me.1 ≡ (slot, x) ∷ rest seat.old.me.1) }

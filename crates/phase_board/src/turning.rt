@@ -13,7 +13,7 @@ impl<P: Piece> Board<P> {
     ghost use Rattle.phase_board.specs.Boards.{board_job};
     ghost use Rattle.phase_board.specs.Seats.{IsIdleOf, IsTurningOf, idle_view, settled_view};
 
-    /// Gives all pieces back, ready for the next half, which is at most 1,000,000.
+    /// Returns all pieces to the board, ready for the next half, which is at most 1,000,000.
     pub fn turn(&self, seat: Turning<P>) -> Idle<P>
         requires board { IsTurningOf self.now seat }
         requires pieces { let job = board_job P.job self.now in

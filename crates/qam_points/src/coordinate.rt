@@ -5,7 +5,7 @@ ghost use Rattle.std.specs.Prelude.{◌≡◌, ◌≤◌, ◌*◌, ◌-ℤ◌, p
 ghost use Rattle.lte_bits.specs.Softs.{IsWithin, clamped};
 ghost use Rattle.qam_points.specs.Coordinate.{coordinate_value};
 
-/// Returns the part of a coordinate that lies within a bound of 0.
+/// Returns the coordinate, clamped to -bound to bound.
 #[inline]
 fn within(bound: u16, t: i32) -> i32
     requires bound { bound ≤ 762 }

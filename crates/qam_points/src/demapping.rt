@@ -57,11 +57,10 @@ fn six_values(y: Point, amp: u8) -> [Soft; 6]
     ]
 }
 
-/// Returns the soft values of the `qm` bits, 2, 4 or 6, of each received point. The points were sent with
-/// an amplitude of 1 to 127, and the coordinates of what is received are from -4000 to 4000. A value is by
-/// how much the nearest point whose bit is 1 is further, by its squared distance, than the nearest whose
-/// bit is 0, divided by four times the amplitude, rounded toward zero, and clamped to -127 to 127: positive
-/// where 0 is likelier. Allocates a byte for each.
+/// Returns the max-log soft values of the `qm` bits, 2, 4 or 6, of each received point, sent with an
+/// amplitude of 1 to 127; coordinates are from -4000 to 4000. A value is the squared distance to the nearest
+/// point whose bit is 1, less that to the nearest whose bit is 0, divided by four times the amplitude,
+/// rounded toward zero, and clamped to -127 to 127: positive if 0 is likelier. Allocates a byte for each.
 pub fn demap(alloc: Global, points: &[Point], qm: u8, amp: u8) -> Result<List<Soft>, NoMemory>
     requires order { IsModulationOrder qm }
     requires amp { (1 ≤ amp) × (amp ≤ 127) }

@@ -24,8 +24,8 @@ pub fn two_bits_are_received_by_themselves()
         → received 2 amp terms bits ≡ map (value_at amp terms bits) (range_with_len 0 (length bits)) }
 {}
 
-/// Points that bits are sent as have coordinates from -7 to 7, and what is received of them with an amplitude
-/// of up to 127 and terms from -437 to 437 has coordinates from -4000 to 4000.
+/// The points of bits have coordinates from -7 to 7, and those received with an amplitude of up to 127 and
+/// terms from -437 to 437 have coordinates from -4000 to 4000.
 pub fn coordinates_are_bounded()
     ensures sent { (qm : ℕ) (bits : List Bit) → All IsSmall (mapped qm bits) }
     ensures received { (amp : ℕ) (terms : List ℤ) (points : List Point) → amp ≤ 127 → All (IsWithin 437) terms

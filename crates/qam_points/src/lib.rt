@@ -1,4 +1,4 @@
-//! Bits as points of 36.211, and soft values of received points.
+//! Modulation mapping of 36.211, and soft demapping of received points.
 #![tactic(auto)]
 
 mod coordinate;

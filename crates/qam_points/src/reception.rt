@@ -6,7 +6,7 @@ ghost use Rattle.qam_points.specs.Reception.{received_points, term_at};
 
 use crate::point::Point;
 
-/// Returns a coordinate sent with an amplitude, and a term on it.
+/// Returns a coordinate scaled by an amplitude, plus a noise term.
 #[inline]
 fn coordinate(amp: u8, level: i32, term: i16) -> i32
     requires amp { amp ≤ 127 }
@@ -17,7 +17,7 @@ fn coordinate(amp: u8, level: i32, term: i16) -> i32
     i32::from(amp) * level + i32::from(term)
 }
 
-/// Returns what is received of the point that is sent in symbol `s`.
+/// Returns the received point of symbol `s`.
 #[inline]
 fn received(sent: Point, amp: u8, terms: &[i16], s: usize) -> Point
     requires amp { amp ≤ 127 }
@@ -35,8 +35,8 @@ fn received(sent: Point, amp: u8, terms: &[i16], s: usize) -> Point
     }
 }
 
-/// Turns points that are sent into those that are received: with an amplitude, and a term on each
-/// coordinate, of which there are two for each point. Allocates nothing.
+/// Replaces sent points by received ones: scales each by an amplitude, and adds a noise term to each
+/// coordinate, two terms per point. Allocates nothing.
 pub fn receive(points: &mut [Point], amp: u8, terms: &[i16])
     requires amp { amp ≤ 127 }
     requires small { All IsSmall points.old }

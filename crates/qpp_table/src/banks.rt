@@ -1,4 +1,4 @@
-//! The banks and rows in which the places of windows stand.
+//! The banks and rows of the places of windows.
 ghost use Rattle.std.specs.Prelude.{◌≡◌, ◌≢◌, ℕ, ◌+◌, ◌*◌, ◌/◌, ◌<◌};
 ghost use Prim.Native.Nat.{◌∣◌};
 ghost use Rattle.model_sender.specs.Interleaver.{bank, row};
@@ -7,9 +7,9 @@ ghost use Rattle.qpp_table.specs.Qpp.{size_in, width, bank_at, row_at};
 use crate::interleaver::{Interleaver, Qpp};
 
 /// Returns the bank and the row of place `j` of window `t`, where `m` windows of one width W divide the size:
-/// the quotient and the remainder by W of the place from which it takes its value.
+/// the quotient and the remainder by W of its interleaver address.
 ///
-/// Place `j` has one row in all windows, and a bank of its own in each.
+/// Place `j` is in the same row in all windows, and in a different bank in each.
 pub fn bank_row(q: &Qpp, m: usize, t: usize, j: usize) -> (usize, usize)
     requires windows { m ∣ size_in q.now }
     requires window { t < m }
@@ -25,8 +25,8 @@ pub fn bank_row(q: &Qpp, m: usize, t: usize, j: usize) -> (usize, usize)
     (place / width, place % width)
 }
 
-/// Every interleaver keeps windows apart: place j has one row in all m windows, and a bank of its
-/// own in each.
+/// Every interleaver keeps windows apart: place j is in the same row in all m windows, and in a different
+/// bank in each.
 pub fn windows_stay_apart<I: Interleaver>()
     ensures one_row { (q : I) (m j t : ℕ) → m ∣ I.size_of q → j < I.size_of q / m → t < m
         → let w = I.size_of q / m in row w (I.place_of q (j + t * w)) ≡ row w (I.place_of q j) }

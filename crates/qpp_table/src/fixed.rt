@@ -1,4 +1,4 @@
-//! Interleavers whose numbers are constants.
+//! Interleavers with constant parameters.
 ghost use Rattle.std.specs.Prelude.{◌≡◌, ◌==◌, ◌↔◌, IsSome, find, length};
 ghost use Rattle.model_sender.specs.Interleaver.{Lawful, pi};
 ghost use Rattle.qpp_table.specs.Groups.{addresses_of};
@@ -8,14 +8,14 @@ use crate::modular::{is_nilpotent, is_unit, product_modulo};
 use crate::walk::Walk;
 use model_sender::ROWS;
 
-/// The interleaver Pi(i) = (F1 i + F2 i^2) mod K, of any lawful numbers.
+/// The interleaver Pi(i) = (F1 i + F2 i^2) mod K, of any lawful parameters.
 #[derive(Clone, Copy, Debug, PartialEq, Eq)]
 pub struct FixedQpp<const K: usize, const F1: usize, const F2: usize> {
     pub ghost lawful: { ∥ Lawful K F1 F2 ∥₁ },
 }
 
 impl<const K: usize, const F1: usize, const F2: usize> FixedQpp<K, F1, F2> {
-    /// Returns the interleaver, and `None` exactly where its numbers aren't lawful: K is at least 1, F1 is a
+    /// Returns the interleaver, or `None` exactly if its parameters aren't lawful: K is at least 1, F1 is a
     /// unit modulo K, and F2^7 is 0 modulo K.
     pub fn new() -> Option<Self>
         ensures { IsSome result ↔ Lawful K F1 F2 }
@@ -27,8 +27,8 @@ impl<const K: usize, const F1: usize, const F2: usize> FixedQpp<K, F1, F2> {
         }
     }
 
-    /// Writes to `out` the place from which each place of a block takes its bit, where the table's row of
-    /// size K has these factors.
+    /// Writes the interleaver addresses of a block to `out`, where the table's row of size K has these
+    /// factors.
     pub(crate) fn fill(out: &mut [u16])
         requires row { find (λ r. r.0 == K) ROWS ≡ Some (record { 0 = K; 1 = F1; 2 = F2 }) }
         requires room { length out.old ≡ K }

@@ -16,7 +16,7 @@ pub trait Interleaver {
     fn size(&self) -> usize
         ensures { result ≡ size_of self.now };
 
-    /// Returns the place from which place `i` takes its value; `i` is below the size.
+    /// Returns the place from which place `i` takes its value, Pi(i); `i` is below the size.
     fn at(&self, i: usize) -> usize
         requires { i < size_of self.now }
         ensures { result ≡ place_of self.now i };
@@ -28,7 +28,7 @@ pub trait Interleaver {
     ghost apart: { (q : Self) (i j : ℕ) → i < size_of q → j < size_of q
         → place_of q i ≡ place_of q j → i ≡ j };
 
-    // Places that lie a divisor of the size apart have values with one remainder by it.
+    // Places that are a divisor of the size apart have values that are congruent modulo it.
     ghost kept: { (q : Self) (i w : ℕ) → w ∣ size_of q → i + w < size_of q
         → place_of q (i + w) % w ≡ place_of q i % w };
 }

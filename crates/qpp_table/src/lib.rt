@@ -1,5 +1,5 @@
-//! The internal interleaver of the turbo code (36.212 5.1.3.2.3): its 188 sizes, their permutations
-//! and banks, and interleavers whose numbers are constants.
+//! The internal interleaver of the turbo code (36.212 5.1.3.2.3): its 188 sizes, their permutations and
+//! banks, and interleavers with constant parameters.
 #![tactic(auto)]
 
 mod banks;

@@ -32,8 +32,8 @@ pub fn qpp(k: usize) -> Option<Qpp>
     }
 }
 
-/// Writes to `out` the place from which each place of a block takes its bit, Pi(0) to Pi(K - 1)
-/// (36.212 5.1.3.2.3). `k` is one of the 188 sizes, and `out` has length `k`. Allocates nothing.
+/// Writes the interleaver addresses of a block, Pi(0) to Pi(K - 1) (36.212 5.1.3.2.3), to `out`. `k` is one
+/// of the 188 sizes, and `out` has length `k`. Allocates nothing.
 #[tactic(auto, unfolding(crate::specs::Groups::addresses_of))]
 pub fn addresses(k: usize, out: &mut [u16])
     requires size { Contains sizes k }

@@ -1,4 +1,4 @@
-//! The walk along the places of an interleaver by additions.
+//! The addresses of an interleaver one after the other, by additions.
 ghost use Rattle.std.specs.Prelude.{◌≡◌, ℕ, ◌+◌, ◌*◌, ◌%◌, ◌^◌, ◌<◌, ◌≤◌};
 
 /// Returns the sum modulo `k` of two numbers below it.
@@ -13,8 +13,8 @@ fn sum_modulo(k: usize, a: usize, b: usize) -> usize
     if sum < k { sum } else { sum - k }
 }
 
-/// A value of (f1 i + f2 i^2) mod K, the step to the next value, and what the steps grow by, all
-/// modulo K: additions lead from value to value, and no division.
+/// A value of (f1 i + f2 i^2) mod K, its first difference, and the constant second difference, all modulo K,
+/// so that the next value takes additions and no division.
 #[derive(Clone, Copy)]
 pub struct Walk {
     size: usize,

@@ -58,7 +58,7 @@ impl<'a> CodeBlocks<'a> {
         self.plan
     }
 
-    /// Returns the coded streams of block `r`, which is below C, and what codes the others.
+    /// Returns the coded streams of block `r`, which is below C, and the encoder of the other blocks.
     pub fn coded(self, alloc: Global, r: usize) -> Result<(Streams, CodeBlocks<'a>), NoMemory>
         requires { r < (plan_of (length self)).c }
         ensures streams { IfOk result (λ coded.

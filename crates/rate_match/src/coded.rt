@@ -32,7 +32,7 @@ impl<'a> Model for Coded<'a> {
 }
 
 impl<'a> Coded<'a> {
-    /// Cuts a payload into code blocks (36.212, 5.1.1 and 5.1.2), and codes each (5.1.3). Allocates the
+    /// Segments a payload into code blocks (36.212, 5.1.1 and 5.1.2), and encodes each (5.1.3). Allocates the
     /// coded streams of all blocks.
     pub fn new(alloc: Global, payload: &'a [u8]) -> Result<Coded<'a>, NoMemory>
         requires some { 1 ≤ length payload.now }

@@ -11,8 +11,8 @@ use lte_bits::{Bit, List, NoMemory};
 use std::alloc::Global;
 
 /// Returns the G bits that redundancy version `rv`, 0 to 3, sends of a payload of 1 to 18,722 bytes, whose
-/// plan the buffer fits (36.212, 5.1.1 to 5.1.5). Allocates these bits, and for a while the coded streams
-/// of one code block after the other.
+/// plan the buffer fits (36.212, 5.1.1 to 5.1.5). Allocates these bits, and temporarily the coded streams of
+/// one code block at a time.
 pub fn codeword(alloc: Global, payload: &[u8], m: &Match, rv: u8) -> Result<List<Bit>, NoMemory>
     requires some { 1 ≤ length payload.now }
     requires few { length payload.now ≤ 18722 }

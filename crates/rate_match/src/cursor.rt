@@ -1,4 +1,4 @@
-//! A walk round the circular buffer, from place to place by additions alone.
+//! A cursor over the circular buffer, which moves from place to place by additions alone.
 ghost use Rattle.std.specs.Prelude.{◌≡◌, ◌+◌, ◌-◌, ◌*◌, ◌/◌, ◌%◌, ◌<◌, ◌≤◌, slice_index, IfSome, IsNone, None};
 ghost use Rattle.model_sender.specs.CircularBuffer.{column_order, padded, spot};
 ghost use Rattle.rate_match.specs.Cursor.{IsInColumn, cursor_at, order_of, rows_down};
@@ -14,7 +14,7 @@ const COLUMN_ORDER: [usize; 32] = [
     11, 27, 7, 23, 15, 31,
 ];
 
-/// Returns the column that is read after `i` others.
+/// Returns the column that is read in turn `i`, counted from 0.
 fn column(i: usize) -> usize
     requires { i < 32 }
     ensures value { result ≡ slice_index column_order i }
@@ -100,7 +100,7 @@ impl Cursor {
         }
     }
 
-    /// Returns the next place, round the circle.
+    /// Returns the next place, cyclically.
     pub fn next(self, ring: Ring) -> Cursor
         requires within { self.n < ring.size }
         requires lawful { self ≡ cursor_at ring.rows self.n }
@@ -138,8 +138,8 @@ impl Cursor {
         }
     }
 
-    /// Returns how many places from here on, `most` at most, hold bits of one column and stand in the ring.
-    /// Where it is 0, a bit may stand here all the same.
+    /// Returns a number of places from here on, at most `most`, that hold bits of one column and are in the
+    /// ring. It may be 0 although a bit is here.
     fn column_left(self, ring: Ring, most: usize) -> usize
         requires within { self.n < ring.size }
         requires lawful { self ≡ cursor_at ring.rows self.n }
@@ -180,7 +180,7 @@ impl Cursor {
         })
     }
 
-    /// Returns how many rows of the column the place is below, that stands `i` places further on.
+    /// Returns by how many rows the place `i` further on is below this one in the column.
     fn rows_down(self, ring: Ring, i: usize) -> usize
         requires { i ≤ 18528 }
         ensures { result ≡ rows_down ring.rows self i }

@@ -1,4 +1,4 @@
-//! Which soft buffers are large enough.
+//! Tests of whether soft buffers are large enough.
 ghost use Rattle.std.specs.Prelude.{◌≡◌, ◌≤◌, ◌↔◌, IsTrue};
 ghost use Rattle.model_sender.specs.CircularBuffer.{Fits, FitsIn};
 ghost use Rattle.rate_match.specs.Matching.{limit_of};
@@ -28,7 +28,7 @@ pub fn fits_plan(m: &Match, plan: &Plan) -> bool
 }
 
 /// Returns whether `fits_buffer` holds for the plan of every length from 1 to `tb`, which is 1 to 18,722. A
-/// longer transport block needs no less, so that the plan of `tb` tells.
+/// longer transport block needs at least as large a buffer, so that the plan of `tb` decides.
 pub fn fits_lengths(buffer: Buffer, tb: usize) -> bool
     requires some { 1 ≤ tb }
     requires few { tb ≤ 18722 }

@@ -1,5 +1,5 @@
-//! The rate matching of turbo coded transport blocks (36.212 5.1.4.1): its parameters, which
-//! transmissions are sent, which soft buffers are large enough, and the bits that are sent.
+//! The rate matching of turbo coded transport blocks (36.212 5.1.4.1): its parameters, transmissions, the
+//! required soft buffers, and bit selection.
 #![tactic(auto)]
 
 mod code_blocks;

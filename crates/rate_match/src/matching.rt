@@ -6,7 +6,7 @@ use std::error::Error;
 use std::fmt;
 use std::marker::Model;
 
-/// The soft buffer that the receiver has for a transport block: N_IR of 36.212, 5.1.4.1.2.
+/// The receiver's soft buffer for a transport block: N_IR of 36.212, 5.1.4.1.2.
 #[derive(Clone, Copy, Debug, PartialEq, Eq, Hash)]
 pub enum Buffer {
     /// The whole circular buffer of each code block.
@@ -15,9 +15,9 @@ pub enum Buffer {
     Limited(u32),
 }
 
-/// The rate matching of a transmission (36.212, 5.1.4.1.2): Q_m, the bits of a modulation symbol,
-/// 2, 4 or 6; N_L, the layers, 1 or 2; G, the bits of the codeword, from 1 to 1,000,000 and a multiple of
-/// N_L * Q_m; and the soft buffer.
+/// The rate matching of a transmission (36.212, 5.1.4.1.2): Q_m, the bits per modulation symbol, 2, 4 or 6;
+/// N_L, the layers, 1 or 2; G, the bits of the codeword, from 1 to 1,000,000 and a multiple of N_L * Q_m; and
+/// the soft buffer.
 #[derive(Clone, Copy, Debug, PartialEq, Eq)]
 pub struct Match {
     qm: u8,
@@ -40,7 +40,7 @@ impl Model for Match {
     ghost inverse = { hidden };
 }
 
-/// Why numbers aren't a matching.
+/// The parameter that a matching is refused for.
 #[derive(Clone, Copy, Debug, PartialEq, Eq, Hash)]
 pub enum BadMatch {
     /// Q_m isn't 2, 4 or 6.
@@ -121,7 +121,7 @@ impl Match {
         self.g as usize
     }
 
-    /// Returns whether the soft buffer is that of another matching.
+    /// Returns whether both matchings have the same soft buffer.
     pub(crate) fn shares_buffer(&self, other: &Match) -> bool
         ensures same { IsTrue result ↔ (self.now.limit ≡ other.now.limit) }
         ensures lawful { IsMatch self.now }

@@ -21,8 +21,7 @@ pub(crate) fn rows_of(k: usize) -> usize
     (k + 4).div_ceil(32)
 }
 
-/// Returns N_cb of block `r`, the places of its buffer from which it sends (36.212, 5.1.4.1.2); `r` is
-/// below C.
+/// Returns N_cb, the length of the soft buffer of block `r` (36.212, 5.1.4.1.2); `r` is below C.
 pub fn buffer_len(m: &Match, plan: &Plan, r: usize) -> usize
     requires { r < plan.now.c }
     ensures value { result ≡ buffer_length m.now.limit plan.now.c (size plan.now r) }
@@ -36,7 +35,7 @@ pub fn buffer_len(m: &Match, plan: &Plan, r: usize) -> usize
     }
 }
 
-/// Returns E_r, the bits that block `r` sends (36.212, 5.1.4.1.2); `r` is below C. They are G together.
+/// Returns E_r, the bits that block `r` sends (36.212, 5.1.4.1.2); `r` is below C. Their sum is G.
 pub fn piece_len(m: &Match, plan: &Plan, r: usize) -> usize
     requires { r < plan.now.c }
     ensures value { result ≡ piece_length m.now plan.now.c r }

@@ -1,9 +1,9 @@
-//! Bits that stand one after the other in the circular buffer.
+//! Runs of consecutive bits in the circular buffer.
 ghost use Rattle.std.specs.Prelude.{◌≤◌};
 
 use model_sender::Spot;
 
-/// Bits of one column, which stand from place `place` of the buffer on: `count` of them, at least one.
+/// A run of `count` bits, at least one, of one column, from place `place` of the buffer on.
 #[derive(Clone, Copy)]
 pub struct Run {
     pub place: usize,

@@ -7,7 +7,7 @@ ghost use Rattle.rate_match.specs.Sendings.{AreSendings, AreEven, common};
 use crate::matching::{Buffer, Match};
 use std::marker::Model;
 
-/// The most transmissions of a transport block.
+/// The maximum number of transmissions of a transport block.
 const MOST: usize = 8;
 
 /// One transmission: its rate matching, and its redundancy version, 0 to 3.
@@ -57,8 +57,8 @@ impl Sends {
         })
     }
 
-    /// Appends a transmission. It answers false, with nothing changed, exactly where the redundancy
-    /// version is above 3, or eight transmissions are held, or the soft buffer differs.
+    /// Appends a transmission. Returns false, with nothing changed, exactly if the redundancy version is
+    /// above 3, there are eight transmissions already, or the soft buffer differs.
     pub fn add(&mut self, m: Match, rv: u8) -> bool
         ensures taken { IsTrue result
             ↔ ((rv ≤ 3) × (length self.old < 8) × (m.limit ≡ (common self.old).limit)) }
@@ -73,7 +73,7 @@ impl Sends {
         true
     }
 
-    /// Returns how many transmissions there are.
+    /// Returns the number of transmissions.
     pub fn len(&self) -> usize
         ensures value { result ≡ length self.now }
         ensures lawful { AreSendings self.now }

@@ -1,4 +1,4 @@
-//! A walk round the circular buffer, from bit to bit (36.212 5.1.4.1.2).
+//! A cyclic walk over the bits of the circular buffer (36.212 5.1.4.1.2).
 ghost use Rattle.std.specs.Prelude.{◌≡◌, ◌<◌};
 ghost use Rattle.rate_match.specs.Cursor.{cursor_at};
 
@@ -6,7 +6,7 @@ use crate::cursor::Cursor;
 use crate::rings::Ring;
 use crate::runs::Run;
 
-/// A walk round the circular buffer, as bits are selected in 36.212, 5.1.4.1.2: the place that comes next.
+/// A cyclic walk over the circular buffer in the order of bit selection (36.212, 5.1.4.1.2): the next place.
 #[derive(Clone, Copy)]
 pub struct Walk {
     pub ring: Ring,
@@ -33,7 +33,7 @@ impl Walk {
         }
     }
 
-    /// Returns the next bits, `most` at most, and goes on after them.
+    /// Returns the next bits, at most `most`, and advances past them.
     pub fn next_run(&mut self, most: usize) -> Run
         requires { 0 < most }
         ensures ring { self.new.ring ≡ self.old.ring }

@@ -1,4 +1,4 @@
-//! The states that inputs lead to.
+//! Reachability of states.
 ghost use Rattle.std.specs.Prelude.{◌≡◌, List, length};
 ghost use Rattle.lte_bits.specs.declared.bit.Bit.{Bit};
 ghost use Rattle.model_sender.specs.ConstituentCoder.{State};

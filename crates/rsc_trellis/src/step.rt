@@ -32,8 +32,8 @@ pub fn parity(s: State, u: Bit) -> Bit
     plus(plus(u, s.a1), s.a2)
 }
 
-/// Returns the one state from which an input leads to `s` and whose oldest value is `oldest`, with that
-/// input.
+/// Returns the only predecessor of `s` whose oldest value is `oldest`, and the input that leads from it to
+/// `s`.
 pub fn previous(s: State, oldest: Bit) -> (State, Bit)
     ensures oldest { result.0.a3 ≡ oldest }
     ensures leads { next result.0 result.1 ≡ s }

@@ -7,8 +7,8 @@ use crate::state::State;
 use crate::step::plus;
 use lte_bits::Bit;
 
-/// Returns the three pairs x, z of the tail after a state (36.212 5.1.3.2.2): x(k) = a(k-2) + a(k-3) and
-/// z(k) = a(k-1) + a(k-3), where a(k) is 0. They end in the state 0.
+/// Returns the three pairs x, z of the tail from a state (36.212 5.1.3.2.2): x(k) = a(k-2) + a(k-3) and
+/// z(k) = a(k-1) + a(k-3), where a(k) is 0. They lead to state 0.
 pub fn tail_path(s: State) -> [(Bit, Bit); 3]
     ensures inputs { map (λ p. p.0) result ≡ tail_inputs s }
     ensures parities { map (λ p. p.1) result ≡ tail_parities s }

@@ -9,7 +9,7 @@ use crate::{Open, Round, Status, Stop, Work};
 use edge_io::{Sink, Source};
 use std::alloc::Global;
 
-/// Returns how a run ends that was done.
+/// Returns the status of a completed run.
 fn done(failed: bool) -> Status
     ensures { result ≡ done failed }
 {
@@ -20,14 +20,13 @@ fn done(failed: bool) -> Status
     }
 }
 
-/// Opens a command, and then does its work round by round: the parts of each are written before the
-/// next is begun, for each its text to `out` and then its line to the report. After the last part
-/// comes what closes `out`, and then the report's last line.
+/// Opens a command and runs its work round by round: writes the parts of each round before the next begins,
+/// each part's text to `out` and then its line to the report. After the last part it writes the closing text
+/// of `out`, and then the report's last line.
 ///
-/// It ends `Done`, or `SomeFailed` where the work says so, with the whole answer written;
-/// `BadStream` after the blocks before the refused byte; `ReadFault`, `WriteFault` or `NoMemory`
-/// after those that were finished. After a failed write, a prefix of the text or line that was
-/// being written is there.
+/// It ends `Done`, or `SomeFailed` if the work says so, with the whole answer written; `BadStream` after the
+/// blocks before the refused byte; `ReadFault`, `WriteFault` or `NoMemory` after those that were finished.
+/// After a failed write, a prefix of the text or line being written is there.
 pub fn drive<O: Open, S: Source, D: Sink, R: Sink>(
     alloc: Global,
     command: O,

@@ -1,4 +1,4 @@
-//! The line that tells a fault. It allocates nothing.
+//! The report line of a fault. It allocates nothing.
 ghost use Rattle.std.specs.Prelude.{◌≡◌, ◌≤◌, ℕ, List, map};
 ghost use Rattle.edge_io.specs.Edge.{Rose};
 ghost use Rattle.run_loop.specs.FaultLine.{AddsLine, fault_line, joined, place_line};
@@ -33,8 +33,8 @@ fn write_place<R: Sink>(report: &mut R, text: &[u8], number: u8, place: u64)
     write_each(report, &[text, number, b" at ", place, b"\n"])
 }
 
-/// Appends the line that tells how a run ended, where it isn't done and the report didn't fail.
-/// Where a write of it fails, a prefix of the line is there.
+/// Appends the fault line of a run, unless it is done or the report itself failed. If a write fails, a prefix
+/// of the line is there.
 pub fn write_fault_line<R: Sink>(report: &mut R, status: Status)
     ensures told { AddsLine (R.held report.old) (R.held report.new) (fault_line status)
         (R.faults report.old) (R.faults report.new) }

@@ -1,6 +1,5 @@
-//! The loop that every command runs in: it is opened, and then its work is done round by round, from
-//! a source to two sinks. Beside it: how a run ends, the lines of a report, and the line that tells
-//! a fault.
+//! The loop that every command runs in: it is opened, and then its work is done round by round, from a source
+//! to two sinks. Also the status of a run, the lines of a report, and the line of a fault.
 #![tactic(auto)]
 
 mod driver;

@@ -16,7 +16,7 @@ pub fn push_number(line: &mut Vec<u8>, text: &[u8], number: u128) -> Result<(), 
     Ok(())
 }
 
-/// Appends the end of the line.
+/// Appends a newline.
 pub fn end_line(line: &mut Vec<u8>) -> Result<(), NoMemory>
     ensures { IfOk result (λ _. line.new.items ≡ line.old.items ++ line_end) }
 {

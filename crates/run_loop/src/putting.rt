@@ -1,4 +1,4 @@
-//! Parts and closings, to `out` and the report.
+//! Writing of parts and closing texts to `out` and the report.
 ghost use Rattle.run_loop.specs.Puts.{HasSinkCause, Puts, PutsEach};
 ghost use Rattle.run_loop.specs.Step.{parts_of};
 

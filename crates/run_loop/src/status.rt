@@ -1,4 +1,4 @@
-//! How a run ends.
+//! The status of a run.
 ghost use Rattle.std.specs.Prelude.{◌≡◌};
 ghost use Rattle.run_loop.specs.Exit.{exit_of};
 ghost use Rattle.run_loop.specs.declared.status.Status.TheVariants as status;
@@ -12,7 +12,7 @@ pub enum SinkName {
     Report,
 }
 
-/// How a run ended.
+/// The status with which a run ended.
 #[derive(Clone, Copy, Debug, PartialEq, Eq, Hash)]
 pub enum Status {
     /// The command was done, its input read to its end, and no block failed.

@@ -15,26 +15,26 @@ pub struct Part {
     pub text: Vec<u8>,
     /// Its bytes for the report.
     pub line: Vec<u8>,
-    /// How many bytes of input it takes.
+    /// The number of input bytes that it takes.
     pub size: usize,
-    /// How many bytes must be read before this part is final, where the end of the input counts
-    /// as one.
+    /// The number of bytes that must be read before this part is final, where the end of the input counts as
+    /// one.
     pub wants: usize,
 }
 
-/// How a round stops, once its parts were made.
+/// How a round stops after its parts.
 #[derive(Debug, Drop)]
 pub enum Stop {
     /// More is to come.
     Go,
-    /// The input was read to its end: what closes `out`, the report's last line, and whether some
+    /// The input was read to its end: the closing text of `out`, the report's last line, and whether some
     /// block of the whole run failed.
     End {
         closing: Vec<u8>,
         last: Vec<u8>,
         failed: bool,
     },
-    /// The run ends so after these parts: the input is refused at a byte, the source failed, or
+    /// The run ends with this status after these parts: the input is refused at a byte, the source failed, or
     /// memory ran out.
     Fails(Status),
 }
@@ -68,15 +68,15 @@ pub trait Work: Drop {
     // The answer that is still to come, for the input that is left.
     ghost answer: { Self → List ℕ → Answer };
 
-    // Whether a round may be asked for, whatever the source tells.
+    // Whether a round may be run, whether or not the source's bytes are known.
     ghost ready: { Self → Type 0 } = { λ _. Unit {0} };
 
     // How many rounds may still come.
     ghost budget: { Self → ℕ };
 
-    /// Reads the input of the next blocks and computes them. All memory that the ending needs is
-    /// allocated before its bytes are read. An `Err` says how the run ends where the round has no part:
-    /// the input is refused at a byte, the source failed, or memory ran out.
+    /// Reads the input of the next blocks and computes them. All memory that the ending needs is allocated
+    /// before its bytes are read. An `Err` is the status of a run that ends in a round without parts: the
+    /// input is refused at a byte, the source failed, or memory ran out.
     fn round<S: Source>(&mut self, alloc: Global, source: &mut S) -> Result<Round, Status>
         requires { ready self.old }
         ensures step { (input : List ℕ) → S.left source.old ≡ Some input →
@@ -103,8 +103,7 @@ pub trait Open {
     // Whether it may be opened.
     ghost able: { Self → Type 0 } = { λ _. Unit {0} };
 
-    /// Reads a header, if the command has one, and writes what `out` begins with. It allocates
-    /// nothing.
+    /// Reads a header, if the command has one, and writes the opening text of `out`. It allocates nothing.
     fn open<S: Source, D: Sink>(
         self,
         alloc: Global,

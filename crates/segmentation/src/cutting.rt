@@ -35,7 +35,7 @@ fn share(plan: &Plan, r: usize) -> usize
     size(plan, r) - check_length(plan.c)
 }
 
-/// Returns bits of S, followed by check bits of their own where there are several blocks.
+/// Returns a share of S, followed by its CRC24B if there are several blocks.
 fn checked(alloc: Global, c: usize, share: &[Bit]) -> Result<List<Bit>, NoMemory>
     requires { length share.now ≤ 6144 }
     ensures { IfOk result (λ bits. bits ≡ checked c share.now) }
@@ -48,9 +48,9 @@ fn checked(alloc: Global, c: usize, share: &[Bit]) -> Result<List<Bit>, NoMemory
     Ok(List::from_vec(bits))
 }
 
-/// Returns the C code blocks of a payload, whose length the plan is for (36.212 5.1.2): each with the bits of
-/// its size, the first F of block 0 fillers, and where C is above 1 with its own 24 check bits last. Allocates
-/// the blocks.
+/// Segments a payload of the plan's length into its C code blocks (36.212 5.1.2), each of its size: the first
+/// F bits of block 0 are filler bits, and if C is above 1 each block ends with 24 check bits of its own.
+/// Allocates the blocks.
 pub fn cut(alloc: Global, payload: &[u8], plan: &Plan) -> Result<List<Block>, NoMemory>
     requires { plan.now.bytes ≡ length payload.now }
     ensures blocks { IfOk result (λ list. list ≡ blocks plan.now payload.now) }

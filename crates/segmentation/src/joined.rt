@@ -1,4 +1,4 @@
-//! Code blocks joined again.
+//! Desegmented code blocks.
 
 use lte_bits::List;
 

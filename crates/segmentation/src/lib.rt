@@ -1,4 +1,4 @@
-//! The segmentation of a transport block into code blocks (36.212 5.1.2), and the way back.
+//! The segmentation of a transport block into code blocks (36.212 5.1.2), and desegmentation.
 #![tactic(auto)]
 
 mod cutting;

@@ -35,9 +35,9 @@ fn whole(alloc: Global, blocks: &[Block], plan: &Plan) -> Result<Vec<Bit>, NoMem
     Ok(whole)
 }
 
-/// Returns the payload of the C code blocks of a plan, each of its size and with its fillers: the inverse of
-/// 36.212 5.1.2. Fillers and the blocks' own check bits are dropped. `payload`, which is allocated, is the first
-/// `bytes` bytes, and `holds` tells whether they and the 24 bits after them are a multiple of CRC24A.
+/// Desegments the C code blocks of a plan, each of its size and with its fillers: the inverse of 36.212
+/// 5.1.2. Drops fillers and the blocks' own check bits. `payload`, which is allocated, is the first `bytes`
+/// bytes, and `holds` tells whether they and the 24 bits after them are a multiple of CRC24A.
 pub fn uncut(alloc: Global, blocks: &[Block], plan: &Plan) -> Result<Uncut, NoMemory>
     requires { AreBlocksOf plan.now blocks.now }
     ensures payload { IfOk result (λ u. u.payload

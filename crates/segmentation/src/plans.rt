@@ -1,10 +1,10 @@
-//! How a transport block is cut.
+//! The segmentation plan of a transport block.
 
 use std::marker::Model;
 
-/// The plan of a transport block of `bytes` bytes, 1 to 18,722 (36.212 5.1.2): C, K+, K-, C+, C-
-/// and F. The first `c_minus` of the `c` blocks have `k_minus` bits, the others `k_plus`, and `f`
-/// fillers stand first in block 0.
+/// The plan of a transport block of `bytes` bytes, 1 to 18,722 (36.212 5.1.2): C, K+, K-, C+, C- and F. The
+/// first `c_minus` of the `c` blocks have `k_minus` bits, the others `k_plus`, and block 0 begins with `f`
+/// filler bits.
 #[derive(Clone, Copy, Debug, PartialEq, Eq)]
 pub struct Plan {
     pub bytes: usize,

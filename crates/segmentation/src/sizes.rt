@@ -22,7 +22,7 @@ fn last_below(rows: &[Row], limit: usize) -> Option<usize>
         .find(|size| *size < limit)
 }
 
-/// Returns K+, the least size of which `c` hold `n` bits.
+/// Returns K+, the least size with which `c` blocks hold `n` bits.
 pub(crate) fn larger_size(c: usize, n: usize) -> usize
     requires some { 1 ≤ c }
     requires room { n ≤ c * 6144 }

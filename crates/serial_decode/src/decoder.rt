@@ -8,8 +8,8 @@ use lte_bits::{Bit, NoMemory, SoftStreams};
 use std::alloc::Global;
 use window_decode::{Ext, Shape, Work};
 
-/// A code block under decoding, window after window: the cells of all places, and the borders that each
-/// window left in the half before and in the one before that.
+/// The state of a code block's decoding, window after window: the cells of all places, and the borders that
+/// each window left in the last two halves.
 #[derive(Drop)]
 pub struct SerialDecoder<'a> {
     views: Views<'a>,

@@ -7,8 +7,8 @@ use crate::window::decode_window;
 use half_iteration::{BordersLeft, Views, end_of};
 use window_decode::{Border, Ext, Work};
 
-/// Decodes half `h` of a code block, window after window, and gives the new cells. `left` has the
-/// borders that each window left two halves ago, and is given those that they leave now.
+/// Decodes half `h` of a code block, window after window, and returns the new cells. `left` has each window's
+/// borders from two halves ago, and receives the new ones.
 pub fn decode_half(
     work: &mut Work,
     views: &Views<'_>,

@@ -24,7 +24,7 @@ pub struct ListStrip<'a> {
 impl Strip for ListStrip<'_> {
     ghost use Rattle.serial_decode.specs.Strips.{cells_at, elsewhere};
 
-    /// The places of the window, and what stands at other places.
+    /// The places of the window, and the cells of other places.
     type Rest = (List<u16>, List<Ext>);
 
     ghost systematic = { λ s. s.systematic.now };

@@ -7,8 +7,8 @@ use crate::strip::{ListStrip, strip_of};
 use half_iteration::{BordersLeft, Views};
 use window_decode::{Border, Ext, Work, run_window};
 
-/// Decodes window `t` of half `h` between two borders: gives the cells of all places with those of the
-/// window replaced, and the borders that it leaves.
+/// Decodes window `t` of half `h` between two borders: returns the cells of all places, those of the window
+/// replaced, and the window's new borders.
 pub fn decode_window(
     work: &mut Work,
     views: &Views<'_>,

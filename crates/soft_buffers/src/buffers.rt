@@ -17,9 +17,8 @@ use segmentation::{fill, size};
 use std::alloc::Global;
 use std::marker::Model;
 
-/// The soft cells of a transport block: one for each bit of the coded streams of each code block, 3 (K + 4)
-/// a block. A cell keeps the sum of the soft values that were received of its bit, clamped to -127 to 127
-/// at each addition.
+/// The soft cells of a transport block: one for each bit of the coded streams of each code block, 3 (K + 4) a
+/// block. A cell is the sum of the soft values received for its bit, clamped to -127 to 127 at each addition.
 #[derive(Drop)]
 pub struct HarqBuffers {
     plan: Plan,
@@ -67,8 +66,8 @@ impl HarqBuffers {
         })
     }
 
-    /// Returns the buffers of a transport block of this plan, which the soft buffer fits, with the cells
-    /// that stand first in `cells`, block after block. Allocates a byte for each cell.
+    /// Returns the buffers of a transport block of this plan, which the soft buffer fits, with the first
+    /// cells of `cells`, block after block. Allocates a byte for each cell.
     pub fn from_cells(
         alloc: Global,
         plan: &Plan,
@@ -88,17 +87,16 @@ impl HarqBuffers {
         })
     }
 
-    /// Returns all cells, block after block, in a list of their own.
+    /// Returns all cells, block after block, in a new list.
     pub fn cells(&self, alloc: Global) -> Result<List<Soft>, NoMemory>
         ensures { IfOk result (λ cells. cells ≡ flat_map (λ block. block) self.now.cells) }
     {
         joined(alloc, self.blocks.as_slice())
     }
 
-    /// Takes the G soft values of one transmission more, sent with redundancy version `rv`, 0 to 3, by a
-    /// matching with this soft buffer. Each is added to the cell of the bit that the sender takes at its
-    /// place of the codeword (36.212, 5.1.4.1.2 and 5.1.5), and the sum is clamped at once. Allocates
-    /// nothing.
+    /// Combines the G soft values of a further transmission, sent with redundancy version `rv`, 0 to 3, by a
+    /// matching with this soft buffer (HARQ soft combining): adds each to the cell of its bit (36.212,
+    /// 5.1.4.1.2 and 5.1.5), and clamps the sum at once. Allocates nothing.
     pub fn combine(&mut self, m: &Match, rv: u8, softs: &[Soft])
         requires buffer { m.now.limit ≡ self.old.limit }
         requires version { rv ≤ 3 }

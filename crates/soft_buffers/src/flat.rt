@@ -30,7 +30,7 @@ pub fn cell_count(plan: &Plan) -> usize
     count
 }
 
-/// Returns the cells of each block, which stand first in `cells`.
+/// Splits the first cells of `cells` into those of each block.
 pub(crate) fn divided(
     alloc: Global,
     plan: &Plan,

@@ -23,8 +23,8 @@ fn begun_with(
     Ok(List::from_vec(stream))
 }
 
-/// Returns the streams of a block of `k` bits with these cells: 127 stands at the fillers of d0, and 0 at
-/// those of d1.
+/// Returns the streams of a block of `k` bits with these cells, 127 at the fillers of d0, and 0 at those of
+/// d1.
 pub fn streams_of(
     alloc: Global,
     k: usize,

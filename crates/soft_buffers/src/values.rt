@@ -22,7 +22,7 @@ fn cell_index(k: usize, spot: Spot) -> usize
     usize::from(spot.stream) * (k + 4) + spot.index
 }
 
-/// Returns a cell with one value more.
+/// Returns the saturated sum of a cell and a value.
 fn added(cell: Soft, value: Soft) -> Soft
     ensures { result ≡ added cell value }
 {

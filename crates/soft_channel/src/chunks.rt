@@ -1,5 +1,5 @@
-//! Terms and soft values of as many places as words are drawn at a time. These loops neither draw nor
-//! allocate, so that the compiler makes vector instructions of them.
+//! Noise terms and soft values, one chunk of words at a time. These loops neither draw nor allocate, so that
+//! the compiler vectorizes them.
 ghost use Rattle.std.specs.Prelude.{◌≡◌, ◌≤◌, All, length, map, pos, slice_index_or, take};
 ghost use Rattle.std.specs.List.{range_with_len};
 ghost use Rattle.lte_bits.specs.Softs.{IsWithin};
@@ -10,7 +10,7 @@ use crate::terms::{received, term};
 use crate::words::CHUNK;
 use lte_bits::{Bit, Soft};
 
-/// Returns the term that each word gives.
+/// Returns the noise term of each word.
 pub fn terms_of(noise: u8, words: &[u32; CHUNK]) -> [i16; CHUNK]
     requires { noise ≤ 127 }
     ensures value { result ≡ map (term noise) words.now }
@@ -23,8 +23,8 @@ pub fn terms_of(noise: u8, words: &[u32; CHUNK]) -> [i16; CHUNK]
     terms
 }
 
-/// Returns the soft value of each of at most as many bits, with the term of its place; what follows them says
-/// nothing.
+/// Returns the soft values of at most `CHUNK` bits, each with the noise term of its place; values after the
+/// last bit are unspecified.
 pub fn received_values(amp: u8, bits: &[Bit], terms: &[i16; CHUNK]) -> [Soft; CHUNK]
     requires amp { amp ≤ 127 }
     requires few { length bits.now ≤ CHUNK }

@@ -8,8 +8,8 @@ use crate::words::{CHUNK, Purpose, generator, next_words};
 use lte_bits::{Bit, List, NoMemory, Soft};
 use std::alloc::Global;
 
-/// Returns the first `count` terms, at most 1,000,000, of the noise on transmission `tx`, 0 to 7, of a
-/// block, both counted from 0. A term is `noise`, at most 127, times a number of mean 0 and deviation about
+/// Returns the first `count` terms, at most 1,000,000, of the noise on transmission `tx`, 0 to 7, of a block,
+/// both counted from 0. A term is `noise`, at most 127, times a number of mean 0 and standard deviation about
 /// 1, rounded toward zero: a number from -437 to 437. Allocates two bytes for each.
 pub fn noise_terms(
     alloc: Global,
@@ -35,9 +35,9 @@ pub fn noise_terms(
     Ok(List::from_vec(terms))
 }
 
-/// Returns the soft values of the bits of transmission `tx`, 0 to 7, of a block, both counted from 0:
-/// `amp`, 1 to 127, for a 0 and -`amp` for a 1, and to each the term of the noise at its place; clamped to
-/// -127 to 127. Allocates a byte for each.
+/// Returns the soft values of the bits of transmission `tx`, 0 to 7, of a block, both counted from 0: `amp`,
+/// 1 to 127, for a 0 and -`amp` for a 1, plus the noise term of its place, clamped to -127 to 127. Allocates
+/// a byte for each.
 pub fn noisy(
     alloc: Global,
     bits: &[Bit],

@@ -31,7 +31,7 @@ fn quotient(product: i32) -> i16
     (product / DEVIATION) as i16
 }
 
-/// Returns the term that a word gives.
+/// Returns the noise term of a word.
 pub fn term(noise: u8, word: u32) -> i16
     requires { noise ≤ 127 }
     ensures value { result ≡ term noise word }
@@ -40,7 +40,7 @@ pub fn term(noise: u8, word: u32) -> i16
     quotient(i32::from(noise) * deviation(word))
 }
 
-/// Returns the number that a bit is sent as.
+/// Returns the amplitude for a 0, and its negative for a 1.
 fn sent(amp: u8, bit: Bit) -> i16
     requires { amp ≤ 127 }
     ensures value { result ≡ sent amp bit }
@@ -52,7 +52,7 @@ fn sent(amp: u8, bit: Bit) -> i16
     }
 }
 
-/// Returns the soft value of a bit with a term.
+/// Returns the soft value of a bit with a noise term.
 pub fn received(amp: u8, bit: Bit, term: i16) -> Soft
     requires amp { amp ≤ 127 }
     requires term { IsWithin 437 term }

@@ -1,4 +1,4 @@
-//! Words from a seed, for each purpose of their own.
+//! Random words from a seed, a separate sequence for each purpose.
 ghost use Rattle.std.specs.Prelude.{◌≡◌, ◌+◌, ◌<◌, ◌^◌, map};
 ghost use Rattle.std.specs.List.{range_with_len};
 ghost use Rattle.rand_chacha.specs.ChaCha.{of_seed, word_at};

@@ -22,7 +22,7 @@ pub struct Handled {
     pub failed: bool,
 }
 
-/// A command over a stream, which does something with each block by itself.
+/// A command over a stream that handles each block by itself.
 pub trait Handler: Drop {
     ghost use Rattle.stream_loop.specs.Rounds.{block_of, handled_of};
 
@@ -58,7 +58,7 @@ pub trait Handler: Drop {
         ensures { IfOk result (λ x. handled_of x ≡ (handling self.now).block (header_of header.now)
             number (block_of payload bytes.now)) };
 
-    /// Returns the report's last line, after so many blocks, at most 4,096, of which so many failed.
+    /// Returns the report's last line, after at most 4,096 blocks, of which `failed` failed.
     fn last(&self, alloc: Global, blocks: usize, failed: usize) -> Result<Vec<u8>, NoMemory>
         requires few { blocks ≤ 4096 }
         requires failed { failed ≤ blocks }

@@ -24,7 +24,7 @@ pub struct StreamRounds<H: Handler> {
     pub failed: usize,
 }
 
-/// Returns how a run ends where its reader stops.
+/// Returns the status of a run whose reader stops.
 pub fn status_of(stop: StreamStop) -> Status
     ensures { result ≡ status_of stop }
 {
@@ -35,7 +35,7 @@ pub fn status_of(stop: StreamStop) -> Status
     }
 }
 
-/// Returns what closes `out`.
+/// Returns the closing text of `out`.
 fn closing<H: Handler>(alloc: Global, handler: &H, header: &Header) -> Result<Vec<u8>, NoMemory>
     ensures { IfOk result (λ text. text.items
         ≡ closing_text ((H.handling handler.now).header (header_of header.now))) }
@@ -46,7 +46,7 @@ fn closing<H: Handler>(alloc: Global, handler: &H, header: &Header) -> Result<Ve
     }
 }
 
-/// Returns the end after so many blocks, of which so many failed.
+/// Returns the end after `blocks` blocks, of which `failed` failed.
 fn ending<H: Handler>(
     alloc: Global,
     handler: &H,
@@ -67,7 +67,7 @@ fn ending<H: Handler>(
     })
 }
 
-/// Returns the round of what a block of so many bytes came to.
+/// Returns the round of a handled block of `size` bytes.
 fn of_handled(alloc: Global, handled: Handled, size: usize) -> Result<Round, NoMemory>
     ensures { IfOk result (IsAlone (record {
       text = handled.text.items;

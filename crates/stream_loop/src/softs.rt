@@ -1,4 +1,4 @@
-//! Soft values of bytes, and back.
+//! Conversion of bytes to soft values, and back.
 ghost use Rattle.std.specs.Prelude.{◌≡◌, ◌++◌, IfOk, length};
 ghost use Rattle.stream_loop.specs.SoftBytes.{soft_of, softs_of, byte_of, bytes_of};
 
@@ -12,8 +12,7 @@ fn soft_of(byte: u8) -> Soft
     Soft::from_i8(byte.cast_signed())
 }
 
-/// Writes the soft values of bytes. Its loop has no branch but its end, so that several bytes are read at
-/// once.
+/// Writes the soft values of bytes. Its loop has no branch but its end, so that it can be vectorized.
 fn read_softs(bytes: &[u8], softs: &mut [Soft])
     requires { length softs.old ≡ length bytes.now }
     ensures { softs.new ≡ softs_of bytes.now }

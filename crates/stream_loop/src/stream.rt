@@ -13,10 +13,9 @@ use lte_bits::List;
 use run_loop::{Open, SinkName, Status};
 use std::alloc::Global;
 
-/// A command that reads a stream of a kind that it takes, and is handed it block by block. It
-/// ends as the definition of the command's answer says: `BadStream` where the stream is refused,
-/// `SomeFailed` where a block failed, and else `Done`, or by a fault, or since memory ran out, which
-/// comes only after an accepted header.
+/// A command that reads a stream of a kind that it takes, block by block. It ends as the definition of the
+/// command's answer says: `BadStream` if the stream is refused, `SomeFailed` if a block failed, and else
+/// `Done`, or by a fault or `NoMemory`, which comes only after an accepted header.
 pub struct Stream<H: Handler>(pub H);
 
 /// Writes what `out` begins with.

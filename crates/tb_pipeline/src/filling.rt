@@ -1,4 +1,4 @@
-//! How a relay is filled, and its hands are made.
+//! Filling of a relay, and creation of its hands.
 ghost use Rattle.std.specs.Prelude.{◌≡◌, ◌≤◌, ◌∷◌, ◌++◌, [], length, vec_capacity, All};
 ghost use Rattle.crossbeam_queue.specs.Passes.{IsPassOf, view};
 ghost use Rattle.tb_pipeline.specs.declared.known.Role.TheVariants.{Filling};
@@ -10,7 +10,7 @@ use crate::known::{Deals, Item, Known, Line, Puts};
 use crossbeam_queue::Pass;
 use std::sync::Wait;
 
-/// Puts an item after the others.
+/// Appends an item.
 fn put<R: Wait>(
     rt: &R,
     queue: &Line,
@@ -30,7 +30,7 @@ fn put<R: Wait>(
     unreachable!()
 }
 
-/// Fills the queue: with the numbers below `count`, and an end mark for each hand.
+/// Fills the queue with the numbers below `count`, and an end mark for each hand.
 pub(crate) fn fill<R: Wait>(
     rt: &R,
     queue: &Line,

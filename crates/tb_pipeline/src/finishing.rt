@@ -1,4 +1,4 @@
-//! The jobs of which no answer came.
+//! Jobs without an answer.
 ghost use Rattle.std.specs.Prelude.{◌≡◌, ◌≤◌, [], length, vec_capacity, IfSome};
 ghost use Rattle.std.specs.List.{AllZip};
 ghost use Rattle.tb_pipeline.specs.Completions.{AreSlotsOf};
@@ -6,7 +6,7 @@ ghost use Rattle.tb_pipeline.specs.Completions.{AreSlotsOf};
 use crate::job::{Job, Start};
 use crate::slots::swap_at;
 
-/// Returns the answer in the slot of a job. Where none came the job is done here.
+/// Returns the answer in the slot of a job, or runs the job if there is none.
 fn answer_in<J: Job, G: Start>(job: &J, number: usize, slot: Option<J::Done>, start: &G) -> J::Done
     requires { IfSome slot (λ done. J.answers job.now done) }
     ensures { J.answers job.now result }
@@ -20,7 +20,7 @@ fn answer_in<J: Job, G: Start>(job: &J, number: usize, slot: Option<J::Done>, st
     }
 }
 
-/// Puts an answer of each job after the others, in the order of the jobs.
+/// Appends an answer of each job, in the order of the jobs.
 pub(crate) fn finish<J: Job, G: Start>(
     jobs: &[J],
     start: &G,

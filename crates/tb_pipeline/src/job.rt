@@ -1,7 +1,7 @@
-//! Jobs, and what a worker passes before each.
+//! Jobs, and the hook that a worker enters before each.
 
-/// A job. Threads share it. One that needs memory holds the allocator that it uses, and its running out of
-/// memory is a value of its `Done`.
+/// A job, which threads share. One that needs memory holds its allocator, and reports running out of memory
+/// as a value of `Done`.
 pub trait Job {
     /// The result of a job.
     type Done;
@@ -9,7 +9,7 @@ pub trait Job {
     // Which values answer the job.
     ghost answers: { Self → Self.Done → Type 0 };
 
-    /// Does the job.
+    /// Runs the job.
     fn run(&self) -> Self::Done
         ensures { answers self.now result };
 }

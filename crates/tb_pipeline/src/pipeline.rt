@@ -1,4 +1,4 @@
-//! Jobs done by several threads.
+//! Jobs run by several threads.
 ghost use Rattle.std.specs.Prelude.{◌≤◌, length, IfOk};
 ghost use Rattle.std.specs.List.{AllZip};
 
@@ -13,9 +13,9 @@ use std::alloc::Global;
 use std::sync::Wait;
 use std::thread::Threads;
 
-/// Does 1 to 64 jobs with 1 to 8 workers: place i of the list is an answer of job i. All memory is taken
-/// before a worker starts. A job of which no answer came back is done at the end, by the caller. Where no
-/// thread can be made, the workers run one after the other.
+/// Runs 1 to 64 jobs with 1 to 8 workers: place i of the list is an answer of job i. All memory is allocated
+/// before a worker starts. A job without an answer is run by the caller at the end. If no thread can be
+/// created, the workers run one after the other.
 pub fn through<J: Job + Sync, G: Start + Sync, R: Threads + Wait + Sync>(
     rt: &R,
     alloc: Global,

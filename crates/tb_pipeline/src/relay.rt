@@ -43,7 +43,7 @@ impl Relay {
         Ok((relay, made))
     }
 
-    /// Takes what is first in the queue, however often other hands are in the way.
+    /// Pops the first item of the queue, retrying for as long as other hands interfere.
     pub fn take<R: Wait>(&self, rt: &R, hand: Hand) -> Next
         requires hand { IsHandOf self.now hand }
         requires going_on { (hand_view hand).ended ≡ false }

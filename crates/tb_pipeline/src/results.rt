@@ -1,4 +1,4 @@
-//! How the answers come back.
+//! Collection of the answers.
 ghost use Rattle.std.specs.Prelude.{◌≡◌, ◌<◌, ◌^◌, Some, IfOk, length};
 ghost use Rattle.crossbeam_queue.specs.Passes.{IsPassOf, view};
 ghost use Rattle.tb_pipeline.specs.Completions.{AreSlotsOf, IsCompletionFor, values_of};
@@ -12,7 +12,7 @@ use std::alloc::Global;
 use std::snapshot::Snapshot;
 use std::sync::Wait;
 
-/// Returns the jobs as clauses see them.
+/// Returns the jobs as contracts see them.
 fn seen<J>(alloc: Global, jobs: &[J]) -> Result<Vec<Snapshot<J>>, NoMemory>
     ensures { IfOk result (λ all. values_of all.items ≡ jobs.now) }
 {
@@ -47,7 +47,7 @@ where
     unreachable!()
 }
 
-/// Returns a slot for the answer of each job, with nothing in it.
+/// Returns an empty slot for the answer of each job.
 pub(crate) fn empty_slots<J: Job>(
     alloc: Global,
     jobs: &[J],
@@ -63,7 +63,7 @@ where
     Ok(slots)
 }
 
-/// Puts an answer that came into the slot of its job.
+/// Stores a received answer in the slot of its job.
 fn place<J: Job>(_jobs: &[J], completion: Completion<J, J::Done>, slots: &mut [Option<J::Done>])
 where
     J::Done: Drop,
@@ -79,7 +79,7 @@ where
     }
 }
 
-/// Puts the answers that came into the slots of their jobs.
+/// Stores the received answers in the slots of their jobs.
 pub(crate) fn collect<J: Job>(
     jobs: &[J],
     answers: &Answers<J>,

@@ -5,7 +5,7 @@ ghost use mathlib.Core.Option.{some};
 
 use std::mem;
 
-/// Puts a value in the place of the one at `number`, which comes back.
+/// Replaces the value at `number`, and returns the old one.
 pub(crate) fn swap_at<T>(slots: &mut [T], number: usize, value: T) -> T
     requires { number < length slots.old }
     ensures slots { slots.new ≡ slice_set slots.old number value }

@@ -11,8 +11,8 @@ use crate::sender::another_sender;
 use std::sync::Wait;
 use std::thread::{Threads, join};
 
-/// Does jobs until there is no further one, and gives the hand back, which has taken an end mark. An answer
-/// for which there is no room is dropped.
+/// Runs jobs until the hand has taken an end mark, and returns the hand. An answer for which there is no room
+/// is dropped.
 fn work<J: Job, G: Start, R: Wait>(
     rt: &R,
     relay: &Relay,

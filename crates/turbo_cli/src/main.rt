@@ -1,5 +1,5 @@
-//! The program: does what its arguments ask for, from standard input to standard output, and reports on
-//! standard error.
+//! The program: runs the command that its arguments ask for, from standard input to standard output, and
+//! reports on standard error.
 #![tactic(auto)]
 
 use edge_io::{StdSink, StdSource};

@@ -1,4 +1,4 @@
-//! The addresses of the bits that the second coder takes (36.212 5.1.3.2.3).
+//! The interleaver addresses of the second coder's input bits (36.212 5.1.3.2.3).
 ghost use Rattle.std.specs.Prelude.{◌≡◌, ℕ, ◌+◌, ◌%◌, ◌<◌, ◌≤◌, Contains, IfOk, length, map, slice_index};
 ghost use Rattle.std.specs.List.{range_with_len};
 ghost use Rattle.model_sender.specs.Interleaver.{place, sizes};
@@ -8,7 +8,7 @@ use qpp_table::{Walk, qpp};
 use std::alloc::Global;
 use std::marker::Model;
 
-/// Returns the place that lies `apart` further, round a block of `k` bits.
+/// Returns the place `apart` further on, modulo `k`.
 fn further(k: u16, place: u16, apart: u16) -> u16
     requires few { k ≤ 6144 }
     requires place { place < k }
@@ -19,7 +19,7 @@ fn further(k: u16, place: u16, apart: u16) -> u16
     if sum < k { sum } else { sum - k }
 }
 
-/// Writes the first `count` places.
+/// Writes the first `count` addresses.
 fn write_first(places: &mut [u16], count: usize)
     requires size { Contains sizes (length places.old) }
     requires room { count ≤ length places.old }
@@ -34,7 +34,7 @@ fn write_first(places: &mut [u16], count: usize)
     }
 }
 
-/// Writes as many places again as there are, `count`. They lie `apart` further round the block.
+/// Writes the next `count` addresses: the first `count`, plus `apart` modulo the block's length.
 fn write_further(places: &mut [u16], count: usize, apart: usize)
     requires size { Contains sizes (length places.old) }
     requires room { count + count ≤ length places.old }
@@ -50,8 +50,8 @@ fn write_further(places: &mut [u16], count: usize, apart: usize)
     }
 }
 
-/// Writes the places from which a block takes its bits. Since f2 is even and K a multiple of eight, those
-/// a quarter of a block apart take theirs from places of a fixed distance.
+/// Writes the interleaver addresses of a block. Since f2 is even and K a multiple of eight, those a quarter
+/// of a block apart differ by a constant modulo K.
 fn write_places(places: &mut [u16])
     requires { Contains sizes (length places.old) }
     ensures { places.new ≡ map (place (length places.old)) (range_with_len 0 (length places.old)) }
@@ -64,7 +64,7 @@ fn write_places(places: &mut [u16])
     write_further(places, 2 * quarter, f1 * (2 * quarter) % k);
 }
 
-/// The addresses of the bits that the second coder takes, one after the other, in code blocks of one size.
+/// The interleaver addresses of the second coder's input bits, in order, for code blocks of one size.
 /// Contracts see the size.
 #[derive(Debug, Drop)]
 pub struct InterleaverAddresses {
@@ -84,8 +84,8 @@ impl Model for InterleaverAddresses {
 }
 
 impl InterleaverAddresses {
-    /// Returns the addresses in code blocks of `k` bits, one of the 188 sizes (36.212, 5.1.3.2.3).
-    /// Allocates two bytes for each.
+    /// Returns the addresses for code blocks of `k` bits, one of the 188 sizes (36.212, 5.1.3.2.3). Allocates
+    /// two bytes for each.
     pub fn new(alloc: Global, k: usize) -> Result<InterleaverAddresses, NoMemory>
         requires { Contains sizes k }
         ensures { IfOk result (λ addresses. addresses ≡ k) }
@@ -95,8 +95,8 @@ impl InterleaverAddresses {
         Ok(InterleaverAddresses { places })
     }
 
-    /// Returns the addresses in code blocks of `k` bits, one of the 188 sizes: these, where they are for
-    /// this size, or else newly allocated ones.
+    /// Returns the addresses for code blocks of `k` bits, one of the 188 sizes: these, if they are for this
+    /// size, or else newly allocated ones.
     pub fn for_size(self, alloc: Global, k: usize) -> Result<InterleaverAddresses, NoMemory>
         requires { Contains sizes k }
         ensures { IfOk result (λ addresses. addresses ≡ k) }

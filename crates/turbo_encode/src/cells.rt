@@ -36,7 +36,7 @@ fn write_filled(cells: &mut [Cell], bits: &[Bit], fill: usize)
     write_nulls(cells, fill);
 }
 
-/// Allocates for `k` cells and the tail, of which the `k` have their places.
+/// Returns `k` cells, allocated with capacity for the tail too.
 pub fn room(alloc: Global, k: usize) -> Result<Vec<Cell>, NoMemory>
     requires { k < 2 ^ 63 }
     ensures { IfOk result (λ cells. length cells.items ≡ k) }
@@ -46,7 +46,7 @@ pub fn room(alloc: Global, k: usize) -> Result<Vec<Cell>, NoMemory>
     Ok(cells)
 }
 
-/// Returns the cells of a block's own bits, `Null` at the first `fill` places, with room for the tail.
+/// Returns the cells of the systematic bits, `Null` at the first `fill` places, with capacity for the tail.
 pub fn systematic(alloc: Global, bits: &[Bit], fill: usize) -> Result<Vec<Cell>, NoMemory>
     ensures { IfOk result (λ cells. cells.items ≡ null_filled fill bits.now) }
 {

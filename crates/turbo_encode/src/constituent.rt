@@ -13,7 +13,7 @@ use crate::fours::four_steps;
 use lte_bits::{Bit, Cell};
 use rsc_trellis::State;
 
-/// The states in which the two coders ended.
+/// The final states of the two coders.
 #[derive(Clone, Copy)]
 pub struct Ends {
     pub first: State,
@@ -34,8 +34,8 @@ fn bits_at(bits: &[Bit], places: &[u16; 4]) -> [Bit; 4]
     ]
 }
 
-/// Writes the cells of the parity bits of four inputs from a state on, at place `at` and after it, and
-/// gives the number of the next state.
+/// Writes the four parity cells of four inputs from a state on, from place `at` on, and returns the number of
+/// the next state.
 fn write_four(cells: &mut [Cell], at: usize, state: usize, four: &[Bit; 4]) -> usize
     requires room { at + 4 ≤ length cells.old }
     requires state { state < 8 }
@@ -54,8 +54,8 @@ fn write_four(cells: &mut [Cell], at: usize, state: usize, four: &[Bit; 4]) -> u
     steps.next
 }
 
-/// Writes the cells of the parity bits of both coders, of which the second takes its bits from `places`,
-/// and gives the states in which they end. Both go side by side, since each step waits for a table.
+/// Writes the parity cells of both coders, the second of which reads its bits at `places`, and returns their
+/// final states. Both run side by side, since each step waits for a table look-up.
 fn write_parities(first: &mut [Cell], second: &mut [Cell], bits: &[Bit], places: &[u16]) -> Ends
     requires size { Contains sizes (length bits.now) }
     requires places { places.now ≡ map (place (length bits.now)) (range_with_len 0 (length bits.now)) }

@@ -10,10 +10,10 @@ use crate::tails::Tails;
 use lte_bits::{Block, NoMemory, Streams};
 use std::alloc::Global;
 
-/// Returns the three coded streams of a code block of K bits, each of K + 4 cells. K is one of the 188
-/// sizes (36.212, table 5.1.3-3). `d0` and `d1` are `Null` at the fillers, and `d2` nowhere (5.1.3.2). The
-/// bits at the fillers' places are coded as they are: the standard asks that they be `Zero`. Allocates the
-/// streams, and for a while the addresses of the interleaver.
+/// Returns the three coded streams of a code block of K bits, each of K + 4 cells. K is one of the 188 sizes
+/// (36.212, table 5.1.3-3). `d0` and `d1` are `Null` at the fillers, and `d2` nowhere (5.1.3.2). The bits at
+/// the fillers' places are coded as they are: the standard asks that they be `Zero`. Allocates the streams,
+/// and temporarily the interleaver addresses.
 pub fn encode(alloc: Global, block: &Block) -> Result<Streams, NoMemory>
     requires { Contains sizes (length block.now.bits) }
     ensures { IfOk result (λ s. s ≡ streams block.now) }
@@ -22,8 +22,8 @@ pub fn encode(alloc: Global, block: &Block) -> Result<Streams, NoMemory>
     encode_with(alloc, block, &addresses)
 }
 
-/// Returns the same, by the addresses of the block's size, which serve many blocks. Allocates the streams
-/// alone.
+/// Returns the same, with given addresses for the block's size, which can be reused for other blocks.
+/// Allocates only the streams.
 pub fn encode_with(
     alloc: Global,
     block: &Block,

@@ -9,7 +9,7 @@ ghost use Rattle.turbo_encode.specs.Tables.{entry};
 
 use lte_bits::{Bit, Cell};
 
-/// The number of the four parity bits: a row for each four inputs, and a place for each state.
+/// The four parity bits as a number: a row for each four inputs, and a column for each state.
 static PARITIES: [[u8; 8]; 16] = [
     [0, 7, 12, 11, 14, 9, 2, 5],
     [1, 6, 13, 10, 15, 8, 3, 4],
@@ -76,7 +76,8 @@ pub struct Steps {
     pub next: usize,
 }
 
-/// Returns the number with four digits, the highest first. A product adds them up in its highest four.
+/// Returns the number of four bits, most significant first. A product adds them up in its highest four
+/// digits.
 fn number(four: &[Bit; 4]) -> usize
     ensures value { result ≡ number four.now }
     ensures small { result < 16 }

@@ -17,7 +17,7 @@ pub struct Tails {
 }
 
 impl Tails {
-    /// Returns the tails of the coders that ended in two states.
+    /// Returns the tails of the coders with these final states.
     pub fn new(first: State, second: State) -> Tails
         ensures d0 { result.d0 ≡ tail_input first 0 ∷ tail_parity first 1
             ∷ tail_input second 0 ∷ tail_parity second 1 ∷ [] }

@@ -13,7 +13,7 @@ pub fn words_after_name(alloc: Global, arguments: Args) -> Result<Vec<String>, A
     arguments.skip(1).collect(alloc)
 }
 
-/// Returns the arguments, lent to a run.
+/// Returns the arguments, borrowed for a run.
 pub fn lent(alloc: Global, words: &[String]) -> Result<Vec<&str>, AllocError>
     ensures { IfOk result (λ lent. texts_of lent.items ≡ map string_bytes words.now) }
 {

@@ -24,8 +24,8 @@ fn exit(status: Status) -> ExitCode
     ExitCode::from(status.exit())
 }
 
-/// Returns how a run ends whose arguments couldn't be read: since memory ran out, or since one isn't UTF-8.
-/// It is then a run without arguments.
+/// Returns the status of a run whose arguments couldn't be read: `NoMemory` if memory ran out; else one isn't
+/// UTF-8, and it is that of a run without arguments.
 fn unread(error: &io::Error) -> Status
     ensures { exit_of result ≡ exit_unread (error_kind error.now) }
 {
@@ -38,7 +38,7 @@ fn unread(error: &io::Error) -> Status
     }
 }
 
-/// Does what these arguments ask for.
+/// Runs the command that these arguments ask for.
 fn run_words<H: Threads + Wait + Sync, S: Source, D: Sink, R: Sink>(
     rt: &H,
     alloc: Global,
@@ -58,9 +58,9 @@ fn run_words<H: Threads + Wait + Sync, S: Source, D: Sink, R: Sink>(
     exit(run(rt, alloc, &words, source, out, report))
 }
 
-/// Does what the program's arguments ask for, from the source to `out` and the report, and says how the
-/// program is to exit. The first argument is the program's name. Where they couldn't be read, nothing is read
-/// or written.
+/// Runs the command that the program's arguments ask for, from the source to `out` and the report, and
+/// returns the program's exit code. The first argument is the program's name. If the arguments couldn't be
+/// read, nothing is read or written.
 pub fn exit_of_run<H: Threads + Wait + Sync, S: Source, D: Sink, R: Sink>(
     rt: &H,
     alloc: Global,

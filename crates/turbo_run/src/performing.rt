@@ -22,8 +22,8 @@ use run_loop::{Status, drive};
 use std::alloc::Global;
 use stream_loop::Stream;
 
-/// Does a command, without the line that tells a fault. Where blocks of a stream are decoded one after the
-/// other, `receive` does it, and where several are decoded at once, `run_jobs`.
+/// Runs a command, without the fault line. Blocks of a stream are decoded by `receive` if one after the
+/// other, and by `run_jobs` if several at once.
 pub fn perform<
     F: Fn(Global, &Task, usize, &Sends, &[Soft]) -> Received,
     B: Fn(Global, &[BlockJob], usize) -> Outcomes,

@@ -25,8 +25,8 @@ use std::thread::Threads;
 use tb_pipeline::{NoStart, through};
 use window_workers::{Gate, NoGate};
 
-/// Does what the arguments ask for, and reports a fault. Where blocks of a stream are decoded one after the
-/// other, `receive` does it, and where several are decoded at once, `run_jobs`.
+/// Runs the command that the arguments ask for, and reports a fault. Blocks of a stream are decoded by
+/// `receive` if one after the other, and by `run_jobs` if several at once.
 fn run_by<
     F: Fn(Global, &Task, usize, &Sends, &[Soft]) -> Received,
     B: Fn(Global, &[BlockJob], usize) -> Outcomes,
@@ -67,7 +67,7 @@ fn run_by<
     }
 }
 
-/// Does what the arguments ask for, from the source to `out` and the report, on one thread.
+/// Runs the command that the arguments ask for, from the source to `out` and the report, on one thread.
 pub fn run_alone<S: Source, D: Sink, R: Sink>(
     alloc: Global,
     words: &[&str],
@@ -91,9 +91,9 @@ pub fn run_alone<S: Source, D: Sink, R: Sink>(
     run_by(alloc, words, &receive, &run_jobs, source, out, report)
 }
 
-/// Does what the arguments ask for, from the source to `out` and the report. Where `decode` has several
-/// workers, they may run on threads of their own, and each enters `gate` before each window that it decodes.
-/// The pipes of `batch`, where there are several, may run on threads of their own too; they enter no gate.
+/// Runs the command that the arguments ask for, from the source to `out` and the report. Several workers of
+/// `decode` may run on threads of their own, and each enters `gate` before each window that it decodes.
+/// Several pipes of `batch` may run on threads of their own too; they enter no gate.
 pub fn run_gated<H: Threads + Wait + Sync, S: Source, D: Sink, R: Sink, G: Gate + Sync>(
     rt: &H,
     alloc: Global,
@@ -129,8 +129,8 @@ pub fn run_gated<H: Threads + Wait + Sync, S: Source, D: Sink, R: Sink, G: Gate 
     run_by(alloc, words, &receive, &run_jobs, source, out, report)
 }
 
-/// Does what the arguments ask for, from the source to `out` and the report. Where `decode` has several
-/// workers, or `batch` several pipes, they may run on threads of their own.
+/// Runs the command that the arguments ask for, from the source to `out` and the report. Several workers of
+/// `decode`, or pipes of `batch`, may run on threads of their own.
 pub fn run<H: Threads + Wait + Sync, S: Source, D: Sink, R: Sink>(
     rt: &H,
     alloc: Global,

@@ -11,8 +11,8 @@ use rsc_trellis::{State, tail_path};
 use std::marker::Model;
 use std::simd::prelude::*;
 
-/// A number for each state, by how much it is better than state 0. The number of state 0 is 0, and the
-/// greatest and the least differ by at most 4096.
+/// The state metrics at a border, relative to that of state 0, which is 0. The greatest and the least differ
+/// by at most 4096.
 #[derive(Clone, Copy, Debug, PartialEq, Eq)]
 pub struct Border {
     numbers: [i16; 8],
@@ -32,14 +32,14 @@ impl Model for Border {
 }
 
 impl Border {
-    /// Returns the border of which nothing is known: all numbers are 0.
+    /// Returns the border at which the state is unknown: all metrics are 0.
     pub fn unknown() -> Border
         ensures { result ≡ unknown }
     {
         Border { numbers: [0; 8] }
     }
 
-    /// Returns the border where the state is 0: the other states have -4096.
+    /// Returns the border at which the state is 0: the other states have the metric -4096.
     pub fn known() -> Border
         ensures { result ≡ known }
     {
@@ -56,7 +56,7 @@ impl Border {
         Border::relative(&Tail { x, z }.numbers())
     }
 
-    /// Returns the border's number for a state.
+    /// Returns the metric of a state.
     pub fn value(&self, s: State) -> i16
         ensures value { result ≡ number_for self.now s }
         ensures border { IsBorder self.now }
@@ -64,7 +64,7 @@ impl Border {
         self.numbers[usize::from(s.number())]
     }
 
-    /// Returns the border's numbers, in order of the states' numbers.
+    /// Returns the metrics, in order of the states' numbers.
     pub fn numbers(&self) -> &[i16; 8]
         ensures value { result.now ≡ self.now }
         ensures border { IsBorder self.now }
@@ -72,7 +72,7 @@ impl Border {
         &self.numbers
     }
 
-    /// Returns the border with these numbers.
+    /// Returns the border with these metrics.
     pub fn from_numbers(numbers: [i16; 8]) -> Border
         requires { IsBorder numbers }
         ensures { result ≡ numbers }
@@ -80,7 +80,7 @@ impl Border {
         Border { numbers }
     }
 
-    /// Returns the border's numbers, in order of the states' numbers.
+    /// Returns the metrics, in order of the states' numbers.
     pub(crate) fn lanes(&self) -> i16x8
         ensures value { result ≡ self.now }
         ensures border { IsBorder self.now }
@@ -88,7 +88,7 @@ impl Border {
         i16x8::from_array(self.numbers)
     }
 
-    /// Returns the border with these numbers.
+    /// Returns the border with these metrics.
     pub(crate) fn from_lanes(numbers: i16x8) -> Border
         requires { IsBorder numbers }
         ensures { result ≡ numbers }
@@ -120,7 +120,7 @@ impl Border {
     }
 }
 
-/// Returns the number that a list of eight has for a state.
+/// Returns the number of a state in a list of eight.
 fn number_of(numbers: &[i64; 8], s: State) -> i64
     requires { length numbers.now ≡ 8 }
     ensures { result ≡ number_for numbers.now s }
@@ -145,7 +145,7 @@ struct Tail {
 }
 
 impl Tail {
-    /// Returns what the bits of step `k` of the tail earn.
+    /// Returns the branch metric of the bits of step `k` of the tail.
     fn step(&self, k: usize, bits: (Bit, Bit)) -> i64
         requires { k < 3 }
         ensures value { result ≡ if_zero bits.0 (at self.now.x k) +ℤ if_zero bits.1 (at self.now.z k) }
@@ -154,7 +154,7 @@ impl Tail {
         earned(bits.0, self.x[k]) + earned(bits.1, self.z[k])
     }
 
-    /// Returns what the bits of the tail from a state earn.
+    /// Returns the path metric of the tail from a state.
     fn from_state(&self, s: State) -> i64
         ensures value { result ≡ tail_sum self.now.x self.now.z s }
         ensures range { IsWithin 762 result }
@@ -182,7 +182,7 @@ impl Tail {
     }
 }
 
-/// Returns a value where the bit is 0, and else 0.
+/// Returns the value if the bit is 0, else 0.
 fn if_zero(bit: Bit, value: i64) -> i64
     ensures { result ≡ if_zero bit value }
 {
@@ -192,7 +192,7 @@ fn if_zero(bit: Bit, value: i64) -> i64
     }
 }
 
-/// Returns what a tail bit earns.
+/// Returns the metric of a tail bit.
 fn earned(bit: Bit, value: Soft) -> i64
     ensures value { result ≡ if_zero bit value }
     ensures range { IsWithin 127 result }

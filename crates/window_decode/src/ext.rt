@@ -34,8 +34,8 @@ impl Ext {
         one: false,
     };
 
-    /// Returns the new cell of a position with an extrinsic value, whose systematic value and old cell have
-    /// the sum `own`.
+    /// Returns the new cell of a position with extrinsic value `x`, where `own` is the sum of its systematic
+    /// value and old cell.
     #[inline]
     pub(crate) fn from_extrinsic(x: i32, own: i16) -> Ext
         requires x { IsWithin 25818 x }

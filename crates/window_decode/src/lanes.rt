@@ -15,7 +15,7 @@ ghost use Rattle.window_decode.specs.Lanes.{IsLanes};
 use lte_bits::Bit;
 use std::simd::prelude::*;
 
-/// Returns the same number for each state.
+/// Broadcasts a number to all states.
 #[inline]
 pub fn all(value: i16) -> i16x8
     ensures { result ≡ border_of (λ _. value) }
@@ -23,7 +23,7 @@ pub fn all(value: i16) -> i16x8
     i16x8::splat(value)
 }
 
-/// Returns the sums of the states' numbers.
+/// Returns the sums, state by state.
 #[inline]
 pub fn sum(a: i16x8, b: i16x8) -> i16x8
     requires first { IsLanes a }
@@ -34,7 +34,7 @@ pub fn sum(a: i16x8, b: i16x8) -> i16x8
     a.strict_add(b)
 }
 
-/// Returns the greater of the states' numbers.
+/// Returns the greater numbers, state by state.
 #[inline]
 pub fn larger(a: i16x8, b: i16x8) -> i16x8
     requires first { IsLanes a }
@@ -44,7 +44,7 @@ pub fn larger(a: i16x8, b: i16x8) -> i16x8
     a.simd_max(b)
 }
 
-/// Returns the number of state 0 for each state.
+/// Broadcasts the number of state 0 to all states.
 #[inline]
 fn of_state_zero(a: i16x8) -> i16x8
     requires { IsLanes a }
@@ -63,7 +63,7 @@ pub fn above_zero(a: i16x8) -> i16x8
     a.strict_sub(of_state_zero(a))
 }
 
-/// Returns for each state the number of the state before it whose oldest value is `oldest`.
+/// Returns for each state the number of its predecessor whose oldest value is `oldest`.
 #[inline]
 pub fn before_by(oldest: Bit, a: i16x8) -> i16x8
     requires { IsLanes a }
@@ -75,7 +75,7 @@ pub fn before_by(oldest: Bit, a: i16x8) -> i16x8
     }
 }
 
-/// Returns for each state the number of the state after an input.
+/// Returns for each state the number of its successor by an input.
 #[inline]
 pub fn after_by(input: Bit, a: i16x8) -> i16x8
     requires { IsLanes a }
@@ -87,8 +87,7 @@ pub fn after_by(input: Bit, a: i16x8) -> i16x8
     }
 }
 
-/// Returns what the input earns that leads to each state from the state before it whose oldest value is
-/// `oldest`.
+/// Returns for each state the input metric of the branch from its predecessor whose oldest value is `oldest`.
 #[inline]
 pub fn input_by(oldest: Bit, value: i16) -> i16x8
     ensures { result ≡ border_of (λ s. if_zero (input_before s oldest) value) }
@@ -100,7 +99,7 @@ pub fn input_by(oldest: Bit, value: i16) -> i16x8
     }
 }
 
-/// Returns what the parity bit of an input earns from each state.
+/// Returns for each state the parity metric of the branch by an input.
 #[inline]
 pub fn parity_of(input: Bit, value: i16) -> i16x8
     ensures { result ≡ border_of (λ s. if_zero (parity s input) value) }
@@ -112,7 +111,7 @@ pub fn parity_of(input: Bit, value: i16) -> i16x8
     }
 }
 
-/// Returns the numbers of the states whose newest value is the other.
+/// Returns for each state the number of the state with the newest value flipped.
 #[inline]
 fn newest_turned(a: i16x8) -> i16x8
     requires { IsLanes a }
@@ -121,7 +120,7 @@ fn newest_turned(a: i16x8) -> i16x8
     a.swizzle([4, 5, 6, 7, 0, 1, 2, 3])
 }
 
-/// Returns the numbers of the states whose middle value is the other.
+/// Returns for each state the number of the state with the middle value flipped.
 #[inline]
 fn middle_turned(a: i16x8) -> i16x8
     requires { IsLanes a }
@@ -130,7 +129,7 @@ fn middle_turned(a: i16x8) -> i16x8
     a.swizzle([2, 3, 0, 1, 6, 7, 4, 5])
 }
 
-/// Returns the numbers of the states whose oldest value is the other.
+/// Returns for each state the number of the state with the oldest value flipped.
 #[inline]
 fn oldest_turned(a: i16x8) -> i16x8
     requires { IsLanes a }

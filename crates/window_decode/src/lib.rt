@@ -1,4 +1,4 @@
-//! One window of the max-log decoder, and what the decoding of a code block is told and gives.
+//! One window of the max-log decoder, and the shape and the result of a code block's decoding.
 #![tactic(auto)]
 
 mod border;

@@ -5,10 +5,10 @@ ghost use Rattle.model_receiver.specs.Paths.{Window, width, best_to, best_from};
 ghost use Rattle.window_decode.specs.Ranges.{IsSoft, part_before, part_from};
 ghost use Rattle.window_decode.specs.Recursions.{AreNear};
 
-/// How far apart the metrics of a window are, those of the paths to each state and those of the paths
-/// from each state. One position widens their spread by at most 127 + 511 + 127 = 765. After three
-/// positions it is at most 3 * 765 = 2295, whatever the border was. So from a border, whose numbers
-/// differ by at most 4096, it is at most 4096 + 2295 = 6391 at any width.
+/// The spread of a window's metrics, those of the paths to each state and those of the paths from each state.
+/// One position widens it by at most 127 + 511 + 127 = 765. After three positions it is at most
+/// 3 * 765 = 2295, whatever the border was. So from a border, whose metrics differ by at most 4096, it is at
+/// most 4096 + 2295 = 6391 at any width.
 pub fn metrics_stay_near()
     ensures to_widens { (w : Window) (j n : ℕ) → IsSoft w → j < width w
         → AreNear n (best_to (part_before w j)) → AreNear (n + 765) (best_to (part_before w (j + 1))) }

@@ -1,4 +1,4 @@
-//! The recursions over a window's positions, and how they join at one.
+//! The forward and backward recursions over a window's positions, and the extrinsic values.
 ghost use Rattle.std.specs.Prelude.{◌≡◌, ◌+ℤ◌, ◌-ℤ◌};
 ghost use Rattle.lte_bits.specs.Softs.{IsWithin};
 ghost use Rattle.lte_bits.specs.declared.bit.Bit.TheVariants.{Zero, One};
@@ -14,7 +14,7 @@ use crate::step::Step;
 use lte_bits::Bit;
 use std::simd::prelude::*;
 
-/// Returns the metrics with which paths come to each state from the one before it whose oldest value is
+/// Returns for each state the forward metric along the branch from its predecessor whose oldest value is
 /// `oldest`.
 #[inline]
 fn alpha_branch(oldest: Bit, before: i16x8, step: Step) -> i16x8
@@ -38,7 +38,7 @@ pub fn forward(before: i16x8, step: Step) -> i16x8
     above_zero(next)
 }
 
-/// Returns the metrics after the steps by an input, with what their parity bits earn.
+/// Returns for each state the backward metric of its successor by an input, plus the parity metric.
 #[inline]
 fn beta_branch(input: Bit, after: i16x8, value: i16) -> i16x8
     requires after { IsRelative after }
@@ -60,7 +60,8 @@ pub fn backward(after: i16x8, step: Step) -> i16x8
     above_zero(larger(zero, one))
 }
 
-/// Returns how much better 0 is than 1 at a position, by all but what the bit itself earns.
+/// Returns the extrinsic value of a position: the best path metric with a 0 less that with a 1, both without
+/// the metric of the input bit.
 #[inline]
 pub fn extrinsic(before: i16x8, after: i16x8, value: i16) -> i32
     requires before { IsRelative before }

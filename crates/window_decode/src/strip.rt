@@ -1,4 +1,4 @@
-//! Strips: the values and cells of one window, however they are kept.
+//! Strips: the values and cells of one window, in any layout.
 ghost use Rattle.std.specs.Prelude.{◌≡◌, ◌<◌, ℤ, List, length, slice_set};
 ghost use Rattle.lte_bits.specs.Softs.{IsWithin};
 ghost use Rattle.model_receiver.specs.Borders.{at};
@@ -8,7 +8,7 @@ use crate::ext::Ext;
 
 /// The soft values and the extrinsic cells at the positions of one window.
 pub trait Strip {
-    /// What the strip holds beside these, as plain data.
+    /// The strip's other contents, as plain data.
     type Rest;
 
     ghost systematic: { Self → List ℤ };

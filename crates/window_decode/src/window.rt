@@ -14,7 +14,7 @@ use crate::strip::Strip;
 use crate::work::Work;
 use std::simd::prelude::*;
 
-/// Returns what the steps of position `j` earn.
+/// Returns the branch metrics of position `j`.
 fn step_at<S: Strip>(strip: &S, j: usize) -> Step
     requires { j < length (S.cells strip.now) }
     ensures input { result.input
@@ -28,7 +28,7 @@ fn step_at<S: Strip>(strip: &S, j: usize) -> Step
     }
 }
 
-/// Returns the new cell of a position, between the metrics before and after it.
+/// Returns the new cell of a position, from the metrics before and after it.
 fn new_cell(before: i16x8, after: i16x8, step: Step) -> Ext
     requires before { IsRelative before }
     requires after { IsRelative after }
@@ -38,7 +38,7 @@ fn new_cell(before: i16x8, after: i16x8, step: Step) -> Ext
     Ext::from_extrinsic(extrinsic(before, after, step.parity), step.input)
 }
 
-/// Writes a window's new cells in the strip. Gives the forward metrics after the last position and the
+/// Writes a window's new cells to the strip. Returns the forward metrics after the last position and the
 /// backward metrics before the first, relative to those of state 0.
 fn sweep<S: Strip>(
     rows: &mut Vec<i16x8>,
@@ -78,8 +78,8 @@ fn sweep<S: Strip>(
     (before, after)
 }
 
-/// Decodes one window between two borders: leaves its new cells in the strip, and gives the forward and
-/// the backward border that it leaves. The strip's width is at least 8 and at most the room.
+/// Decodes one window between two borders: writes its new cells to the strip, and returns the forward border
+/// at its end and the backward border at its start. The strip's width is at least 8 and at most the room.
 pub fn run_window<S: Strip>(
     work: &mut Work,
     alpha_in: &Border,

@@ -1,5 +1,4 @@
-//! Rows of numbers with a lane for each window, as the kernel of windows in lock step and their cells in banks
-//! both have them.
+//! Rows of numbers with a lane for each window, shared by the lock-step kernel and the banks of cells.
 #![tactic(auto)]
 
 pub mod rows;

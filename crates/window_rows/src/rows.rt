@@ -6,7 +6,7 @@ ghost use Rattle.window_rows.specs.Rows.{column, AreWithin, values_of_window};
 
 use lte_bits::Soft;
 
-/// Writes row `j` of values by position, where windows are `width` wide.
+/// Writes row `j` of values given by position, for windows of `width` positions.
 fn lay_row<const N: usize>(values: &[Soft], width: usize, j: usize, row: &mut [i16; N])
     requires long { N * width ≡ length values.now }
     requires step { j < width }
@@ -18,7 +18,7 @@ fn lay_row<const N: usize>(values: &[Soft], width: usize, j: usize, row: &mut [i
     }
 }
 
-/// Writes the rows of N*W values by position, where there are W rows.
+/// Writes the W rows of N*W values given by position.
 pub fn lay_out<const N: usize>(values: &[Soft], rows: &mut [[i16; N]])
     requires { N * length rows.old ≡ length values.now }
     ensures columns { (t : ℕ) → t < N

@@ -1,4 +1,4 @@
-//! Pieces are taken apart, and put together again.
+//! Disassembly of pieces, and their reassembly.
 ghost use Rattle.std.specs.Prelude.{◌≡◌, ◌≤◌, [], length, map, reverse, vec_capacity};
 ghost use Rattle.window_workers.specs.Commons.{HasRooms};
 ghost use Rattle.window_workers.specs.Pieces.{share_of, tools_of, left_of_piece};
@@ -39,9 +39,9 @@ pub(crate) fn take_apart(
     (shares, tools)
 }
 
-/// Puts pieces together, of shares in order and of tools from last to first, and gives the emptied
-/// vectors. `left` has the borders that each window left two halves ago, and `tail` is the border after
-/// the last position.
+/// Assembles pieces from shares in order and tools from last to first, and returns the emptied vectors.
+/// `left` has the borders that each window left two halves ago, and `tail` is the border after the last
+/// position.
 pub(crate) fn put_together(
     pieces: &mut Vec<WindowPiece>,
     shares: Vec<Share<Ext>>,

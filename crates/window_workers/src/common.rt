@@ -39,7 +39,7 @@ pub struct Rooms {
     pub(crate) tools: Vec<Tools>,
 }
 
-/// How far a decoding is.
+/// The stage of a decoding.
 pub enum Stage {
     /// It is in a half.
     Running(Progress, Rooms),

@@ -1,4 +1,4 @@
-//! The worker that does the last window of a half ends the half.
+//! The end of a half, by the worker that runs its last window.
 ghost use Rattle.std.specs.Prelude.{◌≡◌, ◌+◌, ◌%◌, ◌<◌, ◌≤◌, suc, [], length, vec_capacity, IfOk, IfErr};
 ghost use Rattle.cell_shares.specs.Shares.{name_of, cell_values};
 ghost use Rattle.phase_board.specs.Boards.{board_job};
@@ -19,9 +19,8 @@ use phase_board::{Board, Idle, Turning};
 use std::snapshot::Snapshot;
 use window_decode::{CodeResult, Ext};
 
-/// Returns the result, where the decoding of a piece's job ends with `half`, which left these cells: it is
-/// the second half of an iteration, and the check holds or the iteration is the last. Else the progress comes
-/// back.
+/// Returns the result, if the decoding of a piece's job ends with `half` and these cells: `half` is the
+/// second of an iteration, and the check holds or the iteration is the last. Otherwise returns the progress.
 fn decided(
     about: &Snapshot<WindowPiece>,
     progress: Progress,
@@ -50,7 +49,7 @@ fn decided(
     Ok(result_in(fill, bits, iteration, passed))
 }
 
-/// Puts together the pieces of the half after `half`, which left these cells.
+/// Assembles the pieces of the half after `half`, from the cells after `half`.
 fn next_half(
     about: &Snapshot<WindowPiece>,
     pieces: &mut Vec<WindowPiece>,

@@ -19,7 +19,7 @@ use std::alloc::Global;
 use std::snapshot::Snapshot;
 use window_decode::Shape;
 
-/// Lets go of the pieces of a board that wasn't made.
+/// Disposes of the pieces of a board that wasn't made.
 fn discard(about: &Snapshot<WindowPiece>, refused: NewRefused<WindowPiece>)
     requires pieces { AreAllReady (job_of_piece about.now.value) 0 refused.pieces.items }
     requires common { IsCommonOf (job_of_piece about.now.value) 0 refused.common }
@@ -37,7 +37,7 @@ fn discard(about: &Snapshot<WindowPiece>, refused: NewRefused<WindowPiece>)
 }
 
 /// Returns a board at the first half of a code block's decoding, and its first seat. The streams have length
-/// K + 4, and as many fillers as the shape. The board is made last, after all that its pieces need.
+/// K + 4, and as many fillers as the shape. The board is allocated last, after all that its pieces need.
 pub fn open_board(
     alloc: Global,
     streams: &SoftStreams,

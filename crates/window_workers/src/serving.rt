@@ -39,8 +39,8 @@ fn work<G: Gate>(
     }
 }
 
-/// Draws windows and runs them, half after half, until the board is stopped, and gives the seat back. It
-/// allocates nothing, and waits for the windows that other seats have drawn.
+/// Draws windows and runs them, half after half, until the board is stopped, and returns the seat. Allocates
+/// nothing, and waits for the windows that other seats have drawn.
 pub fn serve<R: Wait, G: Gate>(
     rt: &R,
     board: &Board<WindowPiece>,
@@ -57,7 +57,7 @@ pub fn serve<R: Wait, G: Gate>(
         match board.claim(seat) {
             Claim::Taken(working) => seat = work(board, working, gate),
             Claim::NotYet(idle, _) => {
-                // The one that is waited for may be descheduled.
+                // The worker that is waited for may be descheduled.
                 thread::yield_now();
                 seat = idle;
             }

@@ -49,10 +49,10 @@ fn serve_all<R: Threads + Wait + Sync, G: Gate + Sync>(
     board.join_seat(one, two)
 }
 
-/// Decodes a code block with 1 to 16 workers: the result of the first iteration whose check holds, or
-/// else of the last that the shape allows, and the evidence of the board on which they worked. The
-/// streams have length K + 4, and as many fillers as the shape. All memory is taken before a worker
-/// starts. Where no thread can be made, the workers run one after the other.
+/// Decodes a code block with 1 to 16 workers: returns the result of the first iteration whose check holds, or
+/// else of the last that the shape allows, and the evidence of the board on which they worked. The streams
+/// have length K + 4, and as many fillers as the shape. All memory is allocated before a worker starts. If no
+/// thread can be created, the workers run one after the other.
 pub fn decode_block_shared<R: Threads + Wait + Sync, G: Gate + Sync>(
     rt: &R,
     alloc: Global,

@@ -13,8 +13,8 @@ use cell_shares::Share;
 use half_iteration::BordersLeft;
 use window_decode::{Border, Ext, Work, run_window};
 
-/// Runs a window over a share between two borders: gives the share with the new cells, and the borders
-/// that the window leaves.
+/// Runs a window over a share between two borders: returns the share with the new cells, and the window's new
+/// borders.
 fn run_share(
     work: &mut Work,
     view: &WindowView,
