@@ -2,32 +2,32 @@
  * libgomzelat. The crate behind these declarations is proved; the declarations are tested. docs/LIBRARY_C.md says how
  * to build, install and link.
  *
- * Every call but gomzelat_version returns GOMZELAT_DONE or an error code. All arguments are tested, in the order of the
- * codes and transmission after transmission, and the first error is returned. After an error, and where memory runs
- * out, no buffer and no structure of the caller has changed.
+ * Every call but gomzelat_version returns GOMZELAT_DONE or an error code. All arguments are checked, in the order of
+ * the codes and transmission by transmission, and the first error is returned. On error, and if memory runs out, no
+ * buffer or structure of the caller is changed.
  *
  * Bits are packed into bytes, highest bit first. A soft value (LLR) is a number from -127 to 127, positive where 0 is
  * likelier and negative where 1 is; 0 is an erasure, and -128 is taken as -127.
  *
- * A caller owes:
+ * A caller must ensure:
  *
  * - A pointer with a length points to that many items, and may be null where the length is 0. Other pointers are not
  *   null. An output doesn't overlap any other argument.
- * - Arguments don't change during a call. Calls are thread-safe: threads may call at once, and share inputs. No state is
- *   kept between calls, and no call starts a thread.
+ * - Arguments don't change during a call. Calls are thread-safe, and threads may share inputs. No state is kept between
+ *   calls, and no call starts a thread.
  * - malloc, realloc and free are those of one allocator, and may be called: a call frees what it allocates before it
- *   returns. So no call is made from a signal handler, nor in the child that a process of several threads
- *   forked. The caller owns all buffers.
- * - There are 16 kB of stack for a call; as measured, none takes more than 9 kB. Of malloc's memory, as measured,
+ *   returns. So don't call from a signal handler, nor in the forked child of a multi-threaded process. The caller owns
+ *   all buffers.
+ * - There are 16 kB of stack for a call; as measured, none uses more than 9 kB. On the heap, as measured,
  *   gomzelat_receive takes 0.7 MB at most for one transmission of 9,422 bytes in 90,000 bits, and 9 MB for the longest
- *   block in eight transmissions of a million bits; for a million bits gomzelat_demap takes 4 MB, gomzelat_combine 3 MB,
- *   gomzelat_map 2.5 MB and gomzelat_noisy 2 MB; each other call takes less than 1.5 MB (bindings/c/costs.c).
- * - The system is Linux on x86-64, and the processor has the level that the library was compiled for: x86-64-v2 (SSE4.2,
- *   SSSE3, POPCNT), or x86-64-v3 (AVX2 as well), which bindings/build takes on a machine that has it. No call checks
- *   the processor.
+ *   block in eight transmissions of a million bits; for a million bits gomzelat_demap takes 4 MB, gomzelat_combine 3
+ *   MB, gomzelat_map 2.5 MB and gomzelat_noisy 2 MB; each other call takes less than 1.5 MB (bindings/c/costs.c).
+ * - The system is Linux on x86-64, and the processor supports the level that the library was compiled for: x86-64-v2
+ *   (SSE4.2, SSSE3, POPCNT), or x86-64-v3 (AVX2 as well), which bindings/build takes on a machine that has it. No call
+ *   checks the processor.
  *
- * In later editions structures may grow, at their end alone, and there may be more error codes, after these: a program
- * that is compiled anew stays right, and one that was compiled before doesn't load a library of another edition. */
+ * Later editions may extend structures, at their end only, and add error codes, after these: a program that is
+ * recompiled stays correct, and one compiled before doesn't load a library of another edition. */
 #ifndef GOMZELAT_H
 #define GOMZELAT_H
 
@@ -42,8 +42,7 @@
 extern "C" {
 #endif
 
-/* What a call returns. Errors are numbered in the order in which they are tested; those of later versions come after
- * these. */
+/* What a call returns. Errors are numbered in the order in which they are checked; later versions may append more. */
 enum gomzelat_answer {
     GOMZELAT_DONE = 0,
     GOMZELAT_NO_MEMORY = 1, /* memory ran out; only where no argument is in error */
@@ -60,20 +59,20 @@ enum gomzelat_answer {
     GOMZELAT_BAD_SIZE = 12, /* K isn't one of the 188 sizes of a code block */
     GOMZELAT_BAD_FILLERS = 13, /* there are as many fillers as bits, or more */
     GOMZELAT_BAD_CHECK = 14, /* a check is neither GOMZELAT_CRC24A nor GOMZELAT_CRC24B */
-    GOMZELAT_BAD_VALUES = 15, /* there aren't as many soft values as there have to be */
+    GOMZELAT_BAD_VALUES = 15, /* the number of soft values is wrong */
     GOMZELAT_BAD_BITS = 16, /* there are fewer bytes than the bits need */
     GOMZELAT_BAD_AMP = 17, /* the amplitude is 0, or above 127 */
     GOMZELAT_BAD_NOISE = 18, /* the noise is above 127 */
     GOMZELAT_BAD_NUMBER = 19, /* a transmission's number is above 7 */
     GOMZELAT_BAD_SCRAMBLING = 20, /* n_RNTI is above 65,535, q above 1, n_s above 19, or the cell above 503 */
     GOMZELAT_BAD_POINTS = 21, /* the bits are no multiple of Q_m, or a coordinate isn't from -4000 to 4000 */
-    GOMZELAT_SHORT_OUTPUT = 22, /* the buffer for what is written is too short */
+    GOMZELAT_SHORT_OUTPUT = 22, /* the output buffer is too short */
     GOMZELAT_SHORT_CELLS = 23, /* there are fewer soft cells than gomzelat_sizes says */
     GOMZELAT_SHORT_BLOCKS = 24, /* there are fewer entries than code blocks */
     GOMZELAT_SHORT_BITS = 25 /* there are fewer bytes than the code blocks have bits */
 };
 
-/* Returns the text of an answer. */
+/* Returns the text of a return code. */
 static inline const char *gomzelat_text(uint32_t answer) {
     switch (answer) {
     case GOMZELAT_DONE: return "done";
@@ -130,17 +129,17 @@ struct gomzelat_transmission {
  * low bits 0; the bytes after them are unchanged.
  *
  * `payload`, `length`: the transport block, 1 to GOMZELAT_MOST_BYTES bytes.
- * `n_ir`: N_IR, the soft values of the receiver's buffer for the transport block, or 0 for a full buffer. The part of a
- * code block, N_IR / C rounded down, has to hold the first stream of the largest block: 32 times the rows of its
+ * `n_ir`: N_IR, the soft values of the receiver's buffer for the transport block, or 0 for a full buffer. A code
+ * block's share, N_IR / C rounded down, must hold the first stream of the largest block: 32 times the rows of its
  * sub-block interleaver.
  *
  * Refused: BAD_LENGTH, BAD_QM, BAD_NL, BAD_G, BAD_VERSION, BAD_BUFFER, SHORT_OUTPUT. */
 uint32_t gomzelat_codeword(const uint8_t *payload, size_t length, struct gomzelat_transmission transmission,
                            uint32_t n_ir, uint8_t *out, size_t room);
 
-/* Writes the codewords of `count` transmissions, 1 to GOMZELAT_MOST_TRANSMISSIONS, with one soft buffer, from one
- * coding of the transport block: to `out`, of `room` bytes, one after the other, each in GOMZELAT_BYTES(G) bytes of its
- * own as gomzelat_codeword writes it; the bytes after them are unchanged.
+/* Writes the codewords of `count` transmissions, 1 to GOMZELAT_MOST_TRANSMISSIONS, with one soft buffer, encoding the
+ * transport block once: to `out`, of `room` bytes, one after the other, each in its own GOMZELAT_BYTES(G) bytes as
+ * gomzelat_codeword writes it; the bytes after them are unchanged.
  *
  * Refused: BAD_LENGTH, BAD_COUNT, BAD_QM, BAD_NL, BAD_G, BAD_VERSION, BAD_BUFFER, SHORT_OUTPUT. */
 uint32_t gomzelat_codewords(const uint8_t *payload, size_t length, const struct gomzelat_transmission *transmissions,
@@ -157,7 +156,7 @@ struct gomzelat_plan {
     size_t f;
 };
 
-/* Writes to `plan` how a payload of `length` bytes is cut. Refused: BAD_LENGTH. */
+/* Writes the plan of a payload of `length` bytes to `plan`. Refused: BAD_LENGTH. */
 uint32_t gomzelat_plan(size_t length, struct gomzelat_plan *plan);
 
 /* Writes the K bits of code block `r`, counted from 0, to `out`: each 0 or 1 in a byte, fillers 0, with all check bits.
@@ -207,10 +206,9 @@ uint32_t gomzelat_select(const uint8_t *payload, size_t length, size_t r, struct
 uint32_t gomzelat_crc24a(const uint8_t *bits, size_t count, uint8_t *out, size_t room);
 uint32_t gomzelat_crc24b(const uint8_t *bits, size_t count, uint8_t *out, size_t room);
 
-/* How a receiver decodes. A code block of K bits has the greatest number of windows up to `windows` that divides K and
- * leaves each of them 8 bits. 8, 16 and 32 of them run in lock step, which is fastest: 8 for every K from 64 on, 16 from
- * 512 on, 32 from 1,024 on. More windows decode a little worse: each knows
- * less of the bits beyond its borders. */
+/* How a receiver decodes. A code block of K bits has the greatest number of windows up to `windows` that divides K,
+ * with at least 8 bits in each. 8, 16 and 32 windows run in lock step, which is fastest: 8 for every K from 64 on, 16
+ * from 512 on, 32 from 1,024 on. More windows decode a little worse: each knows less of the bits beyond its borders. */
 struct gomzelat_receiver {
     uint32_t n_ir;    /* N_IR, as for gomzelat_codeword; 0 is a full buffer */
     uint32_t windows; /* the most windows of a code block: 1 to 64 */
@@ -221,21 +219,21 @@ struct gomzelat_receiver {
 struct gomzelat_outcome {
     uint32_t delivered;   /* 1 where all checks held, else 0 */
     size_t transmissions; /* up to the first after which all checks held, else all */
-    size_t iterations;    /* of all code blocks, in the decoding of each that was the last */
+    size_t iterations;    /* the sum over the code blocks, of each one's last decoding */
 };
 
 /* Receives a transport block of `length` bytes from `count` transmissions, 1 to GOMZELAT_MOST_TRANSMISSIONS, which
  * share one soft buffer. After each, in order, the code blocks that haven't passed are decoded; it ends with the first
- * after which all checks hold. Writes to `outcome`, and, where the block was delivered, its bytes to `payload`, of
+ * after which all checks hold. Writes to `outcome`, and, if the block was delivered, its bytes to `payload`, of
  * `room` bytes, at least `length`.
  *
  * `values`, `amount`: the soft values of all transmissions, one transmission after the other, as many as they have
  * bits.
  *
- * THE ZERO BLOCK. Where what is received has little but parity bits (redundancy version 2 or 3 comes first, and the
- * payload has more bits than were sent), the decoder tends to all zeros, whose checks hold: a block of zeros
- * may be delivered that wasn't sent, far more often than checks of 24 bits hold by chance. So a payload of zeros isn't
- * to be trusted there: wait for a transmission that has the systematic bits (redundancy version 0).
+ * THE ZERO BLOCK. If little but parity bits was received (redundancy version 2 or 3 comes first, and the payload has
+ * more bits than were sent), the decoder tends to all zeros, whose checks hold: an all-zero block may be delivered that
+ * wasn't sent, far more often than 24-bit checks hold by chance. Don't trust an all-zero payload there: wait for a
+ * transmission that has the systematic bits (redundancy version 0).
  *
  * Refused: BAD_LENGTH, BAD_COUNT, BAD_QM, BAD_NL, BAD_G, BAD_VERSION, BAD_BUFFER, BAD_WINDOWS, BAD_LIMIT, BAD_VALUES,
  * SHORT_OUTPUT. */
@@ -243,29 +241,29 @@ uint32_t gomzelat_receive(size_t length, const struct gomzelat_transmission *tra
                           struct gomzelat_receiver receiver, const int8_t *values, size_t amount,
                           uint8_t *payload, size_t room, struct gomzelat_outcome *outcome);
 
-/* ---- A reception call by call, where one transmission comes after the other: the caller keeps the state between
- * calls, in three arrays of its own. All are 0 before the first transmission, and there is nothing to be freed. After
- * each transmission gomzelat_combine adds its soft values to the cells, and gomzelat_decode decodes the code blocks
- * that haven't passed. A caller that goes on until a transport block is delivered gets just what gomzelat_receive
- * gives for the same transmissions. Any content of the arrays is valid: they may be saved, copied and made by hand. */
+/* ---- HARQ combining, one transmission at a time: the caller keeps the state between calls, in three arrays that it
+ * owns. All are 0 before the first transmission, and there is nothing to free. After each transmission gomzelat_combine
+ * adds its soft values to the cells, and gomzelat_decode decodes the code blocks that haven't passed. A caller that
+ * continues until a transport block is delivered gets the outcome of gomzelat_receive for the same transmissions. Any
+ * content of the arrays is valid: they may be saved, copied and edited. */
 
-/* How many soft cells, entries of code blocks and bits are kept of a transport block. */
+/* The array sizes for a transport block: soft cells, entries of code blocks, bits. */
 struct gomzelat_sizes {
     size_t cells;  /* for each bit of the three coded streams of each code block: 3 * (K + 4) of each */
     size_t blocks; /* C */
     size_t bits;   /* K of each code block */
 };
 
-/* Writes to `sizes` how much is kept of a transport block of `length` bytes. Refused: BAD_LENGTH. */
+/* Writes the array sizes for a transport block of `length` bytes to `sizes`. Refused: BAD_LENGTH. */
 uint32_t gomzelat_sizes(size_t length, struct gomzelat_sizes *sizes);
 
-/* Adds the soft values of one transmission to the soft cells of a transport block of `length` bytes: each to the cell of
- * the bit that was sent at its place. A sum is from -127 to 127 after each addition.
+/* Adds the soft values of one transmission to the soft cells of a transport block of `length` bytes: each to the cell
+ * of the bit that was sent at its place. Each addition saturates at -127 and 127.
  *
  * `n_ir`: as for gomzelat_codeword.
  * `values`, `amount`: a soft value for each of the transmission's bits.
- * `cells`, `room`: the cells, as many as gomzelat_sizes says or more, of which the others are unchanged. Block
- * after block they are those of d0, of d1 and of d2. -128 is taken as -127.
+ * `cells`, `room`: the cells, as many as gomzelat_sizes says or more; any further ones are unchanged. For each block:
+ * d0, then d1, then d2. -128 is taken as -127.
  *
  * Refused: BAD_LENGTH, BAD_QM, BAD_NL, BAD_G, BAD_VERSION, BAD_BUFFER, BAD_VALUES, SHORT_CELLS. */
 uint32_t gomzelat_combine(size_t length, struct gomzelat_transmission transmission, uint32_t n_ir,
@@ -277,17 +275,17 @@ struct gomzelat_result {
     size_t iterations; /* that its last decoding took */
 };
 
-/* Decodes the code blocks of a transport block of `length` bytes from its soft cells, except those whose entry says
- * that they passed; where all entries do, the check of the transport block had failed, so that all are decoded.
+/* Decodes the code blocks of a transport block of `length` bytes from its soft cells, except those whose entry is
+ * marked as passed; if all entries are, the transport block's check had failed, so all are decoded.
  *
  * `cells`, `amount`: as gomzelat_combine wrote them.
  * `blocks`, `count`: an entry for each code block: its outcome in the call before, and after this call its outcome now.
  * `bits`, `extent`: a byte 0 or 1 for each bit of the code blocks, one block after the other, fillers and check bits
- * included: before the call those of the call before, and after it the decided ones, also of blocks that failed. Any
- * byte but 0 is read as 1.
+ * included: in, those of the previous call; out, the decided ones, also of blocks that failed. Any byte but 0 is read
+ * as 1.
  * `payload`, `room`: the bytes that these bits carry are written here, whether or not the checks hold.
- * `delivered`: 1 where the checks of all code blocks and of the transport block hold, else 0. A payload of zeros from
- * little but parity bits isn't to be trusted: see THE ZERO BLOCK at gomzelat_receive.
+ * `delivered`: 1 where the checks of all code blocks and of the transport block hold, else 0. Don't trust an all-zero
+ * payload from little but parity bits: see THE ZERO BLOCK at gomzelat_receive.
  *
  * Refused: BAD_LENGTH, BAD_BUFFER, BAD_WINDOWS, BAD_LIMIT, SHORT_OUTPUT, SHORT_CELLS, SHORT_BLOCKS, SHORT_BITS. */
 uint32_t gomzelat_decode(size_t length, struct gomzelat_receiver receiver, const int8_t *cells, size_t amount,
@@ -324,8 +322,8 @@ struct gomzelat_channel {
 
 /* Writes to `out`, of `room` values, a soft value for each of the first `count` bits of `bits`, which has `length`
  * bytes: its amplitude and a term of noise, clamped. The term of a bit comes from the seed, from `block` and `number`,
- * those of the block and of its transmission, from 0, and from its place. The program's `channel` and `trial` make
- * the same.
+ * those of the block and of its transmission, from 0, and from its place. The program's `channel` and `trial` do the
+ * same.
  *
  * Refused: BAD_BITS, BAD_AMP, BAD_NOISE, BAD_NUMBER, SHORT_OUTPUT. */
 uint32_t gomzelat_noisy(const uint8_t *bits, size_t length, size_t count, struct gomzelat_channel channel,
@@ -335,8 +333,8 @@ uint32_t gomzelat_noisy(const uint8_t *bits, size_t length, size_t count, struct
  * does. Refused: BAD_LENGTH. */
 uint32_t gomzelat_trial_payload(uint64_t seed, uint32_t block, uint8_t *out, size_t length);
 
-/* ---- Between the bits of a codeword and what is sent (36.211): scrambling and modulation. The calls are independent: a
- * caller with another channel takes those that it needs. */
+/* ---- Between the bits of a codeword and what is sent (36.211): scrambling and modulation. The calls are independent:
+ * a caller with another channel uses those that it needs. */
 
 /* The numbers of a scrambling sequence. */
 struct gomzelat_scrambling {
@@ -367,9 +365,9 @@ struct gomzelat_point {
     int32_t q;
 };
 
-/* Writes to `points`, of `room` points, the count / Q_m points as which the first `count` bits of `bits` are sent, Q_m
- * bits each; `bits` has `length` bytes. Their coordinates are odd numbers from -1 to 1, -3 to 3 or -7 to 7: those of
- * 36.211 7.1.2 to 7.1.4, times the square root of 2, 10 or 42.
+/* Maps the first `count` bits of `bits`, which has `length` bytes, to count / Q_m points, Q_m bits each: to `points`,
+ * of `room` points. Their coordinates are odd numbers from -1 to 1, -3 to 3 or -7 to 7: those of 36.211 7.1.2 to 7.1.4,
+ * times the square root of 2, 10 or 42.
  *
  * `qm`: Q_m, 2 (QPSK), 4 (16QAM) or 6 (64QAM).
  * `count`: a multiple of Q_m.
@@ -378,9 +376,9 @@ struct gomzelat_point {
 uint32_t gomzelat_map(const uint8_t *bits, size_t length, size_t count, uint32_t qm, struct gomzelat_point *points,
                       size_t room);
 
-/* Writes to `out`, of `room` values, the Q_m soft values of each of `count` received points. A bit's value is by how
- * much the nearest point whose bit is 1 is further than the nearest whose bit is 0, in squared distances, divided by
- * four times the amplitude, rounded toward 0, and clamped to -127 to 127.
+/* Writes to `out`, of `room` values, the Q_m soft values of each of `count` received points. A bit's value is the
+ * squared distance to the nearest point whose bit is 1, less that to the nearest whose bit is 0, divided by four times
+ * the amplitude, rounded toward 0, and clamped to -127 to 127.
  *
  * `points`: coordinates from -4000 to 4000, those of gomzelat_map times the amplitude where there is no noise.
  * `qm`: Q_m, 2, 4 or 6.
@@ -393,8 +391,7 @@ uint32_t gomzelat_demap(const struct gomzelat_point *points, size_t count, uint3
 /* The edition of these declarations. */
 #define GOMZELAT_VERSION 2
 
-/* Returns the edition of the library, to be compared with that of the header before any other call. It is no error
- * code. */
+/* Returns the library's edition, to be compared with the header's before any other call. It isn't an error code. */
 uint32_t gomzelat_version(void);
 
 #ifdef __cplusplus

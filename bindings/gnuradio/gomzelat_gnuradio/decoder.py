@@ -1,4 +1,4 @@
-"""A block that makes payloads of soft values."""
+"""A block that decodes payloads from soft values."""
 
 from __future__ import annotations
 
@@ -16,11 +16,11 @@ class Decoder(gr.basic_block):
     """PDUs of soft values to PDUs of bytes.
 
     A PDU is one transmission: int8 soft values, positive where 0 is likelier, or floats, which are quantised. Its
-    metadata `rv` is its redundancy version, else 0. One with `new` begins a payload, as one does after a payload that
-    was delivered; the others are combined with those before.
+    metadata `rv` is its redundancy version, by default 0. One with `new` starts a new payload, as does one after a
+    delivered payload; the others are combined with those before.
 
-    After each transmission a PDU leaves: the bytes as they are decided, with the metadata of the transmission, and
-    `delivered`, whether all checks held, `transmissions`, how many there were so far, and `iterations`.
+    After each transmission a PDU is emitted: the decided bytes, with the metadata of the transmission, and `delivered`,
+    whether all checks held, `transmissions`, how many there were so far, and `iterations`.
 
     Parameters
     ----------
@@ -29,8 +29,7 @@ class Decoder(gr.basic_block):
     g, qm, nl, n_ir : int
         As the encoder's.
     scale : float
-        What a float of 1 becomes; negative where those above 0 say that 1 is likelier, as GNU Radio's soft decoders
-        have it.
+        What a float of 1 becomes; negative if those above 0 mean that 1 is likelier, as in GNU Radio's soft decoders.
     windows, limit : int
         The most windows and iterations of a code block.
     """

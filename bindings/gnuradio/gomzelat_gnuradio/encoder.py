@@ -1,4 +1,4 @@
-"""A block that makes bits of payloads."""
+"""A block that encodes payloads to bits."""
 
 from __future__ import annotations
 
@@ -13,7 +13,7 @@ from gomzelat import Transmission, codewords
 
 
 class Encoder(gr.basic_block):
-    """PDUs of bytes to PDUs of bits, 0 or 1 in a byte: for each payload one PDU a redundancy version.
+    """PDUs of bytes to PDUs of bits, 0 or 1 in a byte: for each payload one PDU per redundancy version.
 
     The metadata are those of the payload, and `rv`, the redundancy version, and `new`, whether it is the first of its
     payload.

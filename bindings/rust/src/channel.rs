@@ -4,12 +4,12 @@ use crate::error::done;
 use crate::types::Channel;
 use crate::{ffi, Error, MOST_BYTES};
 
-/// A soft value for each of the first `count` bits, as the channel makes them of transmission `number`, 0 to 7, of a
+/// A soft value for each of the first `count` bits, sent through the channel as transmission `number`, 0 to 7, of a
 /// block, both counted from 0.
 ///
 /// # Errors
 ///
-/// `BadBits`, `BadAmp`, `BadNoise` or `BadNumber` for what is refused, the first in this order; `NoMemory`.
+/// `BadBits`, `BadAmp`, `BadNoise` or `BadNumber` for invalid arguments, the first in this order; `NoMemory`.
 ///
 /// # Examples
 ///

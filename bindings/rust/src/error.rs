@@ -1,8 +1,8 @@
-//! Why a call gives nothing.
+//! The errors of calls.
 
 use std::fmt;
 
-/// What is refused, or that memory ran out. A later version of the library may refuse more.
+/// An invalid argument, or that memory ran out. Later versions of the library may add errors.
 ///
 /// # Examples
 ///
@@ -44,7 +44,7 @@ pub enum Error {
     BadFillers,
     /// The check of a code block is neither CRC24A nor CRC24B.
     BadCheck,
-    /// There aren't as many soft values as there have to be.
+    /// The number of soft values is wrong.
     BadValues,
     /// There are fewer bytes than the bits need.
     BadBits,
@@ -58,7 +58,7 @@ pub enum Error {
     BadScrambling,
     /// The bits are no multiple of Q_m, or a coordinate isn't from -4000 to 4000.
     BadPoints,
-    /// A buffer is too short for what is written.
+    /// An output buffer is too short.
     ShortOutput,
     /// There are fewer soft cells than the code blocks have.
     ShortCells,
@@ -66,11 +66,11 @@ pub enum Error {
     ShortBlocks,
     /// There are fewer bytes than the code blocks have bits.
     ShortBits,
-    /// The library answered a number that this crate doesn't know: it is of another version.
+    /// The library returned a code that this crate doesn't know: it is of another version.
     Unknown(u32),
 }
 
-/// What the library's answer says.
+/// The result for a return code.
 pub(crate) fn done(answer: u32) -> Result<(), Error> {
     Err(match answer {
         0 => return Ok(()),

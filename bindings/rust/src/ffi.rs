@@ -37,7 +37,7 @@ pub struct Sizes {
     pub bits: usize,
 }
 
-/// What a code block came to. The library takes any number but 0 for one that passed.
+/// The result of a code block. The library takes any number but 0 as passed.
 #[repr(C)]
 #[derive(Clone, Copy, Debug, Default)]
 pub struct Block {

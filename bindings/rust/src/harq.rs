@@ -1,10 +1,10 @@
-//! A reception call by call, where one transmission comes after the other.
+//! HARQ combining: reception one transmission at a time.
 
 use crate::error::done;
 use crate::types::{Receiver, Transmission};
 use crate::{ffi, Error};
 
-/// What is known of a transport block between its transmissions: soft cells, and what its code blocks came to.
+/// The state of a transport block between its transmissions: soft buffer, and the results of its code blocks.
 ///
 /// # Examples
 ///
@@ -35,7 +35,7 @@ pub struct Harq {
     payload: Vec<u8>,
 }
 
-/// What a try came to. [`Harq::decode`] has an example.
+/// The result of a decoding attempt. [`Harq::decode`] has an example.
 #[derive(Clone, Copy, Debug, PartialEq, Eq)]
 pub struct Try<'a> {
     /// Whether the checks of all code blocks and of the transport block hold.
@@ -44,14 +44,14 @@ pub struct Try<'a> {
     pub payload: &'a [u8],
     /// The decided bits of all code blocks, one block after the other, each 0 or 1.
     pub bits: &'a [u8],
-    /// The iterations of all code blocks, in the decoding of each that was the last.
+    /// The iterations of all code blocks, of each one's last decoding.
     pub iterations: usize,
     /// The code blocks whose checks don't hold.
     pub failed_blocks: usize,
 }
 
 impl Harq {
-    /// A transport block of `length` bytes, 1 to 18,722, of which nothing was received yet.
+    /// The state for a transport block of `length` bytes, 1 to 18,722, with nothing received.
     ///
     /// # Errors
     ///
@@ -85,8 +85,8 @@ impl Harq {
     ///
     /// # Errors
     ///
-    /// `BadQm`, `BadNl`, `BadG`, `BadVersion`, `BadBuffer` or `BadValues` for what is refused, the first in this order;
-    /// `NoMemory`. Nothing is added then.
+    /// `BadQm`, `BadNl`, `BadG`, `BadVersion`, `BadBuffer` or `BadValues` for invalid arguments, the first in this
+    /// order; `NoMemory`. On error nothing is added.
     ///
     /// # Examples
     ///
@@ -114,11 +114,11 @@ impl Harq {
         })
     }
 
-    /// Decodes the code blocks that haven't passed; where all have, but not the transport block, all of them.
+    /// Decodes the code blocks that haven't passed; if all have, but not the transport block, all of them.
     ///
     /// # Errors
     ///
-    /// `BadBuffer`, `BadWindows` or `BadLimit` for what is refused, the first in this order; `NoMemory`.
+    /// `BadBuffer`, `BadWindows` or `BadLimit` for invalid arguments, the first in this order; `NoMemory`.
     ///
     /// # Examples
     ///

@@ -1,8 +1,8 @@
 //! The coding chain of LTE transport blocks (3GPP TS 36.212 5.1.1 to 5.1.5), with a receiver and a channel: safe calls
-//! over a library that is proved. What each call gives is what the library's contracts say; this crate hands buffers
-//! over and names the answers.
+//! over a library that is proved. The library's contracts define what each call returns; this crate passes buffers and
+//! maps error codes.
 //!
-//! Bits stand in bytes with the highest bit first. A soft value is a number from -127 to 127, positive where 0 is
+//! Bits are packed into bytes, highest bit first. A soft value (LLR) is a number from -127 to 127, positive where 0 is
 //! likelier; -128 is taken as -127.
 //!
 //! ```
@@ -38,7 +38,7 @@ pub use types::{Buffer, Channel, Outcome, Plan, Receiver, Transmission};
 
 use error::done;
 
-/// The bytes of the greatest transport block.
+/// The bytes of the largest transport block.
 pub const MOST_BYTES: usize = 18_722;
 
 /// The bits of the longest transmission.
@@ -53,7 +53,7 @@ fn bytes_of(g: u32) -> usize {
 ///
 /// # Errors
 ///
-/// `BadLength`, `BadQm`, `BadNl`, `BadG`, `BadVersion` or `BadBuffer` for what is refused, the first in this order;
+/// `BadLength`, `BadQm`, `BadNl`, `BadG`, `BadVersion` or `BadBuffer` for invalid arguments, the first in this order;
 /// `NoMemory`.
 ///
 /// # Examples
@@ -86,12 +86,12 @@ pub fn codeword(
     Ok(out)
 }
 
-/// The codewords of one to eight transmissions, from one coding of the payload.
+/// The codewords of one to eight transmissions, encoding the payload once.
 ///
 /// # Errors
 ///
-/// `BadLength`, `BadCount`, `BadQm`, `BadNl`, `BadG`, `BadVersion` or `BadBuffer` for what is refused, the first in this
-/// order; `NoMemory`.
+/// `BadLength`, `BadCount`, `BadQm`, `BadNl`, `BadG`, `BadVersion` or `BadBuffer` for invalid arguments, the first in
+/// this order; `NoMemory`.
 ///
 /// # Examples
 ///
@@ -131,7 +131,7 @@ pub fn codewords(
     Ok(sizes.map(next).collect())
 }
 
-/// The edition of the library that is linked. This crate is written for the second.
+/// The edition of the linked library. This crate is written for edition 2.
 ///
 /// # Examples
 ///
@@ -163,13 +163,13 @@ pub fn plan(length: usize) -> Result<Plan, Error> {
     Ok(plan)
 }
 
-/// What the transmissions of a transport block of `length` bytes come to, one to eight with one soft buffer. `values`
+/// Receives a transport block of `length` bytes from one to eight transmissions, which share one soft buffer. `values`
 /// has the G soft values of each, one transmission after the other.
 ///
 /// # Errors
 ///
 /// `BadLength`, `BadCount`, `BadQm`, `BadNl`, `BadG`, `BadVersion`, `BadBuffer`, `BadWindows`, `BadLimit` or
-/// `BadValues` for what is refused, the first in this order, and transmission after transmission; `NoMemory`.
+/// `BadValues` for invalid arguments, the first in this order, and transmission after transmission; `NoMemory`.
 ///
 /// # Examples
 ///

@@ -3,7 +3,7 @@
 use crate::error::done;
 use crate::{ffi, Error};
 
-/// What the bits of a transmission are scrambled by. [`scrambling_init`] has an example.
+/// The parameters of a scrambling sequence. [`scrambling_init`] has an example.
 #[repr(C)]
 #[derive(Clone, Copy, Debug, PartialEq, Eq, Hash)]
 pub struct Scrambling {
@@ -27,7 +27,7 @@ pub struct Point {
     pub q: i32,
 }
 
-/// c_init, the number that the scrambling sequence begins with (6.3.1).
+/// c_init, which initialises the scrambling sequence (6.3.1).
 ///
 /// # Errors
 ///
@@ -48,11 +48,11 @@ pub fn scrambling_init(scrambling: Scrambling) -> Result<u32, Error> {
     Ok(init)
 }
 
-/// Scrambles the first `count` bits where they stand; unused low bits of their last byte become 0.
+/// Scrambles the first `count` bits in place; unused low bits of their last byte become 0.
 ///
 /// # Errors
 ///
-/// `BadBits` or `BadScrambling` for what is refused, the first in this order; `NoMemory`.
+/// `BadBits` or `BadScrambling` for invalid arguments, the first in this order; `NoMemory`.
 ///
 /// # Examples
 ///
@@ -69,7 +69,7 @@ pub fn scramble(bits: &mut [u8], count: usize, scrambling: Scrambling) -> Result
     done(unsafe { ffi::gomzelat_scramble(bits.as_mut_ptr(), bits.len(), count, scrambling) })
 }
 
-/// Turns soft values of scrambled bits, where they stand, into those of the bits before.
+/// Descrambles soft values of scrambled bits in place.
 ///
 /// # Errors
 ///
@@ -90,11 +90,11 @@ pub fn descramble(values: &mut [i8], scrambling: Scrambling) -> Result<(), Error
     done(unsafe { ffi::gomzelat_descramble(values.as_mut_ptr(), values.len(), scrambling) })
 }
 
-/// The points as which the first `count` bits are sent, Q_m bits each: odd coordinates, up to 1, 3 or 7.
+/// Maps the first `count` bits to points, Q_m bits each: odd coordinates, up to 1, 3 or 7.
 ///
 /// # Errors
 ///
-/// `BadQm`, `BadBits` or `BadPoints` for what is refused, the first in this order; `NoMemory`.
+/// `BadQm`, `BadBits` or `BadPoints` for invalid arguments, the first in this order; `NoMemory`.
 ///
 /// # Examples
 ///
@@ -126,7 +126,7 @@ pub fn map(bits: &[u8], count: usize, qm: u32) -> Result<Vec<Point>, Error> {
 ///
 /// # Errors
 ///
-/// `BadQm`, `BadAmp` or `BadPoints` for what is refused, the first in this order; `NoMemory`.
+/// `BadQm`, `BadAmp` or `BadPoints` for invalid arguments, the first in this order; `NoMemory`.
 ///
 /// # Examples
 ///

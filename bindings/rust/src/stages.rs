@@ -1,11 +1,10 @@
-//! The stages of the chain one by one, for whoever looks for the one at which a codec of their own differs (36.212 5.1.1
-//! to 5.1.4).
+//! The stages of the chain one by one, to find where another codec differs (36.212 5.1.1 to 5.1.4).
 
 use crate::error::done;
 use crate::types::{Buffer, Transmission};
 use crate::{ffi, plan, Error};
 
-/// What a code block sends of its circular buffer (36.212 5.1.4.1.2). [`piece`] has an example.
+/// The part of its circular buffer that a code block sends (36.212 5.1.4.1.2). [`piece`] has an example.
 #[repr(C)]
 #[derive(Clone, Copy, Debug, Default, PartialEq, Eq, Hash)]
 pub struct Piece {
@@ -32,7 +31,7 @@ pub enum Check {
     Crc24B,
 }
 
-/// What one code block came to. [`decode_block`] has an example.
+/// The result of decoding one code block. [`decode_block`] has an example.
 #[derive(Clone, Debug, PartialEq, Eq, Hash)]
 pub struct DecodedBlock {
     /// Its bits, each 0 or 1, whether or not its check holds.
@@ -58,7 +57,7 @@ fn block_size(length: usize, r: usize) -> usize {
 ///
 /// # Errors
 ///
-/// `BadLength` or `BadBlock` for what is refused, the first in this order; `NoMemory`.
+/// `BadLength` or `BadBlock` for invalid arguments, the first in this order; `NoMemory`.
 ///
 /// # Examples
 ///
@@ -86,7 +85,7 @@ pub fn code_block(payload: &[u8], r: usize) -> Result<Vec<u8>, Error> {
 ///
 /// # Errors
 ///
-/// `BadLength` or `BadBlock` for what is refused, the first in this order; `NoMemory`.
+/// `BadLength` or `BadBlock` for invalid arguments, the first in this order; `NoMemory`.
 ///
 /// # Examples
 ///
@@ -118,12 +117,11 @@ pub fn streams(payload: &[u8], r: usize) -> Result<[Vec<Option<u8>>; 3], Error> 
     Ok([0, 1, 2].map(|stream| cells(&out[stream * size..][..size])))
 }
 
-/// Which bit stands at each place of the circular buffer of code block `r`: its stream and its index, or `None` at a
-/// NULL.
+/// The bit at each place of the circular buffer of code block `r`: its stream and its index, or `None` at a NULL.
 ///
 /// # Errors
 ///
-/// `BadLength` or `BadBlock` for what is refused, the first in this order; `NoMemory`.
+/// `BadLength` or `BadBlock` for invalid arguments, the first in this order; `NoMemory`.
 ///
 /// # Examples
 ///
@@ -206,7 +204,7 @@ pub fn select(
     Ok(out)
 }
 
-/// The 24 check bits of bits, of which any byte but 0 is a 1.
+/// The 24 check bits of `bits`, where any byte but 0 is a 1.
 ///
 /// # Errors
 ///
@@ -232,12 +230,12 @@ pub fn check_bits(bits: &[u8], check: Check) -> Result<[u8; 24], Error> {
     Ok(out)
 }
 
-/// Decodes one code block of `k` bits, of which `fill` are fillers, from the 3 (K + 4) soft values of its coded streams,
-/// in at most so many windows and iterations.
+/// Decodes one code block of `k` bits, of which `fill` are fillers, from the 3 (K + 4) soft values of its coded
+/// streams, in at most `windows` windows and `limit` iterations.
 ///
 /// # Errors
 ///
-/// `BadSize`, `BadFillers`, `BadWindows`, `BadLimit` or `BadValues` for what is refused, the first in this order;
+/// `BadSize`, `BadFillers`, `BadWindows`, `BadLimit` or `BadValues` for invalid arguments, the first in this order;
 /// `NoMemory`.
 ///
 /// # Examples

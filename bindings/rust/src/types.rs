@@ -1,4 +1,4 @@
-//! What calls are told, and what they give.
+//! The types of arguments and results.
 
 use std::num::NonZeroU32;
 
@@ -75,7 +75,7 @@ pub struct Plan {
     pub c_plus: usize,
     /// C-, how many of the smaller there are.
     pub c_minus: usize,
-    /// F, the fillers, which stand first in the first code block.
+    /// F, the fillers, which come first in the first code block.
     pub f: usize,
 }
 
@@ -99,8 +99,8 @@ pub struct Receiver {
     pub limit: u32,
 }
 
-/// What transmissions came to. `iterations` is the sum over the code blocks of those that each took when it was last
-/// decoded.
+/// The outcome of transmissions. `iterations` is the sum over the code blocks of the iterations of each one's last
+/// decoding.
 ///
 /// # Examples
 ///
@@ -112,7 +112,7 @@ pub struct Receiver {
 /// ```
 #[derive(Clone, Debug, PartialEq, Eq, Hash)]
 pub enum Outcome {
-    /// All checks held after so many transmissions, and not before.
+    /// All checks held after this many transmissions, and not before.
     Delivered {
         /// Its bytes.
         payload: Vec<u8>,
@@ -121,7 +121,7 @@ pub enum Outcome {
         /// The iterations of all code blocks.
         iterations: usize,
     },
-    /// The checks held after none of so many transmissions.
+    /// The checks held after none of the transmissions.
     Failed {
         /// How many.
         transmissions: usize,
@@ -130,7 +130,7 @@ pub enum Outcome {
     },
 }
 
-/// A channel of whole numbers, which is the same on every machine.
+/// An integer channel, which is the same on every machine.
 ///
 /// # Examples
 ///
@@ -141,10 +141,10 @@ pub enum Outcome {
 #[repr(C)]
 #[derive(Clone, Copy, Debug, PartialEq, Eq, Hash)]
 pub struct Channel {
-    /// What the noise comes from.
+    /// The seed of the noise.
     pub seed: u64,
     /// The soft value of a bit 0: 1 to 127. That of a bit 1 is its negative.
     pub amp: u32,
-    /// The standard deviation of the noise, nearly: 0 to 127.
+    /// The approximate standard deviation of the noise: 0 to 127.
     pub noise: u32,
 }

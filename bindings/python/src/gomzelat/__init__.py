@@ -1,12 +1,11 @@
 """The turbo coding chain of LTE transport blocks, 3GPP TS 36.212 5.1.1 to 5.1.5, with a receiver and a channel.
 
-Calls over libgomzelat.so, which is proved to do what is said of it. Bytes, bits and soft values are numpy arrays, or
-whatever has the array interface; what is read isn't copied. Bits stand in bytes with the highest first, or one in an
-item where that is said. A soft value is a number from -127 to 127, positive where 0 is likelier.
+Calls of libgomzelat.so, which is proved. Bytes, bits and soft values are numpy arrays, or objects with the array
+interface; contiguous inputs aren't copied. Bits are packed into bytes, highest first, or one per item where stated. A
+soft value (LLR) is a number from -127 to 127, positive where 0 is likelier.
 
-What is out of range raises `Refused`, with the number that C's callers get, and running out of memory `MemoryError`.
-The interpreter's lock is open during a call, so that threads decode at once: what is passed must not be changed
-meanwhile.
+An argument out of range raises `Refused`, with the error code of the C library, and running out of memory
+`MemoryError`. Calls release the GIL, so threads decode in parallel: don't change arguments during a call.
 """
 
 from .arrays import pack, unpack

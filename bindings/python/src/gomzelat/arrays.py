@@ -1,4 +1,4 @@
-"""What callers pass, as arrays that a call of C can be given."""
+"""Arguments as arrays that can be passed to C."""
 
 from __future__ import annotations
 
@@ -62,7 +62,7 @@ def _of(data: Any, kind: np.dtype[Any], name: str, wanted: str) -> npt.NDArray[A
 
 
 def _of_list(data: Sequence[Any], kind: np.dtype[Any], name: str, wanted: str) -> npt.NDArray[Any]:
-    """Returns the whole numbers of a sequence as an array, and refuses those that its type has no place for."""
+    """Returns the whole numbers of a sequence as an array, and refuses those that don't fit its type."""
     given = np.asarray(data)
     if given.size and given.dtype.kind not in "iu":
         # Some are no whole numbers, or too great for each type of numpy.
@@ -108,7 +108,7 @@ def _whole(value: Any) -> int:
 
 
 def within(value: Any, bits: int) -> int:
-    """Returns a number of so many bits, of which the library refuses none, and refuses any other here."""
+    """Returns a number of so many bits, each of which the library accepts, and refuses any other here."""
     whole = _whole(value)
     if not 0 <= whole < 2**bits:
         raise Refused(Answer.OUT_OF_RANGE)
@@ -116,8 +116,8 @@ def within(value: Any, bits: int) -> int:
 
 
 def number(value: Any, bits: int = 32) -> int:
-    """Returns a number as C takes it: one that has no place there becomes the greatest, which the library refuses as
-    it would refuse the number itself."""
+    """Returns a number as C takes it: one that doesn't fit becomes the greatest, which the library refuses as it would
+    refuse the number itself."""
     whole = _whole(value)
     most: int = 2**bits - 1
     return whole if 0 <= whole <= most else most

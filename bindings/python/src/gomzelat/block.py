@@ -1,6 +1,6 @@
-"""A code block by itself.
+"""Decoding of one code block.
 
-What is passed must not be changed by another thread before a call is back: the interpreter's lock is open meanwhile.
+Calls release the GIL: no other thread may change the arguments before a call returns.
 """
 
 from __future__ import annotations
@@ -17,17 +17,17 @@ _MOST_SIZE = 6144
 def decode_block(
     k: int, values: SoftsLike, fill: int = 0, check: int = Check.CRC24A, windows: int = 8, limit: int = 8
 ) -> Decoded:
-    """Return what one code block comes to, from the soft values of its coded streams.
+    """Decode one code block from the soft values of its coded streams.
 
     Parameters
     ----------
     k : int
         K, its bits: one of the 188 sizes (36.212 5.1.3.2.3).
     values : array of int8
-        3 * (K + 4) soft values, those of d0, of d1 and of d2, of any shape: positive where 0 is likelier. What
-        stands at the fillers of d0 and d1 isn't used.
+        3 * (K + 4) soft values, those of d0, of d1 and of d2, of any shape: positive where 0 is likelier. Those at the
+        fillers of d0 and d1 aren't used.
     fill : int
-        Those of its bits that are fillers, which stand first: 0 to K - 1.
+        How many of its bits are fillers, which come first: 0 to K - 1.
     check : Check
         The check that it ends with (36.212 5.1.1).
     windows, limit : int

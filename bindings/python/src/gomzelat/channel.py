@@ -1,6 +1,6 @@
-"""The channel and the payloads of a trial: whole numbers from a seed, the same on every machine.
+"""The channel and the payloads of a trial: integers from a seed, the same on every machine.
 
-What is passed must not be changed by another thread before a call is back: the interpreter's lock is open meanwhile.
+Calls release the GIL: no other thread may change the arguments before a call returns.
 """
 
 from __future__ import annotations
@@ -18,16 +18,16 @@ from .values import known
 
 @dataclass(frozen=True)
 class Channel:
-    """A channel of whole numbers, which is the same on every machine.
+    """An integer channel, which is the same on every machine.
 
     Attributes
     ----------
     amp : int
         The soft value of a bit 0, 1 to 127; that of a bit 1 is its negative.
     noise : int
-        The standard deviation of the noise, nearly: 0 to 127.
+        The approximate standard deviation of the noise: 0 to 127.
     seed : int
-        What the noise comes from: 0 to 2^64 - 1.
+        The seed of the noise: 0 to 2^64 - 1.
 
     Examples
     --------
@@ -70,7 +70,7 @@ def noisy(
     -------
     array of int8
         A soft value for each bit: the amplitude, or its negative for a bit 1, and a term of noise, clamped to -127
-        to 127. With `out` the front of it.
+        to 127. With `out`, the start of it.
 
     Raises
     ------

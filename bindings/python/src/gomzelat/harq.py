@@ -1,6 +1,6 @@
-"""The receiver of transmissions one after the other.
+"""HARQ combining: reception one transmission at a time.
 
-What is passed must not be changed by another thread before a call is back: the interpreter's lock is open meanwhile.
+Calls release the GIL: no other thread may change the arguments before a call returns.
 """
 
 from __future__ import annotations
@@ -21,22 +21,22 @@ from .values import Transmission, known
 class Harq:
     """The reception of one transport block, transmission after transmission.
 
-    `add` and `decode` after each transmission, until `decode` returns True, come to what `receive` gives of all these
-    transmissions at once. All that is known between calls stands in the arrays below, which may be read, saved, copied
-    and changed; an object is copied and pickled whole.
+    `add` and `decode` after each transmission, until `decode` returns True, have the outcome of `receive` with all
+    these transmissions. All state between calls is in the arrays below, which may be read, saved, copied and changed;
+    an object can be copied and pickled.
 
     Parameters
     ----------
     length, n_ir, windows, limit
-        As for `receive`. Only the length is tested at once; the others with the first call that takes them.
+        As for `receive`. Only the length is checked here; the others by the first call that uses them.
 
     Attributes
     ----------
     cells : array of int8
-        The soft cells, code block after code block those of d0, of d1 and of d2, each K + 4.
+        The soft cells, for each code block those of d0, of d1 and of d2, each K + 4.
     bits : array of uint8
-        Each bit 0 or 1 that the code blocks were last decided to be, one code block after the other, also of those
-        that failed.
+        The last decided bits of the code blocks, each 0 or 1, one code block after the other, also of those that
+        failed.
     payload : array of uint8
         The bytes that these bits carry, whether or not the checks hold.
     delivered : bool
@@ -105,7 +105,7 @@ class Harq:
         Raises
         ------
         Refused
-            BAD_QM, BAD_NL, BAD_G, BAD_VERSION, BAD_BUFFER, BAD_VALUES. The cells are as they were.
+            BAD_QM, BAD_NL, BAD_G, BAD_VERSION, BAD_BUFFER, BAD_VALUES. The cells are unchanged.
 
         Examples
         --------
@@ -133,7 +133,7 @@ class Harq:
         Raises
         ------
         Refused
-            BAD_BUFFER, BAD_WINDOWS, BAD_LIMIT. All arrays are as they were.
+            BAD_BUFFER, BAD_WINDOWS, BAD_LIMIT. All arrays are unchanged.
 
         Examples
         --------

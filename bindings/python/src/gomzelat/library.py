@@ -1,7 +1,7 @@
-"""The calls of libgomzelat.so: where the file is, and what C's declarations say.
+"""The calls of libgomzelat.so: where the file is, and its C declarations.
 
-Loaded is the file that GOMZELAT_LIBRARY names, else the one in this package, where a wheel has it, else the one in
-bindings/out of the repository, where bindings/build leaves it.
+It loads the file that GOMZELAT_LIBRARY names, else the one in this package, where a wheel has it, else the one in the
+repository's bindings/out, where bindings/build puts it.
 """
 
 from __future__ import annotations
@@ -102,7 +102,7 @@ def _function(name: str) -> Any:
 
 
 def call(name: str, *arguments: Any) -> None:
-    """Calls a function of the library, with the interpreter's lock open, and raises what it refuses."""
+    """Calls a function of the library, with the GIL released, and raises its error."""
     answer = _function(name)(*arguments)
     if answer == Answer.NO_MEMORY:
         raise MemoryError

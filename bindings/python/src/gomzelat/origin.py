@@ -24,8 +24,8 @@ def of_folder(folder: str) -> dict[str, str | None]:
 
 
 def origin() -> dict[str, str | None]:
-    """Return what this package's library was proved from: what the wheel was built with, else what the repository
-    says that the package lies in.
+    """Return what this package's library was proved from: what the wheel was built with, else the state of the
+    repository that contains the package.
 
     Returns
     -------

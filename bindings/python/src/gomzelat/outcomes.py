@@ -1,4 +1,4 @@
-"""What receptions come to."""
+"""The results of receptions."""
 
 from __future__ import annotations
 
@@ -10,7 +10,7 @@ from .arrays import Bits, Bytes
 
 @dataclass(frozen=True, eq=False)
 class Outcome:
-    """What the transmissions of a transport block came to.
+    """The outcome of a transport block's transmissions.
 
     Attributes
     ----------
@@ -19,7 +19,7 @@ class Outcome:
     transmissions : int
         Those up to the first after which all checks held, else all.
     iterations : int
-        Those of all code blocks, in the decoding of each that was the last.
+        Those of all code blocks, of each one's last decoding.
 
     Examples
     --------
@@ -52,7 +52,7 @@ class Check(IntEnum):
 
 @dataclass(frozen=True, eq=False)
 class Decoded:
-    """What a code block by itself came to.
+    """The result of decoding one code block.
 
     Attributes
     ----------

@@ -1,6 +1,6 @@
-"""Between bits and constellation points (36.211).
+"""Constellation mapping and demapping (36.211).
 
-What is passed must not be changed by another thread before a call is back: the interpreter's lock is open meanwhile.
+Calls release the GIL: no other thread may change the arguments before a call returns.
 """
 
 from __future__ import annotations
@@ -19,7 +19,7 @@ _MOST_COORDINATE = 4000
 
 
 def map_bits(bits: BytesLike, qm: int, count: int | None = None) -> Points:
-    """Return the constellation points as which bits are sent (36.211 7.1.2 to 7.1.4), Q_m bits each.
+    """Return the constellation points of bits (36.211 7.1.2 to 7.1.4), Q_m bits each.
 
     Parameters
     ----------
@@ -57,8 +57,8 @@ def map_bits(bits: BytesLike, qm: int, count: int | None = None) -> Points:
 def demap_points(points: npt.ArrayLike, qm: int, amp: int, *, out: Softs | None = None) -> Softs:
     """Return the Q_m soft values of each received point (those of 36.211 7.1.2 to 7.1.4).
 
-    A bit's value is by how much the nearest point whose bit is 1 is further than the nearest whose bit is 0, in squared
-    distances, divided by four times the amplitude, rounded toward 0, and clamped to -127 to 127.
+    A bit's value is the squared distance to the nearest point whose bit is 1, less that to the nearest whose bit is 0,
+    divided by four times the amplitude, rounded toward 0, and clamped to -127 to 127.
 
     Parameters
     ----------
@@ -75,7 +75,7 @@ def demap_points(points: npt.ArrayLike, qm: int, amp: int, *, out: Softs | None 
     Returns
     -------
     array of int8
-        Q_m items for each point, positive where 0 is likelier. With `out` the front of it.
+        Q_m items for each point, positive where 0 is likelier. With `out`, the start of it.
 
     Raises
     ------

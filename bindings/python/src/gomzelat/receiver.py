@@ -1,6 +1,6 @@
-"""The receiver of transmissions all at once.
+"""Reception of all transmissions in one call.
 
-What is passed must not be changed by another thread before a call is back: the interpreter's lock is open meanwhile.
+Calls release the GIL: no other thread may change the arguments before a call returns.
 """
 
 from __future__ import annotations
@@ -30,10 +30,10 @@ def receive(
     windows: int = 8,
     limit: int = 8,
 ) -> Outcome:
-    """Return what the transmissions of a transport block come to: those of 36.212 5.1.5, received.
+    """Return the outcome of the transmissions of a transport block (36.212 5.1.5), received.
 
-    After each transmission, in order, the code blocks that haven't passed are decoded; the first after which all
-    checks hold ends it. The transmissions share one soft buffer, in which each sum is from -127 to 127.
+    After each transmission, in order, the code blocks that haven't passed are decoded; it ends with the first after
+    which all checks hold. The transmissions share one soft buffer, which saturates at -127 and 127.
 
     Parameters
     ----------
@@ -85,7 +85,7 @@ def receive(
 
 
 def sizes(length: int) -> Sizes:
-    """Return how much `Harq` keeps of a transport block.
+    """Return the array sizes of a transport block's `Harq`.
 
     Parameters
     ----------

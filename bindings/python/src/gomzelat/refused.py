@@ -1,4 +1,4 @@
-"""What a call refuses."""
+"""The errors of calls."""
 
 from __future__ import annotations
 
@@ -6,8 +6,8 @@ from enum import IntEnum
 
 
 class Answer(IntEnum):
-    """The numbers of answers, as in gomzelat.h. OUT_OF_RANGE is this package's own: a number that the library has no
-    place for, as a seed, or an item of a list."""
+    """The return codes, as in gomzelat.h. OUT_OF_RANGE is this package's own: a number that doesn't fit the library's
+    type, as a seed, or an item of a list."""
 
     OUT_OF_RANGE = -1
     DONE = 0
@@ -69,19 +69,19 @@ _TEXTS = {
 
 
 class Refused(ValueError):
-    """What a call refuses.
+    """An argument that a call rejects.
 
     Parameters
     ----------
     number : int
-        The number of the answer, as in gomzelat.h and `Answer`.
+        The return code, as in gomzelat.h and `Answer`.
     text : str, optional
-        What is said of it; else what gomzelat.h says.
+        Its message; else that of gomzelat.h.
 
     Attributes
     ----------
     number : int
-        The number of the answer.
+        The return code.
 
     Examples
     --------

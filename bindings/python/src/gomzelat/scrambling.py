@@ -1,6 +1,6 @@
-"""Bits scrambled, and soft values turned back (36.211).
+"""Scrambling of bits, and descrambling of soft values (36.211).
 
-What is passed must not be changed by another thread before a call is back: the interpreter's lock is open meanwhile.
+Calls release the GIL: no other thread may change the arguments before a call returns.
 """
 
 from __future__ import annotations
@@ -19,7 +19,7 @@ from .values import known
 
 @dataclass(frozen=True)
 class Scrambling:
-    """What the bits of a transmission are scrambled by (36.211 6.3.1; 5.3.1 with q = 0).
+    """The parameters of a scrambling sequence (36.211 6.3.1; 5.3.1 with q = 0).
 
     Attributes
     ----------
@@ -48,7 +48,7 @@ class Scrambling:
 
 
 def scrambling_init(scrambling: Scrambling) -> int:
-    """Return c_init, with which the sequence of a transmission begins (36.211 6.3.1).
+    """Return c_init, which initialises the scrambling sequence (36.211 6.3.1).
 
     Parameters
     ----------
@@ -78,14 +78,14 @@ def scrambling_init(scrambling: Scrambling) -> int:
 def scramble(
     bits: BytesLike, scrambling: Scrambling, count: int | None = None, *, out: Bytes | None = None
 ) -> Bytes:
-    """Return bits with the sequence of a transmission added, modulo 2 (36.211 6.3.1, 5.3.1). Twice gives them back.
+    """Return bits with the scrambling sequence added, modulo 2 (36.211 6.3.1, 5.3.1). It is its own inverse.
 
     Parameters
     ----------
     bits : array of uint8, or bytes
         Eight bits in a byte, the highest first.
     scrambling : Scrambling
-        What the sequence comes from.
+        The parameters of the sequence.
     count : int, optional
         How many bits there are; else all. Unused low bits of the last byte become 0.
     out : array of uint8, optional
@@ -94,7 +94,7 @@ def scramble(
     Returns
     -------
     array of uint8
-        ceil(count / 8) bytes. With `out` the front of it.
+        ceil(count / 8) bytes. With `out`, the start of it.
 
     Raises
     ------
@@ -121,14 +121,14 @@ def descramble(values: SoftsLike, scrambling: Scrambling, *, out: Softs | None =
     values : array of int8
         The soft values of scrambled bits; -128 is taken as -127.
     scrambling : Scrambling
-        What the sequence comes from.
+        The parameters of the sequence.
     out : array of int8, optional
         Where they are written, which may be `values` itself: contiguous, at least as many items.
 
     Returns
     -------
     array of int8
-        As many, from -127 to 127. With `out` the front of it.
+        As many, from -127 to 127. With `out`, the start of it.
 
     Raises
     ------
@@ -146,7 +146,7 @@ def descramble(values: SoftsLike, scrambling: Scrambling, *, out: Softs | None =
 
 
 def _copied(data: npt.NDArray[Any], out: npt.NDArray[Any] | None) -> npt.NDArray[Any]:
-    """Returns an array of the caller, or a new one, with the data in front, for a call that works where they stand."""
+    """Returns an array of the caller, or a new one, with the data in front, for a call that works in place."""
     made = room(out, data.size, data.dtype.type)[: data.size]
     if made.size < data.size:
         raise ValueError("out is as long as what is read")

@@ -1,6 +1,6 @@
-"""The sender: how a payload is cut, and its codewords (36.212 5.1.1 to 5.1.5).
+"""The sender: segmentation and codewords (36.212 5.1.1 to 5.1.5).
 
-What is passed must not be changed by another thread before a call is back: the interpreter's lock is open meanwhile.
+Calls release the GIL: no other thread may change the arguments before a call returns.
 """
 
 from __future__ import annotations
@@ -65,14 +65,14 @@ def codeword(
     n_ir : int
         N_IR, the soft values of the receiver's buffer for the transport block, or 0 for a full buffer.
     bits : bool
-        Whether each bit is an item, 0 or 1. Else there are eight in a byte, the highest first, with unused low bits 0.
+        Whether to return one bit per item, 0 or 1. Else eight in a byte, the highest first, with unused low bits 0.
     out : array of uint8, optional
         Where the bytes are written: contiguous, at least ceil(G / 8) items. Not with `bits`.
 
     Returns
     -------
     array of uint8
-        Of ceil(G / 8) bytes, or of G bits. With `out` the front of it.
+        Of ceil(G / 8) bytes, or of G bits. With `out`, the start of it.
 
     Raises
     ------
@@ -98,7 +98,7 @@ def codeword(
 def codewords(
     payload: BytesLike, transmissions: Sequence[Transmission], n_ir: int = 0, *, bits: bool = False
 ) -> list[Bytes]:
-    """Return the codewords of several transmissions, from one coding of the transport block (36.212 5.1.5).
+    """Return the codewords of several transmissions, encoding the transport block once (36.212 5.1.5).
 
     Parameters
     ----------
@@ -110,7 +110,7 @@ def codewords(
     Returns
     -------
     list of arrays of uint8
-        What `codeword` gives of each.
+        What `codeword` returns for each.
 
     Raises
     ------

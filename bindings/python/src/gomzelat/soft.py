@@ -6,18 +6,18 @@ Who                                                A positive soft value says
 gomzelat                                           0 is likelier
 most papers, IT++, AFF3CT: log P(0) / P(1)         0 is likelier
 MATLAB's qamdemod with 'llr', and nrLDPCDecode     0 is likelier
-MATLAB's comm.TurboDecoder                         1 is likelier: turn the sign
-Sionna: log P(1) / P(0)                            1 is likelier: turn the sign
-GNU Radio's constellation soft decoder             1 is likelier: turn the sign
+MATLAB's comm.TurboDecoder                         1 is likelier: negate it
+Sionna: log P(1) / P(0)                            1 is likelier: negate it
+GNU Radio's constellation soft decoder             1 is likelier: negate it
 =================================================  ========================================
 
-Only GNU Radio's was tried here. One bit tells of any tool: send a bit 0 without noise, and look at the value that its
-demapper gives. Where that is below 0, turn the sign, by a negative scale.
+Only GNU Radio's was tried here. To check another tool, send a bit 0 without noise, and look at its demapper's value. If
+that is below 0, use a negative scale.
 
-**Amplitude.** A soft value is a whole number from -127 to 127, and the buffer of a transport block saturates at 127
-after each addition, so that values of repeated and retransmitted bits should leave room: a strong value of 20 to 40
-serves one or two transmissions, 10 to 20 serves eight. Much below 8 what is told of a bit is lost to rounding. Only
-the ratio to the noise counts, since the decoder takes the greater of two sums and no logarithm.
+**Amplitude.** A soft value is an integer from -127 to 127, and the soft buffer of a transport block saturates at 127
+after each addition, so values of repeated and retransmitted bits need headroom: a strong value of 20 to 40 suits one or
+two transmissions, 10 to 20 suits eight. Much below 8 information is lost to rounding. Only the ratio to the noise
+matters, since the decoder takes the greater of two sums and no logarithm.
 """
 
 from __future__ import annotations
@@ -37,8 +37,8 @@ def quantise(llr: npt.ArrayLike, scale: float = 1.0, *, out: Softs | None = None
     Parameters
     ----------
     llr : array of floats
-        log P(0) / P(1) of each bit, of any shape and any type of real numbers: positive where 0 is likelier. With
-        tools that have it the other way round give a negative scale.
+        log P(0) / P(1) of each bit, of any shape and any type of real numbers: positive where 0 is likelier. For tools
+        with the opposite sign give a negative scale.
     scale : float
         What a ratio of 1 becomes.
     out : array of int8, optional

@@ -1,6 +1,6 @@
 """The sender stage by stage, to find where another codec differs (36.212 5.1.1 to 5.1.4).
 
-What is passed must not be changed by another thread before a call is back: the interpreter's lock is open meanwhile.
+Calls release the GIL: no other thread may change the arguments before a call returns.
 """
 
 from __future__ import annotations
@@ -33,7 +33,7 @@ def code_block(payload: BytesLike, r: int) -> Bits:
     Returns
     -------
     array of uint8
-        K items, 0 or 1; fillers are 0, and all check bits are there.
+        K items, 0 or 1; fillers are 0, check bits are included.
 
     Raises
     ------
@@ -85,7 +85,7 @@ def streams(payload: BytesLike, r: int) -> Bits:
 
 
 def spots(length: int, r: int) -> npt.NDArray[np.int32]:
-    """Return which bit stands at each place of the circular buffer of code block `r` (36.212 5.1.4.1).
+    """Return which bit is at each place of the circular buffer of code block `r` (36.212 5.1.4.1).
 
     Parameters
     ----------

@@ -1,4 +1,4 @@
-"""What the calls of the sender take and give beside arrays."""
+"""The types of the sender's arguments and results."""
 
 from __future__ import annotations
 
@@ -14,7 +14,7 @@ _Kind = TypeVar("_Kind")
 
 
 def known(value: Any, kind: type[_Kind]) -> _Kind:
-    """Returns what a caller passed as a structure, where it is one."""
+    """Returns an argument that is a structure, if it is one."""
     if not isinstance(value, kind):
         raise TypeError(f"a {kind.__name__} is wanted, and {value!r} is a {type(value).__name__}")
     return value
@@ -71,7 +71,7 @@ class Plan:
     c_plus, c_minus : int
         C+ and C-, how many there are of either size.
     f : int
-        F, the fillers, which stand first in the first code block.
+        F, the fillers, which come first in the first code block.
 
     Examples
     --------
@@ -93,7 +93,7 @@ class Plan:
         Parameters
         ----------
         r : int
-            The code block, which isn't tested.
+            The code block, which isn't checked.
 
         Returns
         -------
@@ -110,7 +110,7 @@ class Plan:
 
 @dataclass(frozen=True)
 class Piece:
-    """What a code block sends of its circular buffer (36.212 5.1.4.1.2).
+    """The part of its circular buffer that a code block sends (36.212 5.1.4.1.2).
 
     Attributes
     ----------
@@ -142,7 +142,7 @@ class Piece:
 
 @dataclass(frozen=True)
 class Sizes:
-    """What is kept of a transport block between transmissions.
+    """The array sizes of a transport block's `Harq`.
 
     Attributes
     ----------

@@ -1,4 +1,4 @@
-"""Transport blocks by their numbers: each comes out the same wherever it is done."""
+"""Transport blocks by number: each has the same result wherever it is run."""
 
 from __future__ import annotations
 
@@ -53,8 +53,8 @@ def _received(point: Point, coded: Bytes, block: int, number: int, random: np.ra
 
 
 def run_block(point: Point, block: int) -> tuple[bool, bool, int, int, int]:
-    """Return what the block of a number comes to: whether it isn't delivered as it was sent, whether it is delivered
-    as something else, its wrong bits, transmissions and iterations."""
+    """Return the result of the block of a number: whether it isn't delivered as sent, whether it is delivered as
+    something else, its wrong bits, transmissions and iterations."""
     curve = point.curve
     payload = trial_payload(curve.length, point.seed, block)
     random = np.random.Generator(np.random.Philox(np.random.SeedSequence(point.seed, spawn_key=(block,))))
@@ -71,7 +71,7 @@ def run_block(point: Point, block: int) -> tuple[bool, bool, int, int, int]:
 
 def run_blocks(point: Point, first: int, count: int) -> npt.NDArray[Any]:
     """Return a record for each of `count` blocks from `first` on. The same block at another point of a seed has the
-    same payload, and the same noise but for its strength.
+    same payload, and the same noise up to its strength.
 
     Examples
     --------

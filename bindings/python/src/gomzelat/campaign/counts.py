@@ -1,4 +1,4 @@
-"""What blocks came to, counted, and how sure a rate is."""
+"""Counts of block results, and confidence intervals of rates."""
 
 from __future__ import annotations
 
@@ -12,8 +12,8 @@ import numpy.typing as npt
 
 @dataclass(frozen=True)
 class Counts:
-    """Blocks and what they came to; `errors` are those that weren't delivered as they were sent, `undetected` those
-    among them that were delivered as something else, `bit_errors` wrong payload bits."""
+    """Blocks and their results; `errors` are those that weren't delivered as they were sent, `undetected` those among
+    them that were delivered as something else, `bit_errors` wrong payload bits."""
 
     blocks: int = 0
     errors: int = 0
@@ -43,7 +43,7 @@ def counted(records: npt.NDArray[Any]) -> Counts:
 
 
 def wilson(errors: int, blocks: int, sigmas: float = 1.959964) -> tuple[float, float]:
-    """Return the Wilson interval of a rate, for 95 % where nothing else is said.
+    """Return the Wilson interval of a rate, by default for 95 %.
 
     Examples
     --------

@@ -1,4 +1,4 @@
-"""What is measured: curves, and the points of them."""
+"""What is measured: curves, and their points."""
 
 from __future__ import annotations
 
@@ -23,7 +23,7 @@ class Curve:
     Attributes
     ----------
     name : str
-        What the picture calls it.
+        Its name in the picture.
     length, g, qm, versions, nl, n_ir : numbers
         The payload's bytes, G and Q_m of each transmission, the redundancy versions in the order in which they are
         sent, N_L, and N_IR, or 0 for a full buffer.
