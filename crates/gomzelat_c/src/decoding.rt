@@ -167,9 +167,9 @@ fn decode(
 /// Decodes the code blocks of a payload of `bytes` bytes, 1 to 18,722, from the soft cells at the beginning
 /// of `cells`. A block that has passed by its entry in `blocks` isn't decoded again, but is taken from
 /// `bits`; if all have passed, all are decoded again, since the check of the payload has failed, or it was
-/// delivered. Writes an entry for each block to `blocks`, the decided bits of all blocks, a byte 0 or 1 for each, to the beginning of
-/// `bits`, the bytes that they carry to the beginning of `payload`, and to `delivered` 1 if all checks hold,
-/// else 0. Returns 0, or a `Refusal`'s number with nothing changed.
+/// delivered. Writes an entry for each block to `blocks`, the decided bits of all blocks, a byte 0 or 1 for
+/// each, to the beginning of `bits`, the bytes that they carry to the beginning of `payload`, and to
+/// `delivered` 1 if all checks hold, else 0. Returns 0, or a `Refusal`'s number with nothing changed.
 #[unsafe(no_mangle)]
 pub extern "C" fn gomzelat_decode(
     alloc: Global,
