@@ -168,7 +168,7 @@ uint32_t gomzelat_code_block(const uint8_t *payload, size_t length, size_t r, ui
 uint32_t gomzelat_streams(const uint8_t *payload, size_t length, size_t r, uint8_t *out, size_t room);
 
 /* Writes to `out`, for each of the K_w places of the circular buffer of code block `r` (5.1.4.1), its bit: 65,536 times
- * its stream, plus its index; or 2^32 - 1 at a NULL. K_w is 96 times (K + 4) / 32, rounded up.
+ * its stream, plus its index; or 2^32 - 1 at a NULL. K_w is 96 * ceil((K + 4) / 32).
  * Refused: BAD_LENGTH, BAD_BLOCK, SHORT_OUTPUT. */
 uint32_t gomzelat_spots(size_t length, size_t r, uint32_t *out, size_t room);
 
@@ -276,7 +276,8 @@ struct gomzelat_result {
 };
 
 /* Decodes the code blocks of a transport block of `length` bytes from its soft cells, except those whose entry is
- * marked as passed; if all entries are, the transport block's check had failed, so all are decoded.
+ * marked as passed; if all entries are, all are decoded again (the transport block's check had failed, or the block
+ * was delivered before).
  *
  * `cells`, `amount`: as gomzelat_combine wrote them.
  * `blocks`, `count`: an entry for each code block: its outcome in the call before, and after this call its outcome now.

@@ -114,7 +114,7 @@ impl Harq {
         })
     }
 
-    /// Decodes the code blocks that haven't passed; if all have, but not the transport block, all of them.
+    /// Decodes the code blocks that haven't passed; if all have, all of them again.
     ///
     /// # Errors
     ///
