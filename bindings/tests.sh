@@ -146,7 +146,9 @@ packed() {
     # shellcheck disable=SC2046
     "${CC:-cc}" -o "$work/packed_example" "$folder/share/doc/gomzelat/bindings/c/example.c" \
         $(PKG_CONFIG_PATH=$folder/lib/pkgconfig pkg-config --cflags --libs gomzelat) &&
-        LD_LIBRARY_PATH=$folder/lib "$work/packed_example"
+        LD_LIBRARY_PATH=$folder/lib "$work/packed_example" &&
+        (cd "$folder" && "${CC:-cc}" -Iinclude share/doc/gomzelat/bindings/c/example.c lib/libgomzelat.a \
+            -o "$work/packed_archive") && "$work/packed_archive"
 }
 
 of_rust() {
