@@ -1,6 +1,8 @@
 //! Division by a generator, two bytes at a time.
-ghost use Rattle.std.specs.Prelude.{◌≡◌, ◌+◌, ◌*◌, ◌%◌, ◌^◌, ◌<◌, ◌↔◌, IsTrue, length};
+ghost use Rattle.std.specs.Prelude.{◌≡◌, ◌+◌, ◌*◌, ◌%◌, ◌^◌, ◌<◌, ◌↔◌, ◌++◌, IsTrue, List, length};
+ghost use Rattle.lte_bits.specs.declared.bit.Bit.{Bit};
 ghost use Rattle.lte_bits.specs.Bits.{digit, number};
+ghost use Rattle.lte_bits.specs.Packing.{unpacked};
 ghost use Rattle.model_sender.specs.CheckBits.{IsCrc, IsMonic, IsMultiple, crc, reduced, remainder};
 ghost use Rattle.block_crc.specs.Table.{is_table};
 
@@ -62,24 +64,36 @@ impl Generator {
         rest
     }
 
-    /// Returns `start`, followed by eight bits, modulo the generator.
-    fn remainder_of_byte(&self, start: u32, byte: &[Bit; 8]) -> u32
+    /// Returns `start`, followed by the bits of a byte, modulo the generator.
+    fn remainder_of_byte(&self, start: u32, byte: u8) -> u32
         requires { start < 2 ^ 24 }
-        ensures value { result ≡ remainder self.now.coefficients start byte.now }
+        ensures value { (bits : List Bit) → length bits ≡ 8 → number bits ≡ byte
+            → result ≡ remainder self.now.coefficients start bits }
         ensures small { result < 2 ^ 24 }
     {
         self.shift24[(start >> 16) as usize] ^ moved(start, byte)
     }
 
-    /// Returns `start`, followed by two bytes, modulo the generator.
-    fn remainder_of_two(&self, start: u32, bits: &[Bit; 16]) -> u32
+    /// Returns `start`, followed by the bits of two bytes, modulo the generator.
+    fn remainder_of_two(&self, start: u32, first: u8, second: u8) -> u32
+        requires { start < 2 ^ 24 }
+        ensures value { (a b : List Bit) → length a ≡ 8 → number a ≡ first
+            → length b ≡ 8 → number b ≡ second
+            → result ≡ remainder self.now.coefficients start (a ++ b) }
+        ensures small { result < 2 ^ 24 }
+    {
+        let rest = self.remainder_of_byte(moved(start, first), second);
+        self.shift32[(start >> 16) as usize] ^ rest
+    }
+
+    /// Returns `start`, followed by sixteen bits, modulo the generator.
+    fn remainder_of_sixteen(&self, start: u32, bits: &[Bit; 16]) -> u32
         requires { start < 2 ^ 24 }
         ensures value { result ≡ remainder self.now.coefficients start bits.now }
         ensures small { result < 2 ^ 24 }
     {
         let (bytes, _) = bits.as_chunks::<8>();
-        let rest = self.remainder_of_byte(moved(start, &bytes[0]), &bytes[1]);
-        self.shift32[(start >> 16) as usize] ^ rest
+        self.remainder_of_two(start, byte_of(&bytes[0]), byte_of(&bytes[1]))
     }
 
     /// Returns `start`, followed by the bits, modulo the generator.
@@ -88,12 +102,37 @@ impl Generator {
         ensures value { result ≡ remainder self.now.coefficients start bits.now }
         ensures small { result < 2 ^ 24 }
     {
-        let (twos, last) = bits.as_chunks::<16>();
+        let (sixteens, last) = bits.as_chunks::<16>();
         let mut rest = start;
-        for two in twos {
-            rest = self.remainder_of_two(rest, two);
+        for sixteen in sixteens {
+            rest = self.remainder_of_sixteen(rest, sixteen);
         }
         self.remainder_by_bits(rest, last)
+    }
+
+    /// Returns the bits of the bytes, modulo the generator.
+    fn remainder_of_bytes(&self, bytes: &[u8]) -> u32
+        ensures value { result ≡ remainder self.now.coefficients 0 (unpacked bytes.now) }
+        ensures small { result < 2 ^ 24 }
+    {
+        let (twos, last) = bytes.as_chunks::<2>();
+        let mut rest = 0;
+        for two in twos {
+            rest = self.remainder_of_two(rest, two[0], two[1]);
+        }
+        match last {
+            [byte] => self.remainder_of_byte(rest, *byte),
+            _ => rest,
+        }
+    }
+
+    /// Returns the check bits of what leaves this remainder.
+    fn check_bits_after(&self, rest: u32) -> [Bit; 24]
+        requires { rest < 2 ^ 24 }
+        ensures { (bits : List Bit) → rest ≡ remainder self.now.coefficients 0 bits
+            → result ≡ crc self.now.coefficients bits }
+    {
+        digits(self.remainder(rest, &[Bit::Zero; 24]))
     }
 
     /// Returns the check bits.
@@ -102,7 +141,14 @@ impl Generator {
         ensures value { result ≡ crc self.now.coefficients bits.now }
         ensures width { length result ≡ 24 }
     {
-        digits(self.remainder(self.remainder(0, bits), &[Bit::Zero; 24]))
+        self.check_bits_after(self.remainder(0, bits))
+    }
+
+    /// Returns the check bits of the bytes' bits.
+    pub fn check_bits_of_bytes(&self, bytes: &[u8]) -> [Bit; 24]
+        ensures { result ≡ crc self.now.coefficients (unpacked bytes.now) }
+    {
+        self.check_bits_after(self.remainder_of_bytes(bytes))
     }
 
     /// Returns whether the generator divides the bits.
@@ -113,12 +159,12 @@ impl Generator {
     }
 }
 
-/// Returns the lowest 16 digits of `start`, followed by eight bits.
-fn moved(start: u32, byte: &[Bit; 8]) -> u32
-    ensures value { result ≡ start % 2 ^ 16 * 256 + number byte.now }
+/// Returns the lowest 16 digits of `start`, followed by those of a byte.
+fn moved(start: u32, byte: u8) -> u32
+    ensures value { result ≡ start % 2 ^ 16 * 256 + byte }
     ensures small { result < 2 ^ 24 }
 {
-    start % (1 << 16) * 256 + u32::from(byte_of(byte))
+    start % (1 << 16) * 256 + u32::from(byte)
 }
 
 /// Returns the lowest digit of a number.

@@ -2,6 +2,7 @@
 #![tactic(auto)]
 
 ghost use Rattle.std.specs.Prelude.{◌≡◌, ◌↔◌, IsTrue, length};
+ghost use Rattle.lte_bits.specs.Packing.{unpacked};
 ghost use Rattle.model_sender.specs.CheckBits.{IsCrc, IsMultiple, crc, crc24a, crc24b};
 
 mod generator;
@@ -18,6 +19,13 @@ pub fn crc24a(bits: &[Bit]) -> [Bit; 24]
     ensures width { length result ≡ 24 }
 {
     Generator::A.check_bits(bits)
+}
+
+/// Returns the check bits of a transport block of whole bytes, the most significant bit of each first.
+pub fn crc24a_of_bytes(bytes: &[u8]) -> [Bit; 24]
+    ensures { result ≡ crc crc24a (unpacked bytes.now) }
+{
+    Generator::A.check_bits_of_bytes(bytes)
 }
 
 /// Returns the check bits of a code block, by CRC24B (36.212 5.1.1): the only 24 bits for which the bits

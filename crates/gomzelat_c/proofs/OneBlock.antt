@@ -1,22 +1,22 @@
 -- A code block of a payload, and the places of its circular buffer.
-use Rattle.std.proofs.Common.{◌≡◌, ℕ, ◌+◌, ◌*◌, ◌<◌, ◌≤◌, List, [], ◌∷◌, ◌++◌, length, get_or, map, None, Some, Contains, sym, ap, ◌∙◌, arith}
+use Rattle.std.proofs.Common.{◌≡◌, ℕ, ◌+◌, ◌*◌, ◌<◌, ◌≤◌, List, [], ◌∷◌, ◌++◌, length, map, None, Some, Contains, subst, sym, ap, ◌∙◌, arith}
 use Rattle.std.specs.Prelude.{IfSome}
 use Rattle.std.specs.declared.option.Option.{Option}
-use Rattle.std.proofs.Math.ListN.{get_or-map}
 use Rattle.std.proofs.lemmas.List.{length-append, length-map}
-use Rattle.std.proofs.lemmas.List.FromFn.{get_or-map-range_with_len, length-map-range_with_len, map-range_with_len_more}
+use Rattle.std.proofs.lemmas.List.FromFn.{length-map-range_with_len, map-range_with_len_more}
 use Rattle.lte_bits.specs.declared.block.Block.{Block}
 use Rattle.lte_bits.specs.declared.block.Streams.{Streams}
 use Rattle.model_sender.specs.CircularBuffer.{AreStreams, spot}
-use Rattle.model_sender.specs.CodeBlocks.{block, blocks}
+use Rattle.model_sender.specs.CodeBlocks.{block}
 use Rattle.model_sender.specs.CodedStreams.{streams}
 use Rattle.model_sender.specs.Interleaver.{sizes}
 use Rattle.model_sender.specs.Segmentation.{Plan, fill, plan_of, size}
 use Rattle.model_sender.specs.declared.spot.Spot.{Spot}
 use Rattle.rate_match.proofs.BlockNumbers.{block-numbers}
-use Rattle.rate_match.proofs.BlockStreams.{block-inside, block-streams, shape-count}
+use Rattle.rate_match.proofs.CutPayload.{block-inside, coded_streams}
 use Rattle.segmentation.specs.Plans.{IsPlan}
-use Rattle.segmentation.specs.Shape.{AreBlocksOf}
+use Rattle.segmentation.proofs.CutBlocks.{length-block}
+use Rattle.gomzelat_c.proofs.Rooms.{plan_bytes}
 use Rattle.gomzelat_c.specs.Stages.{cell_number, spot_number, spots_to}
 
 -- ---- Spots.
@@ -36,9 +36,6 @@ spot_small k (Some p) few h = omega (arith, few, h.0, h.1)
 pub few_bits : (p : Plan) (r : ℕ) → IsPlan p → r < p.c → size p r ≤ 6144
 few_bits p r is below = (block-numbers p r is below).most
 
-pub within_blocks : (p : Plan) (bs list : List Block) (r : ℕ) → bs ≡ list → AreBlocksOf p list → r < p.c → r < length bs
-within_blocks p bs list r same shape below = omega (arith, below, ap length same, shape-count p list shape)
-
 -- block r of a payload, which can be coded, and its streams
 pub record IsOne (payload : List ℕ) (p : Plan) (r : ℕ) (b : Block) : Type 0 where
   pub is : b ≡ block (plan_of (length payload)) payload r
@@ -46,24 +43,19 @@ pub record IsOne (payload : List ℕ) (p : Plan) (r : ℕ) (b : Block) : Type 0 
   pub long : length b.bits ≡ size p r
   pub streams_are : AreStreams (size p r) (fill p r) (streams b)
 
-pub one_block : (payload : List ℕ) (p : Plan) (bs list : List Block) (r : ℕ) (b : Block) → p ≡ plan_of (length payload) → IsPlan p → r < p.c
-    → bs ≡ list → list ≡ blocks p payload → AreBlocksOf p list → b ≡ get_or bs r b → IsOne payload p r b
-one_block payload p bs list r b planned lawful below same are shape at =
-    let numbers = block-numbers p r lawful below in
-    let here : b ≡ get_or list r b = at ∙ ap (λ xs. get_or xs r b) same in
-    let from : 0 + r ≡ r = omega arith in
-    let is : b ≡ block p payload r = here ∙ ap (λ xs. get_or xs r b) are ∙ get_or-map-range_with_len (block p payload) 0 p.c r r b below from in
-    let long : length b.bits ≡ size p r =
-    ap (λ (x : Block). length x.bits) here
-    ∙ sym (get_or-map (λ (x : Block). length x.bits) list r b)
-    ∙ ap (λ ys. get_or ys r (length b.bits)) shape.sizes
-    ∙ get_or-map-range_with_len (size p) 0 p.c r r (length b.bits) below from
-    in
+pub one_block : (payload : List ℕ) (p : Plan) (r : ℕ) (b : Block) → p ≡ plan_of (length payload) → IsPlan p → r < p.c → b ≡ block (plan_of (length payload)) payload r → IsOne payload p r b
+one_block payload p r b planned lawful below is =
+    let q : Plan = plan_of (length payload) in
+    let bytes : p.bytes ≡ length payload = ap (λ (x : Plan). x.bytes) planned ∙ plan_bytes (length payload) in
+    let some : 1 ≤ length payload = omega (arith, lawful.some, bytes) in
+    let few : length payload ≤ 18722 = omega (arith, lawful.few, bytes) in
+    let inside : r < q.c = omega (arith, below, ap (λ (x : Plan). x.c) planned) in
     record {
-      is = is ∙ ap (λ (q : Plan). block q payload r) planned;
-      inside = block-inside p list r b numbers shape below here;
-      long = long;
-      streams_are = block-streams p list r b numbers shape below here;
+      is = is;
+      inside = subst (λ (x : Block). Contains sizes (length x.bits)) (sym is) (block-inside payload r some few inside);
+      long = ap (λ (x : Block). length x.bits) is ∙ length-block payload r some few inside ∙ ap (λ (x : Plan). size x r) (sym planned);
+      streams_are = subst (λ (x : Plan). AreStreams (size x r) (fill x r) (streams b)) (sym planned)
+          (subst (λ (x : Block). AreStreams (size q r) (fill q r) (streams x)) (sym is) (coded_streams payload r some few inside));
     }
 
 pub streams_long : (k f : ℕ) (s : Streams) → AreStreams k f s → length (map cell_number (s.d0 ++ s.d1 ++ s.d2)) ≡ 3 * (k + 4)

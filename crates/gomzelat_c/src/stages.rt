@@ -17,7 +17,7 @@ use crate::numbers::{cells_in_a_row, digits_of, numbers_of, spots_of, write_numb
 use crate::refusal::{Refusal, accept, told};
 use lte_bits::{NoMemory, Streams};
 use segmentation::plans::Plan;
-use segmentation::{cut, fill, plan, size};
+use segmentation::{TransportBlock, fill, plan, size};
 use std::alloc::Global;
 use turbo_encode::encode;
 
@@ -51,8 +51,7 @@ fn write_block(alloc: Global, payload: &[u8], r: usize, out: &mut [u8]) -> Resul
 {
     let plan = planned(payload.len(), r)?;
     has_room(size(&plan, r), out.len())?;
-    let blocks = cut(alloc, payload, &plan)?;
-    let block = &blocks.as_slice()[r];
+    let block = TransportBlock::new(payload, plan).code_block(alloc, r)?;
     let digits = digits_of(alloc, block.bits.as_slice())?;
     write_bytes(out, digits.as_slice());
     Ok(())
@@ -90,8 +89,8 @@ pub fn coded_block(
         ≡ streams (block (plan_of (length payload.now)) payload.now r)) }
     ensures shape { IfOk result (λ s. AreStreams (size plan.now r) (fill plan.now r) s) }
 {
-    let blocks = cut(alloc, payload, plan)?;
-    encode(alloc, &blocks.as_slice()[r])
+    let block = TransportBlock::new(payload, *plan).code_block(alloc, r)?;
+    encode(alloc, &block)
 }
 
 fn write_streams(alloc: Global, payload: &[u8], r: usize, out: &mut [u8]) -> Result<(), Refusal>

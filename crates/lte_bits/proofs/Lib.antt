@@ -1,4 +1,5 @@
 pub mod Chunks
 mod PackedBytes
 pub mod Pushes
+pub mod UnpackedParts
 pub mod Unpacking

@@ -10,5 +10,5 @@ pub mod soft;
 pub use bit::{Bit, Cell};
 pub use block::{Block, SoftStreams, Streams};
 pub use list::{List, NoMemory};
-pub use packing::{byte_of, pack, unpack};
+pub use packing::{byte_of, pack, push_unpacked, unpack};
 pub use soft::Soft;

@@ -1,5 +1,5 @@
 //! Unpacking of bytes into bits, and packing of bits into bytes.
-ghost use Rattle.std.specs.Prelude.{◌+◌, ◌*◌, ◌/◌, ◌≡◌, ◌≤◌, ◌<◌, IfOk, length};
+ghost use Rattle.std.specs.Prelude.{◌+◌, ◌*◌, ◌/◌, ◌≡◌, ◌≤◌, ◌<◌, ◌++◌, IfOk, OnOk, length};
 ghost use Rattle.lte_bits.specs.Bits.{number};
 ghost use Rattle.lte_bits.specs.Lists.{resized};
 ghost use Rattle.lte_bits.specs.Packing.{four_bits, unpacked, packed};
@@ -49,13 +49,23 @@ fn write_unpacked(bits: &mut [Bit], bytes: &[u8])
     }
 }
 
+/// Appends the bits of each byte, most significant first: eight for each byte.
+pub fn push_unpacked(bits: &mut Vec<Bit>, bytes: &[u8]) -> Result<(), NoMemory>
+    ensures { OnOk result (bits.new.items ≡ bits.old.items ++ unpacked bytes.now) }
+{
+    let from = bits.len();
+    let more = bytes.len().checked_mul(8).ok_or(NoMemory)?;
+    bits.resize(from.checked_add(more).ok_or(NoMemory)?, Bit::Zero)?;
+    write_unpacked(&mut bits.as_mut_slice()[from..], bytes);
+    Ok(())
+}
+
 /// Returns the bits of each byte, most significant first. Allocates eight for each byte.
 pub fn unpack(alloc: Global, bytes: &[u8]) -> Result<List<Bit>, NoMemory>
     ensures { IfOk result (λ bits. bits ≡ unpacked bytes.now) }
 {
-    let count = bytes.len().checked_mul(8).ok_or(NoMemory)?;
-    let mut bits = vec![in alloc; Bit::Zero; count]?;
-    write_unpacked(bits.as_mut_slice(), bytes);
+    let mut bits = Vec::new(alloc);
+    push_unpacked(&mut bits, bytes)?;
     Ok(List::from_vec(bits))
 }
 

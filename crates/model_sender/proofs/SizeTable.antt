@@ -1,6 +1,9 @@
--- The sizes stand in order, from 40 to 6144 and at most 64 apart.
-use Rattle.std.proofs.Common.{◌≡◌, ℕ, ◌+◌, ◌<◌, ◌≤◌, Bool, true, ◌&&◌, leb, ltb, List, [], ◌∷◌, drop, Contains, refl, inl, inr, arith}
-use Rattle.std.proofs.lemmas.Bool.{cases_lt, and_parts, leb-true}
+-- The sizes stand in order, from 40 to 6144 and at most 64 apart, and are multiples of 8.
+use Rattle.std.proofs.Common.{◌≡◌, ℕ, ◌+◌, ◌%◌, ◌<◌, ◌≤◌, Bool, true, ◌&&◌, leb, ltb, List, [], ◌∷◌, drop, Contains, refl, subst, inl, inr, arith}
+use Rattle.std.specs.Prelude.{◌==◌}
+use Rattle.std.specs.List.{list_all}
+use Rattle.std.proofs.lemmas.Bool.{cases_lt, and_parts, eqb-true, leb-true}
+use Rattle.std.proofs.lemmas.List.Sums.{AllPass-from_list_all}
 use Rattle.model_sender.specs.Interleaver.{sizes}
 use Rattle.model_sender.proofs.Extremes.{Contains-cases, Contains-more}
 
@@ -35,3 +38,14 @@ size_6144 = (187, omega arith, refl)
 pub size-lower : (k : ℕ) → Contains sizes k → 40 < k → (j : ℕ) × Contains sizes j × (j < k) × (k ≤ j + 64)
 unfolding sizes
 size-lower k h above = lower 40 (drop 1 sizes) refl k h above
+
+-- ---- they are whole bytes
+
+eights : list_all (λ k. k % 8 == 0) sizes ≡ true
+unfolding sizes
+eights = refl
+
+pub size-whole : (k : ℕ) → Contains sizes k → k % 8 ≡ 0
+size-whole k inside =
+    let P : ℕ → Type 0 = λ n. (n % 8 == 0) ≡ true in
+    eqb-true (k % 8) 0 (subst P inside.2 (AllPass-from_list_all (λ k. k % 8 == 0) sizes eights inside.0 k inside.1))

@@ -1,5 +1,5 @@
 -- The streams of a transport block's code blocks.
-use Rattle.std.proofs.Common.{◌≡◌, ℕ, ◌+◌, ◌<◌, List, [], ◌∷◌, ◌++◌, length, map, get_or, flat_map, Contains, sym, ap, subst, ◌∙◌, arith}
+use Rattle.std.proofs.Common.{◌≡◌, ℕ, ◌+◌, ◌<◌, List, [], ◌∷◌, ◌++◌, length, map, get_or, flat_map, sym, ap, subst, ◌∙◌, arith}
 use Rattle.std.specs.List.{range_with_len}
 use Rattle.std.proofs.lemmas.List.FromFn.{get_or-map-range_with_len, length-map-range_with_len}
 use Rattle.std.proofs.Math.ListN.{get_or-map}
@@ -7,7 +7,6 @@ use Rattle.std.proofs.lemmas.Grind.{flat_map-append}
 use Rattle.std.proofs.lemmas.List.{append-nil, length-map}
 use Rattle.rate_match.proofs.Walked.{range-split}
 use Rattle.lte_bits.specs.declared.block.Block.{Block}
-use Rattle.model_sender.specs.Interleaver.{sizes}
 use Rattle.model_sender.specs.Segmentation.{Plan, size, fill}
 use Rattle.model_sender.specs.CodeBlocks.{block, blocks}
 use Rattle.model_sender.specs.CodedStreams.{streams}
@@ -30,12 +29,6 @@ block-streams p bs r b numbers shape within is =
   where
     placed : {k l f g : ℕ} → k ≡ l → f ≡ g → AreStreams k f (streams b) → AreStreams l g (streams b)
     placed {k} {l} {f} {g} size fill are = subst (λ (n : ℕ). AreStreams l n (streams b)) fill (subst (λ (n : ℕ). AreStreams n f (streams b)) size are)
-
--- they can be coded
-pub block-inside : (p : Plan) (bs : List Block) (r : ℕ) (b : Block) → IsBlockOf p r → AreBlocksOf p bs → r < p.c → b ≡ get_or bs r b → Contains sizes (length b.bits)
-block-inside p bs r b numbers shape within is =
-    let long : length b.bits ≡ size p r = at-map (λ (x : Block). length x.bits) (size p) bs p.c r b shape.sizes within is in
-    subst (λ (k : ℕ). Contains sizes k) (sym long) numbers.inside
 
 pub shape-count : (p : Plan) (bs : List Block) → AreBlocksOf p bs → length bs ≡ p.c
 shape-count p bs shape = sym (length-map bs (λ (b : Block). length b.bits)) ∙ ap length shape.sizes ∙ length-map-range_with_len (size p) 0 p.c

@@ -1,9 +1,8 @@
 -- Parts of a list that are written.
-use Rattle.std.proofs.Common.{◌≡◌, ℕ, zero, suc, ◌+◌, ◌-◌, ◌<◌, ◌≤◌, List, ◌∷◌, ◌++◌, length, map, take, drop, refl, sym, ap, ◌∙◌, append_assoc, arith}
+use Rattle.std.proofs.Common.{◌≡◌, ℕ, zero, suc, ◌+◌, ◌-◌, ◌<◌, ◌≤◌, List, ◌∷◌, ◌++◌, length, map, take, drop, refl, sym, ap, ◌∙◌, arith}
 use Rattle.std.specs.List.{range_with_len}
 use Rattle.std.proofs.lemmas.Simd.{map-map}
-use Rattle.std.specs.Prelude.{replicate}
-use Rattle.std.proofs.lemmas.List.{length-append, length-drop, length-take-le, take_all}
+use Rattle.std.proofs.lemmas.List.{length-drop, length-take-le}
 use Rattle.std.proofs.Math.Seq.{take-append-add, take-append_seam}
 use borrow.Rule.Slice.PartMut.{put_mid, post_of}
 
@@ -19,27 +18,6 @@ part_written done run n out new fits long =
     ap (λ m. take m (front ++ (new ++ after))) (let e : done + run ≡ length front + length new = omega (arith, length-take-le done out (omega (arith, fits)), long) in e)
     ∙ take-append-add front (new ++ after) (length new)
     ∙ ap (λ xs. front ++ xs) (take-append_seam new after)
-
--- what stands after a list that got longer is written
-pub rest_written : {X : Type 0} (from n len : ℕ) (old now new post rest : List X) → from ≡ length old → len ≡ from + n → length new ≡ n → take from now ≡ old
-    → take len ((take from now ++ (new ++ post)) ++ rest) ≡ old ++ new
-rest_written {X} from n len old now new post rest first all long kept =
-    ap (λ (xs : List X). take len ((xs ++ (new ++ post)) ++ rest)) kept
-    ∙ ap (take len) regroup
-    ∙ ap (λ m. take m ((old ++ new) ++ (post ++ rest))) (let e : len ≡ length (old ++ new) = omega (arith, length-append old new, first, all, long) in e)
-    ∙ take-append_seam (old ++ new) (post ++ rest)
-  where
-    regroup : (old ++ (new ++ post)) ++ rest ≡ (old ++ new) ++ (post ++ rest)
-    regroup = simp append_assoc
-
-pub longer-kept : {X : Type 0} (from n : ℕ) (x : X) (old now items : List X) → from ≡ length old → now ≡ items → items ≡ take (from + n) old ++ replicate (from + n - from) x → take from now ≡ old
-longer-kept {X} from n x old now items first same is =
-    ap (take from) (same ∙ is ∙ ap (λ (xs : List X). xs ++ replicate (from + n - from) x) (take_all (from + n) old (omega (arith, first))))
-    ∙ ap (λ m. take m (old ++ replicate (from + n - from) x)) first
-    ∙ take-append_seam old (replicate (from + n - from) x)
-
-pub rest-long : {X : Type 0} (from n : ℕ) (now : List X) → length now ≡ from + n → length (take (length now - from) (drop from now)) ≡ n
-rest-long from n now long = length-take-le (length now - from) (drop from now) (omega (arith, length-drop from now)) ∙ omega (arith, long)
 
 -- what is made of each of so many numbers, in two ways
 pub map-alike : {X : Type 0} (g : ℕ → X) (p : ℕ → ℕ) (f : ℕ → X) (n : ℕ) → ((i : ℕ) → i < n → g i ≡ f (p i)) → map g (range_with_len 0 n) ≡ map f (map p (range_with_len 0 n))

@@ -4,20 +4,17 @@ ghost use Rattle.model_sender.specs.Segmentation.{plan_of};
 ghost use Rattle.model_sender.specs.CodeBlocks.{block};
 ghost use Rattle.model_sender.specs.CodedStreams.{streams};
 
-use lte_bits::{Block, List, NoMemory, Streams};
+use lte_bits::{NoMemory, Streams};
 use segmentation::plans::Plan;
-use segmentation::{cut, plan, size};
+use segmentation::{TransportBlock, plan, size};
 use std::alloc::Global;
 use std::marker::Model;
 use turbo_encode::{InterleaverAddresses, encode_with};
 
-/// The code blocks of a payload, and the interleaver addresses of the one that was coded last. Contracts see
-/// the payload.
+/// A payload, and the interleaver addresses of the code block that was coded last. Contracts see the payload.
 #[derive(Drop)]
 pub struct CodeBlocks<'a> {
-    payload: &'a [u8],
-    plan: Plan,
-    blocks: List<Block>,
+    transport: TransportBlock<'a>,
     addresses: InterleaverAddresses,
 }
 
@@ -26,27 +23,24 @@ impl<'a> Model for CodeBlocks<'a> {
 
     ghost Value = { List ℕ };
 
-    ghost use Rattle.rate_match.specs.Coded.{AreCut};
+    ghost use Rattle.rate_match.specs.Coded.{MayBeSent};
 
-    ghost view = { λ b. b.payload.now };
+    ghost view = { λ b. b.transport };
 
-    ghost invariant = { λ b. AreCut b.payload.now b.plan b.blocks };
+    ghost invariant = { λ b. MayBeSent b.transport };
 }
 
 impl<'a> CodeBlocks<'a> {
-    /// Cuts a payload of 1 to 18,722 bytes.
+    /// Takes a payload of 1 to 18,722 bytes.
     pub fn new(alloc: Global, payload: &'a [u8]) -> Result<CodeBlocks<'a>, NoMemory>
         requires some { 1 ≤ length payload.now }
         requires few { length payload.now ≤ 18722 }
         ensures { IfOk result (λ blocks. blocks ≡ payload.now) }
     {
         let plan = plan(payload.len()).unwrap();
-        let blocks = cut(alloc, payload, &plan)?;
         let addresses = InterleaverAddresses::new(alloc, size(&plan, 0))?;
         Ok(CodeBlocks {
-            payload,
-            plan,
-            blocks,
+            transport: TransportBlock::new(payload, plan),
             addresses,
         })
     }
@@ -55,7 +49,7 @@ impl<'a> CodeBlocks<'a> {
     pub fn plan(&self) -> Plan
         ensures { result ≡ plan_of (length self.now) }
     {
-        self.plan
+        self.transport.plan()
     }
 
     /// Returns the coded streams of block `r`, which is below C, and the encoder of the other blocks.
@@ -66,20 +60,16 @@ impl<'a> CodeBlocks<'a> {
         ensures payload { IfOk result (λ coded. coded.1 ≡ self.entry) }
     {
         let CodeBlocks {
-            payload,
-            plan,
-            blocks,
+            transport,
             addresses,
         } = self;
-        let block = &blocks.as_slice()[r];
+        let block = transport.code_block(alloc, r)?;
         let addresses = addresses.for_size(alloc, block.bits.as_slice().len())?;
-        let streams = encode_with(alloc, block, &addresses)?;
+        let streams = encode_with(alloc, &block, &addresses)?;
         Ok((
             streams,
             CodeBlocks {
-                payload,
-                plan,
-                blocks,
+                transport,
                 addresses,
             },
         ))

@@ -1,34 +1,18 @@
 -- The blocks that a payload is cut into.
 use Rattle.std.proofs.Common.{◌≡◌, ℕ, zero, suc, ◌+◌, ◌<◌, ◌≤◌, nat_lt, Bool, true, false, cond, List, ◌∷◌, ◌++◌, length, map, take, drop, refl, ap, ◌∙◌, arith}
 use Rattle.std.specs.List.{range_with_len}
-use Rattle.std.proofs.lemmas.List.{length-append, length-drop, length-take-le, drop-drop}
+use Rattle.std.proofs.lemmas.List.{length-append, length-drop, length-take-le}
 use Rattle.lte_bits.specs.declared.bit.Bit.{Bit}
 use Rattle.lte_bits.specs.declared.block.Block.{Block}
 use Rattle.model_sender.specs.CheckBits.{crc, crc24b}
 use Rattle.model_sender.specs.Segmentation.{Plan, check_length, plan_of, size, fill}
 use Rattle.model_sender.specs.CodeBlocks.{before, block, blocks, checked, share, sequence}
 use Rattle.model_sender.proofs.CheckBitLaws.{length-crc}
-use Rattle.model_sender.proofs.PlanShares.{before-more}
 use Rattle.segmentation.specs.Shape.{AreBlocksOf}
 use Rattle.segmentation.proofs.BlockSizes.{block-size, before-within}
 use Rattle.segmentation.proofs.OfPlans.{is_plan}
 
 -- ---- one block
-
--- what is left of S after block r
-pub rest_after : (p : Plan) (r s : ℕ) (all rest back : List Bit) → rest ≡ drop (before p r) all → s ≡ share p r → back ≡ drop s rest → back ≡ drop (before p (r + 1)) all
-rest_after p r s all rest back is own behind =
-    behind ∙ (ap (λ (xs : List Bit). drop s xs) is ∙ (drop-drop s (before p r) all ∙ ap (λ (n : ℕ). drop n all) (let e : before p r + s ≡ before p (r + 1) = omega (arith, own, before-more p r) in e)))
-
--- a block from its parts
-pub made_block : (p : Plan) (payload : List ℕ) (r f c s : ℕ) (bits front rest : List Bit) → f ≡ fill p r → bits ≡ checked c front → c ≡ p.c
-    → front ≡ take s rest → s ≡ share p r → rest ≡ drop (before p r) (sequence p payload)
-    → (let made : Block = record { fill = f; bits = bits } in made) ≡ block p payload r
-made_block p payload r f c s bits front rest fillers are blocks first own is =
-    let piece : front ≡ take (share p r) (drop (before p r) (sequence p payload)) = first ∙ (ap (λ (n : ℕ). take n rest) own ∙ ap (λ (xs : List Bit). take (share p r) xs) is) in
-    let all : bits ≡ checked p.c (take (share p r) (drop (before p r) (sequence p payload))) = are ∙ (ap (λ (n : ℕ). checked n front) blocks ∙ ap (λ (xs : List Bit). checked p.c xs) piece) in
-    ap (λ (n : ℕ). let made : Block = record { fill = n; bits = bits } in made) fillers
-    ∙ ap (λ (xs : List Bit). let made : Block = record { fill = fill p r; bits = xs } in made) all
 
 -- a block takes its share of S
 pub length-piece : (payload : List ℕ) (r : ℕ) → 1 ≤ length payload → length payload ≤ 18722 → r < (plan_of (length payload)).c

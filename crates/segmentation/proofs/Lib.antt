@@ -4,5 +4,8 @@ mod Computed
 pub mod BlockSizes
 pub mod CutBlocks
 pub mod WholeBits
+mod BlockStarts
+mod BlockShares
+mod ToCut
 mod CarriedWhole
 mod PackedAgain

@@ -1,3 +1,4 @@
+pub mod Cutting
 pub mod Plans
 pub mod Shape
 pub mod Shown

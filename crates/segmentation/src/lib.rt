@@ -8,7 +8,9 @@ mod planning;
 pub mod plans;
 pub mod round_trip;
 mod sizes;
+mod transport;
 
 pub use cutting::cut;
 pub use payloads::uncut;
 pub use planning::{BadLength, MOST_BYTES, fill, plan, size};
+pub use transport::TransportBlock;

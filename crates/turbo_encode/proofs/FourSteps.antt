@@ -1,9 +1,7 @@
 -- Four steps of the coder by tables.
 use Rattle.std.proofs.Common.{◌≡◌, ℕ, ◌<◌, Bool, true, ◌&&◌, List, [], ◌∷◌, ◌++◌, length, get_or, Contains, refl, sym, ap, subst, ◌∙◌, inl, inr, ◌%◌, arith}
 use Rattle.std.specs.Prelude.{◌==◌}
-use Rattle.std.specs.List.{list_all}
 use Rattle.std.proofs.lemmas.Bool.{and_parts, cases_lt, eqb-true}
-use Rattle.std.proofs.lemmas.List.Sums.{AllPass-from_list_all}
 use Rattle.std.proofs.lemmas.List.{map-append}
 use Rattle.lte_bits.specs.Bits.{cell_of, number}
 use Rattle.lte_bits.specs.declared.bit.Bit.{Bit}
@@ -146,14 +144,3 @@ cells_more xs ys four old new cells is before push made =
     ∙ sym (map-append cell_of (parities xs) (parities_from (reached zero_state xs) four))
     ∙ ap (λ (zs : List Bit). cells_of zs) (sym (parities-append xs four zero_state))
     ∙ ap (λ zs. cells_of (parities zs)) (sym is)
-
--- ---- sizes are whole
-
-eights : list_all (λ k. k % 8 == 0) sizes ≡ true
-unfolding sizes
-eights = refl
-
-pub size-whole : (k : ℕ) → Contains sizes k → k % 8 ≡ 0
-size-whole k inside =
-    let P : ℕ → Type 0 = λ n. (n % 8 == 0) ≡ true in
-    eqb-true (k % 8) 0 (subst P inside.2 (AllPass-from_list_all (λ k. k % 8 == 0) sizes eights inside.0 k inside.1))

@@ -9,7 +9,7 @@ use Rattle.model_sender.specs.Interleaver.{pi, place, row_of, sizes}
 use Rattle.model_sender.specs.declared.rows.Row.{Row}
 use Rattle.model_sender.specs.declared.rows.TheConstants.{ROWS}
 use Rattle.model_sender.proofs.RowLaws.{row_found}
-use Rattle.turbo_encode.proofs.FourSteps.{size-whole}
+use Rattle.model_sender.proofs.SizeTable.{size-whole}
 
 even : list_all (λ (r : Row). r.2 % 2 == 0) ROWS ≡ true
 even = refl

@@ -1,5 +1,6 @@
 use Rattle.std.specs.Prelude.{replicate}
 use Rattle.std.proofs.Common.{◌≡◌, ℕ, ◌+◌, ◌-◌, List, ◌++◌, length, map, take, drop, sym, ap, ◌∙◌}
+use Rattle.lte_bits.proofs.Pushes.{rest_written, longer-kept, rest-long}
 use Rattle.lte_bits.specs.declared.bit.Bit.{Bit}
 use Rattle.lte_bits.specs.declared.bit.Bit.TheVariants.{Zero}
 use Rattle.lte_bits.specs.declared.block.Streams.{Streams}
@@ -7,7 +8,6 @@ use Rattle.model_sender.specs.Segmentation.{Plan, size, fill}
 use Rattle.model_sender.specs.CircularBuffer.{start, w}
 use Rattle.model_sender.specs.Selection.{bit_of_cell, bits_from, holds_bit, repeated, sent}
 use Rattle.rate_match.proofs.Lengths.{sent-long}
-use Rattle.rate_match.proofs.Parts.{rest_written, longer-kept, rest-long}
 use Rattle.rate_match.proofs.selecting.push_piece.Goals as goal
 
 -- e bits of the streams, from place k0 of the first n on

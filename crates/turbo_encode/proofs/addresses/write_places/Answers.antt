@@ -4,7 +4,7 @@ use Rattle.std.proofs.lemmas.Nat.{mod_below}
 use Rattle.model_sender.specs.Interleaver.{place}
 use Rattle.model_sender.specs.declared.rows.Row.{Row}
 use Rattle.model_sender.proofs.RowLaws.{range-of_size}
-use Rattle.turbo_encode.proofs.FourSteps.{size-whole}
+use Rattle.model_sender.proofs.SizeTable.{size-whole}
 use Rattle.turbo_encode.proofs.Quarters.{further-by}
 use Rattle.turbo_encode.proofs.addresses.write_places.Goals as goal
 

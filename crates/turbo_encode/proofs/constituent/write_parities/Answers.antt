@@ -7,7 +7,7 @@ use Rattle.model_sender.specs.ConstituentCoder.{state_number}
 use Rattle.model_sender.specs.CodedStreams.{interleaved}
 use Rattle.model_sender.specs.Interleaver.{place}
 use Rattle.turbo_encode.proofs.Coders.{all_cells, four_coded, four_interleaved, last_state, places_below}
-use Rattle.turbo_encode.proofs.FourSteps.{size-whole}
+use Rattle.model_sender.proofs.SizeTable.{size-whole}
 use Rattle.turbo_encode.proofs.StreamsMade.{length-interleaved}
 use Rattle.turbo_encode.proofs.constituent.write_parities.Goals as goal
 

@@ -1,13 +1,11 @@
-use Rattle.std.proofs.Common.{List, sym, ◌∙◌, subst}
+use Rattle.std.proofs.Common.{List, sym, subst}
 use Rattle.lte_bits.specs.declared.bit.Bit.{Bit}
 use Rattle.model_sender.specs.CheckBits.{IsCrc}
-use Rattle.model_sender.proofs.CheckBitLaws.{crc-is, crc_by_number}
+use Rattle.model_sender.proofs.CheckBitLaws.{crc-is}
 use Rattle.block_crc.proofs.generator.Generator.check_bits.Goals as goal
 
 pub returns-clause-value : goal.returns-clause-value
-returns-clause-value c =
-    crc_by_number c.args.self.now.coefficients c.args.bits.now c.digits.result c.args.self.now.monic c.digits.ensures.width
-    (c.digits.ensures.value ∙ rw c.remainder.ensures.value at c.remainder-2.ensures.value)
+returns-clause-value c = c.check_bits_after.ensures c.args.bits.now c.remainder.ensures.value
 
 pub returns-clause-is_crc : goal.returns-clause-is_crc
 returns-clause-is_crc c =
