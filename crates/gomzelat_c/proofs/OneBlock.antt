@@ -12,11 +12,11 @@ use Rattle.model_sender.specs.CodedStreams.{streams}
 use Rattle.model_sender.specs.Interleaver.{sizes}
 use Rattle.model_sender.specs.Segmentation.{Plan, fill, plan_of, size}
 use Rattle.model_sender.specs.declared.spot.Spot.{Spot}
+use Rattle.model_sender.proofs.PlanLaws.{plan-bytes}
 use Rattle.rate_match.proofs.BlockNumbers.{block-numbers}
 use Rattle.rate_match.proofs.CutPayload.{block-inside, coded_streams}
 use Rattle.segmentation.specs.Plans.{IsPlan}
 use Rattle.segmentation.proofs.CutBlocks.{length-block}
-use Rattle.gomzelat_c.proofs.Rooms.{plan_bytes}
 use Rattle.gomzelat_c.specs.Stages.{cell_number, spot_number, spots_to}
 
 -- ---- Spots.
@@ -46,7 +46,7 @@ pub record IsOne (payload : List ℕ) (p : Plan) (r : ℕ) (b : Block) : Type 0 
 pub one_block : (payload : List ℕ) (p : Plan) (r : ℕ) (b : Block) → p ≡ plan_of (length payload) → IsPlan p → r < p.c → b ≡ block (plan_of (length payload)) payload r → IsOne payload p r b
 one_block payload p r b planned lawful below is =
     let q : Plan = plan_of (length payload) in
-    let bytes : p.bytes ≡ length payload = ap (λ (x : Plan). x.bytes) planned ∙ plan_bytes (length payload) in
+    let bytes : p.bytes ≡ length payload = ap (λ (x : Plan). x.bytes) planned ∙ plan-bytes (length payload) in
     let some : 1 ≤ length payload = omega (arith, lawful.some, bytes) in
     let few : length payload ≤ 18722 = omega (arith, lawful.few, bytes) in
     let inside : r < q.c = omega (arith, below, ap (λ (x : Plan). x.c) planned) in
@@ -57,6 +57,13 @@ one_block payload p r b planned lawful below is =
       streams_are = subst (λ (x : Plan). AreStreams (size x r) (fill x r) (streams b)) (sym planned)
           (subst (λ (x : Block). AreStreams (size q r) (fill q r) (streams x)) (sym is) (coded_streams payload r some few inside));
     }
+
+-- what is cut from a payload, as a contract sees it
+pub cut_from : (payload view : List ℕ) (r : ℕ) (b : Block) → view ≡ payload → b ≡ block (plan_of (length view)) view r → b ≡ block (plan_of (length payload)) payload r
+cut_from payload view r b seen is = is ∙ ap (λ (xs : List ℕ). block (plan_of (length xs)) xs r) seen
+
+pub within_cut : (payload view : List ℕ) (p : Plan) (r : ℕ) → view ≡ payload → p ≡ plan_of (length payload) → r < p.c → r < (plan_of (length view)).c
+within_cut payload view p r seen planned below = omega (arith, below, ap (λ (x : Plan). x.c) (planned ∙ ap (λ (xs : List ℕ). plan_of (length xs)) (sym seen)))
 
 pub streams_long : (k f : ℕ) (s : Streams) → AreStreams k f s → length (map cell_number (s.d0 ++ s.d1 ++ s.d2)) ≡ 3 * (k + 4)
 streams_long k f s are =

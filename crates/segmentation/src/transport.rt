@@ -91,7 +91,7 @@ impl<'a> TransportBlock<'a> {
         requires { r < (plan_of (length self.now)).c }
         ensures { let plan = plan_of (length self.now) in
             result.now ≡ take (bytes_before plan (r + 1) - bytes_before plan r)
-                (drop (bytes_before plan r) self.now) }
+            (drop (bytes_before plan r) self.now) }
     {
         let plan = self.plan();
         let from = bytes_before(&plan, r);

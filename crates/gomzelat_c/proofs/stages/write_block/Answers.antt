@@ -3,13 +3,17 @@ use Rattle.std.proofs.lemmas.List.{length-map}
 use Rattle.lte_bits.specs.Bits.{digit}
 use Rattle.lte_bits.specs.declared.block.Block.{Block}
 use Rattle.gomzelat_c.specs.Buffers.{with_front}
-use Rattle.gomzelat_c.proofs.OneBlock.{one_block}
+use Rattle.gomzelat_c.proofs.OneBlock.{cut_from, one_block, within_cut}
 use Rattle.gomzelat_c.proofs.stages.write_block.Goals as goal
+
+pub code_block-requires : goal.code_block-requires
+code_block-requires c = within_cut c.args.payload.now c.new.result c.in_ok-plan.plan c.args.r c.new.ensures c.in_ok-plan.ensures.plan c.in_ok-plan.ensures.block
 
 pub write_bytes-requires : goal.write_bytes-requires
 write_bytes-requires c =
     let one =
-    one_block c.args.payload.now c.in_ok-plan.plan c.args.r c.in_ok-block.block c.in_ok-plan.ensures.plan c.size.ensures.lawful c.in_ok-plan.ensures.block c.in_ok-block.ensures
+    one_block c.args.payload.now c.in_ok-plan.plan c.args.r c.in_ok-block.block c.in_ok-plan.ensures.plan c.size.ensures.lawful c.in_ok-plan.ensures.block
+    (cut_from c.args.payload.now c.new.result c.args.r c.in_ok-block.block c.new.ensures c.in_ok-block.ensures)
     in
     omega (
       arith,
@@ -24,7 +28,8 @@ write_bytes-requires c =
 pub returns-clause-bits : goal.returns-clause-bits
 returns-clause-bits c =
     let one =
-    one_block c.args.payload.now c.in_ok-plan.plan c.args.r c.in_ok-block.block c.in_ok-plan.ensures.plan c.size.ensures.lawful c.in_ok-plan.ensures.block c.in_ok-block.ensures
+    one_block c.args.payload.now c.in_ok-plan.plan c.args.r c.in_ok-block.block c.in_ok-plan.ensures.plan c.size.ensures.lawful c.in_ok-plan.ensures.block
+    (cut_from c.args.payload.now c.new.result c.args.r c.in_ok-block.block c.new.ensures c.in_ok-block.ensures)
     in
     c.write_bytes.ensures
     ∙ ap (λ xs. with_front xs c.args.out.now) (c.as_slice-2.ensures ∙ c.in_ok-digits.ensures ∙ ap (map digit) (c.as_slice.ensures ∙ ap (λ (b : Block). b.bits) one.is))
