@@ -1,22 +1,23 @@
 -- A code block of a payload, and the places of its circular buffer.
-use Rattle.std.proofs.Common.{◌≡◌, ℕ, ◌+◌, ◌*◌, ◌<◌, ◌≤◌, List, [], ◌∷◌, ◌++◌, length, map, None, Some, Contains, subst, sym, ap, ◌∙◌, arith}
+use Rattle.std.proofs.Common.{◌≡◌, ℕ, ◌+◌, ◌*◌, ◌<◌, ◌≤◌, List, [], ◌∷◌, ◌++◌, length, get_or, map, None, Some, Contains, subst, sym, ap, ◌∙◌, arith}
 use Rattle.std.specs.Prelude.{IfSome}
 use Rattle.std.specs.declared.option.Option.{Option}
 use Rattle.std.proofs.lemmas.List.{length-append, length-map}
-use Rattle.std.proofs.lemmas.List.FromFn.{length-map-range_with_len, map-range_with_len_more}
+use Rattle.std.proofs.lemmas.List.FromFn.{get_or-map-range_with_len, length-map-range_with_len, map-range_with_len_more}
 use Rattle.lte_bits.specs.declared.block.Block.{Block}
 use Rattle.lte_bits.specs.declared.block.Streams.{Streams}
 use Rattle.model_sender.specs.CircularBuffer.{AreStreams, spot}
-use Rattle.model_sender.specs.CodeBlocks.{block}
+use Rattle.model_sender.specs.CodeBlocks.{block, blocks}
 use Rattle.model_sender.specs.CodedStreams.{streams}
 use Rattle.model_sender.specs.Interleaver.{sizes}
 use Rattle.model_sender.specs.Segmentation.{Plan, fill, plan_of, size}
 use Rattle.model_sender.specs.declared.spot.Spot.{Spot}
 use Rattle.model_sender.proofs.PlanLaws.{plan-bytes}
 use Rattle.rate_match.proofs.BlockNumbers.{block-numbers}
-use Rattle.rate_match.proofs.CutPayload.{block-inside, coded_streams}
+use Rattle.rate_match.proofs.BlockStreams.{block-streams}
 use Rattle.segmentation.specs.Plans.{IsPlan}
-use Rattle.segmentation.proofs.CutBlocks.{length-block}
+use Rattle.segmentation.proofs.CutBlocks.{blocks-shape, length-block}
+use Rattle.segmentation.proofs.OfPlans.{is_plan}
 use Rattle.gomzelat_c.specs.Stages.{cell_number, spot_number, spots_to}
 
 -- ---- Spots.
@@ -50,12 +51,15 @@ one_block payload p r b planned lawful below is =
     let some : 1 ≤ length payload = omega (arith, lawful.some, bytes) in
     let few : length payload ≤ 18722 = omega (arith, lawful.few, bytes) in
     let inside : r < q.c = omega (arith, below, ap (λ (x : Plan). x.c) planned) in
+    let numbers = block-numbers q r (is_plan (length payload) some few) inside in
+    let long : length b.bits ≡ size q r = ap (λ (x : Block). length x.bits) is ∙ length-block payload r some few inside in
+    let stands : b ≡ get_or (blocks q payload) r b = is ∙ sym (get_or-map-range_with_len (block q payload) 0 q.c r r b inside (omega arith)) in
     record {
       is = is;
-      inside = subst (λ (x : Block). Contains sizes (length x.bits)) (sym is) (block-inside payload r some few inside);
-      long = ap (λ (x : Block). length x.bits) is ∙ length-block payload r some few inside ∙ ap (λ (x : Plan). size x r) (sym planned);
+      inside = subst (λ (k : ℕ). Contains sizes k) (sym long) numbers.inside;
+      long = long ∙ ap (λ (x : Plan). size x r) (sym planned);
       streams_are = subst (λ (x : Plan). AreStreams (size x r) (fill x r) (streams b)) (sym planned)
-          (subst (λ (x : Block). AreStreams (size q r) (fill q r) (streams x)) (sym is) (coded_streams payload r some few inside));
+          (block-streams q (blocks q payload) r b numbers (blocks-shape payload some few) inside stands);
     }
 
 -- what is cut from a payload, as a contract sees it

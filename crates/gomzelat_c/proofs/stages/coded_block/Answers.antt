@@ -1,7 +1,7 @@
 use Rattle.std.specs.Prelude.{IfOk}
 use Rattle.std.proofs.lemmas.Result.{IfOk-weaker}
 use Rattle.lte_bits.specs.declared.block.Block.{Block}
-use Rattle.std.proofs.Common.{◌≡◌, ℕ, length, subst, sym, ap, ◌∙◌, arith}
+use Rattle.std.proofs.Common.{◌≡◌, ℕ, length, subst, sym, ap, ◌∙◌}
 use Rattle.lte_bits.specs.declared.block.Streams.{Streams}
 use Rattle.model_sender.specs.CircularBuffer.{AreStreams}
 use Rattle.model_sender.specs.CodedStreams.{streams}
